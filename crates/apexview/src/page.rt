@@ -184,8 +184,10 @@ fn picture_of<R: Files<File = File>>(
         let added = added(&rows, &rejected.ordered, Status::Rejected);
         picture.reject(&added, rejected.cause_name(), rejected.lawful.as_slice())?;
     }
+    let is_judged = rejected.is_none() && !is_broken;
+    let status = if is_judged { Status::Beyond } else { Status::After };
     for ordered in after.iter() {
-        picture.follow(&added(&rows, ordered, Status::After))?;
+        picture.follow(&added(&rows, ordered, status))?;
     }
     Ok(picture)
 }

@@ -10,8 +10,10 @@ pub enum Status {
     /// It is rejected, or its view breaks a rule.
     Rejected,
     Broken,
-    /// It comes after the last record of the picture that is judged.
+    /// It comes after a record that is rejected or breaks a rule, and is not judged.
     After,
+    /// It comes after the place at which the picture was to end, and its states are not shown.
+    Beyond,
 }
 
 /// Where a record is: its file, its line if it is known, and its row there.

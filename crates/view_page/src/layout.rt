@@ -18,7 +18,7 @@ const STEP: u64 = 26;
 const LEAST_STEP: u64 = 20;
 const GREATEST_STEP: u64 = 62;
 
-/// The width of a record that is rejected, and of one that is not judged.
+/// The width of a record that is rejected, and of one whose states are not shown.
 const WIDE_STEP: u64 = 168;
 const NARROW_STEP: u64 = 11;
 
@@ -76,7 +76,7 @@ fn step_of(picture: &Picture) -> u64 {
         match column.status {
             Status::Accepted | Status::Broken => count = count.saturating_add(1),
             Status::Rejected => width = width.saturating_add(WIDE_STEP),
-            Status::After => width = width.saturating_add(NARROW_STEP),
+            Status::After | Status::Beyond => width = width.saturating_add(NARROW_STEP),
         }
     }
     let step = COLUMNS.saturating_sub(width) / count.max(1);
@@ -90,7 +90,7 @@ fn width_of(column: Option<&Column>, step: u64) -> u64 {
             Status::Accepted => step,
             Status::Broken => step,
             Status::Rejected => WIDE_STEP,
-            Status::After => NARROW_STEP,
+            Status::After | Status::Beyond => NARROW_STEP,
         },
         None => 0,
     }
@@ -204,7 +204,7 @@ fn height_of_labels(picture: &Picture, strip: Strip) -> u64 {
     let mut longest = 0usize;
     for column in strip.from..strip.to {
         if let Some(column) = picture.columns.get(column) {
-            if column.status != Status::After {
+            if column.status != Status::After && column.status != Status::Beyond {
                 longest = longest.max(column.label.len().min(LONGEST_LABEL));
             }
         }

@@ -106,7 +106,7 @@ impl Picture {
         self.add_column(added, String::new(self.alloc))
     }
 
-    /// Adds a record after the last one that is judged.
+    /// Adds a record after the last one whose states are shown.
     pub fn follow(&mut self, added: &Added<'_>) -> Result<(), AllocError> {
         self.end_bars(self.columns.len());
         self.add_column(added, String::new(self.alloc))
@@ -129,7 +129,7 @@ impl Picture {
         let ordered = added.ordered;
         let time = match added.status {
             Status::Accepted | Status::Broken => self.time_of(&ordered.core),
-            Status::Rejected | Status::After => None,
+            Status::Rejected | Status::After | Status::Beyond => None,
         };
         let label = label_of(self.alloc, ordered, time)?;
         let source = source_text(self.alloc, &added.source)?;

@@ -140,7 +140,7 @@ fn tell_grounds(out: &mut Markup, picture: &Picture, layout: &Layout) -> Result<
             Status::Accepted => continue,
             Status::Rejected => "ground-rejected",
             Status::Broken => "ground-rejected",
-            Status::After => "ground-after",
+            Status::After | Status::Beyond => "ground-after",
         };
         let (left, right) = (layout.left(column), layout.left(column.saturating_add(1)));
         tell_rect(out, class, left, layout.top, right, height)?;
@@ -162,12 +162,17 @@ fn tell_frames(out: &mut Markup, picture: &Picture, layout: &Layout) -> Result<(
             Status::Rejected | Status::Broken => {
                 tell_rect(out, "frame", left, layout.top, right, height)?;
             }
-            Status::After if !is_said => {
+            Status::After | Status::Beyond if !is_said => {
                 is_said = true;
                 let y = layout.foot_of_labels.saturating_add(11);
-                tell_text(out, "place", left.saturating_add(3), y, "not judged")?;
+                let said = if one.status == Status::After {
+                    "not judged"
+                } else {
+                    "not shown"
+                };
+                tell_text(out, "place", left.saturating_add(3), y, said)?;
             }
-            Status::After => {}
+            Status::After | Status::Beyond => {}
         }
     }
     Ok(())
@@ -197,7 +202,7 @@ fn tell_column(
     let height = layout.bottom.saturating_sub(layout.foot_of_labels);
     tell_rect(out, "hit", left, layout.foot_of_labels, right, height)?;
     match column.status {
-        Status::After => {}
+        Status::After | Status::Beyond => {}
         Status::Accepted | Status::Rejected | Status::Broken => {
             tell_label(out, layout, index, left, column)?;
         }
@@ -236,7 +241,7 @@ fn status_class(status: Status) -> &'static str {
         Status::Accepted => "accepted",
         Status::Rejected => "rejected",
         Status::Broken => "broken",
-        Status::After => "after",
+        Status::After | Status::Beyond => "after",
     }
 }
 

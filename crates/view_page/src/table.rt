@@ -31,7 +31,7 @@ fn tell_row(out: &mut Markup, column: &Column) -> Result<(), AllocError> {
         Status::Accepted => "<tr>",
         Status::Rejected => "<tr class=\"rejected\" id=\"fault\">",
         Status::Broken => "<tr class=\"broken\" id=\"fault\">",
-        Status::After => "<tr class=\"after\">",
+        Status::After | Status::Beyond => "<tr class=\"after\">",
     })?;
     out.mark("<td>")?;
     out.say(column.place.number())?;
@@ -48,6 +48,7 @@ fn tell_row(out: &mut Markup, column: &Column) -> Result<(), AllocError> {
         Status::Accepted | Status::Broken => out.say(column.changes.as_str())?,
         Status::Rejected => out.mark("rejected")?,
         Status::After => out.mark("not judged")?,
+        Status::Beyond => out.mark("not shown")?,
     }
     out.mark("</td><td>")?;
     out.say(column.source.as_str())?;
