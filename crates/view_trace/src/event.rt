@@ -1,13 +1,20 @@
-// Events of the Chrome trace format as JSON, one on a line.
+// Events of the Chrome trace format as JSON, one on a line. Their members are written as they are; texts go through serde_json.
 
-use serde_json::{Value, json};
+use serde_json::Value;
 use std::alloc::{AllocError, Global};
+use std::fmt;
 
 /// Where an event is: the number of a process and of a thread of the trace.
 #[derive(Clone, Copy, Debug, PartialEq, Eq)]
 pub struct Track {
     pub process: u64,
     pub thread: u64,
+}
+
+impl fmt::Display for Track {
+    fn fmt<W: fmt::Write>(&self, f: &mut fmt::Formatter<W>) -> fmt::Result {
+        write!(f, "\"pid\":{},\"tid\":{}", self.process, self.thread)
+    }
 }
 
 /// What a flow is of.
@@ -64,31 +71,38 @@ impl Events {
         self.text.push_str("\n]}\n")
     }
 
-    // Adds an event.
-    fn add(&mut self, event: &Value) -> Result<(), AllocError> {
-        if !self.is_first {
-            self.text.push_str(",\n")?;
+    // Begins an event: each but the first comes after a comma.
+    fn begin_event(&mut self) -> Result<(), AllocError> {
+        if self.is_first {
+            self.is_first = false;
+            return Ok(());
         }
-        self.is_first = false;
-        let text = event.to_string(self.alloc)?;
-        self.text.push_str(text.as_str())
+        self.text.push_str(",\n")
+    }
+
+    // A text as JSON.
+    fn quoted(&self, text: &str) -> Result<String, AllocError> {
+        Value::String(String::from_str(self.alloc, text)?).to_string(self.alloc)
     }
 
     /// Names a process of the trace.
     pub fn name_process(&mut self, process: u64, name: &str) -> Result<(), AllocError> {
-        let event = json!(in self.alloc; {
-            "name": "process_name", "ph": "M", "pid": process, "tid": 0u64, "args": {"name": name}
-        })?;
-        self.add(&event)
+        let track = Track { process, thread: 0 };
+        self.add_name("process_name", track, name)
     }
 
     /// Names a thread of the trace.
     pub fn name_thread(&mut self, track: Track, name: &str) -> Result<(), AllocError> {
-        let event = json!(in self.alloc; {
-            "name": "thread_name", "ph": "M", "pid": track.process, "tid": track.thread,
-            "args": {"name": name}
-        })?;
-        self.add(&event)
+        self.add_name("thread_name", track, name)
+    }
+
+    fn add_name(&mut self, what: &'static str, track: Track, name: &str) -> Result<(), AllocError> {
+        let name = self.quoted(name)?;
+        self.begin_event()?;
+        write!(
+            self.text,
+            "{{\"name\":\"{what}\",\"ph\":\"M\",{track},\"args\":{{\"name\":{name}}}}}"
+        )
     }
 
     /// Begins a slice: at this place, and at this time of the core that it concerns.
@@ -100,19 +114,18 @@ impl Events {
         time: u64,
         detail: &str,
     ) -> Result<(), AllocError> {
-        let event = json!(in self.alloc; {
-            "name": name, "ph": "B", "pid": track.process, "tid": track.thread, "ts": place,
-            "args": {"time": time, "detail": detail}
-        })?;
-        self.add(&event)
+        let (name, detail) = (self.quoted(name)?, self.quoted(detail)?);
+        self.begin_event()?;
+        write!(
+            self.text,
+            "{{\"name\":{name},\"ph\":\"B\",{track},\"ts\":{place},\"args\":{{\"time\":{time},\"detail\":{detail}}}}}"
+        )
     }
 
     /// Ends the slice of a track that was begun last.
     pub fn end_slice(&mut self, track: Track, place: u64) -> Result<(), AllocError> {
-        let event = json!(in self.alloc; {
-            "ph": "E", "pid": track.process, "tid": track.thread, "ts": place
-        })?;
-        self.add(&event)
+        self.begin_event()?;
+        write!(self.text, "{{\"ph\":\"E\",{track},\"ts\":{place}}}")
     }
 
     /// Something that a record does.
@@ -124,11 +137,12 @@ impl Events {
         time: u64,
         record: &str,
     ) -> Result<(), AllocError> {
-        let event = json!(in self.alloc; {
-            "name": name, "ph": "i", "s": "t", "pid": track.process, "tid": track.thread, "ts": place,
-            "args": {"time": time, "record": record}
-        })?;
-        self.add(&event)
+        let (name, record) = (self.quoted(name)?, self.quoted(record)?);
+        self.begin_event()?;
+        write!(
+            self.text,
+            "{{\"name\":{name},\"ph\":\"i\",\"s\":\"t\",{track},\"ts\":{place},\"args\":{{\"time\":{time},\"record\":{record}}}}}"
+        )
     }
 
     /// Begins a flow of this number.
@@ -139,12 +153,7 @@ impl Events {
         place: u64,
         number: u64,
     ) -> Result<(), AllocError> {
-        let name = kind.name();
-        let event = json!(in self.alloc; {
-            "name": name, "cat": name, "ph": "s", "id": number, "pid": track.process,
-            "tid": track.thread, "ts": place
-        })?;
-        self.add(&event)
+        self.add_flow("\"ph\":\"s\"", kind, track, place, number)
     }
 
     /// Goes on with a flow of this number.
@@ -155,12 +164,7 @@ impl Events {
         place: u64,
         number: u64,
     ) -> Result<(), AllocError> {
-        let name = kind.name();
-        let event = json!(in self.alloc; {
-            "name": name, "cat": name, "ph": "t", "id": number, "pid": track.process,
-            "tid": track.thread, "ts": place
-        })?;
-        self.add(&event)
+        self.add_flow("\"ph\":\"t\"", kind, track, place, number)
     }
 
     /// Ends a flow of this number.
@@ -171,12 +175,23 @@ impl Events {
         place: u64,
         number: u64,
     ) -> Result<(), AllocError> {
+        self.add_flow("\"ph\":\"f\",\"bp\":\"e\"", kind, track, place, number)
+    }
+
+    fn add_flow(
+        &mut self,
+        phase: &'static str,
+        kind: FlowKind,
+        track: Track,
+        place: u64,
+        number: u64,
+    ) -> Result<(), AllocError> {
         let name = kind.name();
-        let event = json!(in self.alloc; {
-            "name": name, "cat": name, "ph": "f", "bp": "e", "id": number, "pid": track.process,
-            "tid": track.thread, "ts": place
-        })?;
-        self.add(&event)
+        self.begin_event()?;
+        write!(
+            self.text,
+            "{{\"name\":\"{name}\",\"cat\":\"{name}\",{phase},\"id\":{number},{track},\"ts\":{place}}}"
+        )
     }
 
     /// The priority of a process, as a counter.
@@ -187,11 +202,13 @@ impl Events {
         name: &str,
         priority: u64,
     ) -> Result<(), AllocError> {
-        let event = json!(in self.alloc; {
-            "name": name, "ph": "C", "pid": process, "tid": 0u64, "ts": place,
-            "args": {"priority": priority}
-        })?;
-        self.add(&event)
+        let track = Track { process, thread: 0 };
+        let name = self.quoted(name)?;
+        self.begin_event()?;
+        write!(
+            self.text,
+            "{{\"name\":{name},\"ph\":\"C\",{track},\"ts\":{place},\"args\":{{\"priority\":{priority}}}}}"
+        )
     }
 
     /// What an object or a channel holds, and how many wait there, as a counter.
@@ -203,10 +220,12 @@ impl Events {
         held: u64,
         waiting: u64,
     ) -> Result<(), AllocError> {
-        let event = json!(in self.alloc; {
-            "name": name, "ph": "C", "pid": process, "tid": 0u64, "ts": place,
-            "args": {"held": held, "waiting": waiting}
-        })?;
-        self.add(&event)
+        let track = Track { process, thread: 0 };
+        let name = self.quoted(name)?;
+        self.begin_event()?;
+        write!(
+            self.text,
+            "{{\"name\":{name},\"ph\":\"C\",{track},\"ts\":{place},\"args\":{{\"held\":{held},\"waiting\":{waiting}}}}}"
+        )
     }
 }
