@@ -8,3 +8,4 @@ pub mod MutexTransfers
 pub mod Served
 pub mod Sounds
 pub mod Uses
+pub mod Created

@@ -1,21 +1,26 @@
 // What each service gives its caller.
 
-ghost use Rattle.std.specs.Prelude.{◌≡◌, ℕ, true, IfNone, IfSome};
+ghost use Rattle.std.specs.Prelude.{◌≡◌, ◌↔◌, ℕ, true, IfNone, IfSome, IsTrue};
+ghost use Rattle.apex_types.specs.declared.record.Who.{Who as WhoValue};
 ghost use Rattle.apex_types.specs.declared.request.Request.TheVariants as request;
+ghost use Rattle.apex_machine.specs.Answer.{HasValue, is_new};
+ghost use Rattle.apex_machine.specs.Demands.{Judges};
 ghost use Rattle.apex_machine.specs.DueTimes as due_times;
 ghost use Rattle.apex_machine.specs.Names.{number_found, number_of};
 ghost use Rattle.apex_machine.specs.Services as services;
 ghost use Rattle.apex_machine.specs.Services.{peer};
-ghost use Rattle.apex_machine.specs.State.{created, given_object};
+ghost use Rattle.apex_machine.specs.State.{created, given_object, is_free, objects_of};
 ghost use Rattle.wait_set.specs.Givens.{answer_given};
-ghost use Rattle.partition_state.specs.Calls.{creates};
+ghost use Rattle.partition_state.specs.Calls.{creates, served_demands};
 
 use crate::objects::caller_of;
 use crate::state::PartitionState;
 use apex_machine::Wait;
-use apex_types::{Call, CallerOperation, Name, ObjectKind, Place, ProcessOperation, Request, Who};
+use apex_types::{
+    Call, CallerOperation, Cause, Name, ObjectKind, Place, ProcessOperation, Request, Who,
+};
 use object_table::ObjectTable;
-use wait_set::{Actor, ApexObject, Given};
+use wait_set::{Actor, ApexObject, Given, judge_value};
 
 impl PartitionState {
     /// What a call gives its caller that meets no error condition and goes through no channel, at this place and at this time of its
@@ -52,6 +57,56 @@ impl PartitionState {
             Request::GetStatus(kind, object) => {
                 Some(Given::reporting(self.status_of(*kind, *object)))
             }
+        }
+    }
+
+    /// Judges the claim of a call that meets no error condition and goes through no channel, at this place and at this time of its core,
+    /// in ticks: it must be what the service gives, which is a new number where something is created. Takes no memory.
+    ///
+    /// Refused with the cause of the first demand that fails.
+    pub fn judge(&self, now: u64, place: Place, call: &Call) -> Result<(), Cause>
+        ensures { Judges (served_demands now self.now call.now) result }
+    {
+        match self.answer(now, place, call) {
+            Some(given) => given.judge(&call.claim),
+            None => judge_value(self.is_new(&call.request, call.claim.val), &call.claim),
+        }
+    }
+
+    // Whether a claimed value is a number that what a request creates can take. A request that creates nothing has none.
+    fn is_new(&self, request: &Request, claimed: Option<i64>) -> bool
+        ensures { (now : ℕ) (who : WhoValue) → creates request.now ≡ true → IsTrue result ↔ HasValue (services.answer_of now who self.now request.now).val claimed }
+    {
+        match request {
+            Request::CreateProcess { .. } => self.processes.is_new_number(claimed),
+            Request::Create(_, object) => self.is_new_among(object.kind(), claimed),
+            Request::Process(..)
+            | Request::Caller(..)
+            | Request::SetPartitionMode(..)
+            | Request::Buffer(..)
+            | Request::Blackboard(..)
+            | Request::Semaphore(..)
+            | Request::Event(..)
+            | Request::Mutex(..)
+            | Request::SamplingPort(..)
+            | Request::QueuingPort(..)
+            | Request::GetId(..)
+            | Request::GetStatus(..) => false,
+        }
+    }
+
+    // Whether a claimed value is a number that a new object or port of a kind can take.
+    fn is_new_among(&self, kind: ObjectKind, claimed: Option<i64>) -> bool
+        ensures { result ≡ is_new (is_free (objects_of self.now kind)) claimed }
+    {
+        match kind {
+            ObjectKind::Buffer => self.buffers.is_new_number(claimed),
+            ObjectKind::Blackboard => self.blackboards.is_new_number(claimed),
+            ObjectKind::Semaphore => self.semaphores.is_new_number(claimed),
+            ObjectKind::Event => self.events.is_new_number(claimed),
+            ObjectKind::Mutex => self.mutexes.is_new_number(claimed),
+            ObjectKind::SamplingPort => self.sampling_ports.is_new_number(claimed),
+            ObjectKind::QueuingPort => self.queuing_ports.is_new_number(claimed),
         }
     }
 

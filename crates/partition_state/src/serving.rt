@@ -17,11 +17,11 @@ ghost use Rattle.partition_state.specs.Calls.{IsClear, IsJudged, LeavesObjects, 
 use crate::objects::{caller_of, use_object};
 use crate::restarting::restart_of;
 use crate::state::PartitionState;
-use apex_types::{Call, Cause, Out, Place, ProcessOperation, Request};
+use apex_types::{Call, Cause, Out, ProcessOperation, Request};
 use module_config::Config;
 use process_state::{Moment, Transfer};
 use std::alloc::AllocError;
-use wait_set::{ObjFault, judge_outcome, judge_value};
+use wait_set::{ObjFault, judge_outcome};
 
 impl PartitionState {
     /// A call of one of the partition's processes on which no error condition holds and which goes through no channel: what
@@ -168,18 +168,6 @@ impl PartitionState {
             | Request::SetPartitionMode(..)
             | Request::GetId(..)
             | Request::GetStatus(..) => accepted(self.judge(now, moment.place, call)),
-        }
-    }
-
-    // Judges the claim of a call that creates no object: it must be what the service gives, which is a new number where a process
-    // is created.
-    fn judge(&self, now: u64, place: Place, call: &Call) -> Result<(), Cause>
-        requires { (name : List ℕ) (object : NewObject) → call.now.request ≢ request.Create name object }
-        ensures { Judges (served_demands now self.now call.now) result }
-    {
-        match self.answer(now, place, call) {
-            Some(given) => given.judge(&call.claim),
-            None => judge_value(self.processes.is_new_number(call.claim.val), &call.claim),
         }
     }
 }

@@ -1,5 +1,5 @@
 -- The judgement of one of the partition's own calls: what stands before the outcome, and the outcome after it.
-use Rattle.std.proofs.Common.{◌≡◌, ◌≢◌, ℕ, List, [], ◌∷◌, ◌++◌, Some, None, false, inr, refl}
+use Rattle.std.proofs.Common.{◌≡◌, ◌≢◌, ℕ, List, [], ◌∷◌, ◌++◌, Option, Some, None, Result, Ok, Err, false, inr, refl}
 use Rattle.apex_types.specs.declared.cause.Cause.{Cause}
 use Rattle.apex_types.specs.declared.record.Call.{Call as CallRecord}
 use Rattle.apex_types.specs.declared.record.Claim.{Claim}
@@ -7,7 +7,7 @@ use Rattle.apex_types.specs.declared.request.Request.{Request}
 use Rattle.apex_machine.specs.declared.condition.Condition.{Condition}
 use Rattle.apex_machine.specs.declared.state.CoreState.{CoreState}
 use Rattle.apex_machine.specs.Configuration.{Configuration}
-use Rattle.apex_machine.specs.Demands.{AllHold, Demand, FirstFails, caller_demands, outcome_demands, own_call_demands}
+use Rattle.apex_machine.specs.Demands.{AllHold, Demand, FirstFails, Judges, caller_demands, outcome_demands, own_call_demands}
 use Rattle.apex_machine.specs.After.{is_done}
 use Rattle.apex_machine.specs.Ports.{channel_of}
 use Rattle.apex_laws.proofs.Codes.{not_done}
@@ -40,6 +40,15 @@ served_fails configuration number cores partition core now call (Unlawful why) c
     (rw (none, nowhere) (inr (apart, rw at at fails)))
 served_fails configuration number cores partition core now call Memory caller none nowhere apart at wants = tt
 
+pub served_judged : (configuration : Configuration) (number : ℕ) (cores : List CoreState) (partition : Partition) (core now : ℕ) (call : CallRecord)
+    (judgement : Result (Unit {0}) Cause) → AllHold (caller_demands configuration number cores partition core call)
+    → conditions_of configuration call.who partition call.request ≡ [] → channel_of partition call.request ≡ None → call.claim.chan ≡ None → now ≡ time_of cores core
+    → Judges (served_demands now partition call) judgement → Judges (own_call_demands configuration number cores partition core call) judgement
+served_judged configuration number cores partition core now call (Ok done) caller none nowhere apart at hold =
+    AllHold-append (caller_demands configuration number cores partition core call) _ caller (rw (none, nowhere) (apart, rw at at hold))
+served_judged configuration number cores partition core now call (Err why) caller none nowhere apart at fails =
+    served_fails configuration number cores partition core now call (Unlawful why) caller none nowhere apart at fails
+
 -- where a channel is used, what is demanded of the outcome, whatever the service gives, holds of the call, or fails of it
 pub through_holds : (configuration : Configuration) (number : ℕ) (cores : List CoreState) (partition : Partition) (core : ℕ) (call : CallRecord) (channel : ℕ)
     → AllHold (caller_demands configuration number cores partition core call)
@@ -58,6 +67,25 @@ through_fails configuration number cores partition core call channel why caller 
     fails_later (caller_demands configuration number cores partition core call) _ why caller (rw (none, goes) (fails (answer_of (time_of cores core) call.who partition call.request)))
 
 -- where some error condition holds
+
+-- what is demanded of the outcome, whatever the service gives and wherever the call goes, holds of the call, or fails of it
+pub refused_holds : (configuration : Configuration) (number : ℕ) (cores : List CoreState) (partition : Partition) (core : ℕ) (call : CallRecord)
+    (conditions : List Condition) → AllHold (caller_demands configuration number cores partition core call)
+    → conditions ≡ conditions_of configuration call.who partition call.request
+    → ((channel : Option ℕ) (number : ℕ) (asked : Request) (answer : Answer) → AllHold (outcome_demands conditions channel number asked answer call.claim))
+    → AllHold (own_call_demands configuration number cores partition core call)
+refused_holds configuration number cores partition core call conditions caller are holds =
+    AllHold-append (caller_demands configuration number cores partition core call) _ caller
+    (rw (← are) (holds (channel_of partition call.request) number call.request (answer_of (time_of cores core) call.who partition call.request)))
+
+pub refused_fails : (configuration : Configuration) (number : ℕ) (cores : List CoreState) (partition : Partition) (core : ℕ) (call : CallRecord)
+    (conditions : List Condition) (why : Cause) → AllHold (caller_demands configuration number cores partition core call)
+    → conditions ≡ conditions_of configuration call.who partition call.request
+    → ((channel : Option ℕ) (number : ℕ) (asked : Request) (answer : Answer) → FirstFails (outcome_demands conditions channel number asked answer call.claim) why)
+    → FirstFails (own_call_demands configuration number cores partition core call) why
+refused_fails configuration number cores partition core call conditions why caller are fails =
+    fails_later (caller_demands configuration number cores partition core call) _ why caller
+    (rw (← are) (fails (channel_of partition call.request) number call.request (answer_of (time_of cores core) call.who partition call.request)))
 
 -- a call that claims a code of an error condition is not done
 pub refused_not_done : (conditions : List Condition) (number : ℕ) (asked : Request) (answer : Answer) (claim : Claim) → conditions ≢ []

@@ -1,6 +1,7 @@
 -- What a channel's piece makes of calls: those through the channel, and those that only end waits at it.
 use Rattle.std.proofs.Common.{◌≡◌, ◌≢◌, ◌<◌, ℕ, List, [], ◌∷◌, Option, Some, None, Bool, true, false, ◌||◌, Result, Ok, Err, nat_eq, refl, sym, ap, subst, ◌∙◌, eqb-true}
 use Rattle.std.specs.Prelude.{OnErr, OnOk}
+use Rattle.apex_types.specs.declared.cause.Cause.{Cause}
 use Rattle.apex_types.specs.declared.operation.{BlackboardOperation.BlackboardOperation, BufferOperation.BufferOperation, EventOperation.EventOperation, MutexOperation.MutexOperation, QueuingOperation.QueuingOperation, SemaphoreOperation.SemaphoreOperation}
 use Rattle.apex_types.specs.declared.record.Body.TheVariants.{Call}
 use Rattle.apex_types.specs.declared.record.Call.{Call as CallRecord}
@@ -13,7 +14,7 @@ use Rattle.apex_machine.specs.declared.state.Mode.{Mode}
 use Rattle.apex_machine.specs.declared.state.WaitingSet.TheVariants as set
 use Rattle.apex_machine.specs.After.{channel_after, is_channel}
 use Rattle.apex_machine.specs.Configuration.{Configuration}
-use Rattle.apex_machine.specs.Demands.{channel_demands, through_demands}
+use Rattle.apex_machine.specs.Demands.{AllHold, Judges, channel_demands, through_demands}
 use Rattle.apex_machine.specs.State.{Channel, is_named}
 use Rattle.apex_machine.specs.Waiting.{ends_wait, enters, is_the_set, is_waiting, restart_of, set_of, stops, without}
 use Rattle.apex_laws.specs.Laws.{AllEntries}
@@ -35,11 +36,25 @@ use Rattle.piece_check.specs.Subjects.{is_the}
 is_here : (number : ℕ) (chan : Option ℕ) → chan ≡ Some number → is_channel number chan ≡ true
 is_here number chan here = rw here (is_itself number)
 
+elsewhere : (number : ℕ) (chan : Option ℕ) → chan ≢ Some number → is_channel number chan ≡ false
+elsewhere number None apart = refl
+elsewhere number (Some other) apart = cannot_hold (nat_eq other number) (λ same. apart (ap Some (eqb-true other number same)))
+
 -- what the channel refuses, its piece refuses
 pub piece_refuses : (configuration : Configuration) (now number : ℕ) (channel : Channel) (call : CallRecord) (fault : ObjFault) → call.claim.chan ≡ Some number
     → Refuses (through_demands configuration now number channel call) fault → RefusesOrWants (channel_demands configuration now number channel (Call call)) fault
 piece_refuses configuration now number channel call (Unlawful cause) here refuses = rw (is_here number call.claim.chan here) refuses
 piece_refuses configuration now number channel call Memory here refuses = tt
+
+-- what the channel judges, its piece judges, and of a call that does not go through the channel nothing is demanded
+pub piece_judges : (configuration : Configuration) (now number : ℕ) (channel : Channel) (call : CallRecord) (judgement : Result (Unit {0}) Cause)
+    → call.claim.chan ≡ Some number → Judges (through_demands configuration now number channel call) judgement
+    → Judges (channel_demands configuration now number channel (Call call)) judgement
+piece_judges configuration now number channel call judgement here judges = rw (is_here number call.claim.chan here) judges
+
+pub nothing_demanded : (configuration : Configuration) (now number : ℕ) (channel : Channel) (call : CallRecord) → call.claim.chan ≢ Some number
+    → AllHold (channel_demands configuration now number channel (Call call))
+nothing_demanded configuration now number channel call apart = rw (elsewhere number call.claim.chan apart) tt
 
 -- and what is configured stays
 pub stays_configured : (result : Result (Unit {0}) ObjFault) (configuration : Configuration) (place now : ℕ) (call : CallRecord) (old new : Held) → IsConfigured configuration old
@@ -48,10 +63,6 @@ stays_configured (Ok done) configuration place now call old new configured after
 stays_configured (Err fault) configuration place now call old new configured after same = subst (IsConfigured configuration) (sym same) configured
 
 -- calls that go through another channel, or through none
-
-elsewhere : (number : ℕ) (chan : Option ℕ) → chan ≢ Some number → is_channel number chan ≡ false
-elsewhere number None apart = refl
-elsewhere number (Some other) apart = cannot_hold (nat_eq other number) (λ same. apart (ap Some (eqb-true other number same)))
 
 -- their callers enter neither of its sets
 enters_neither : (number : ℕ) (asked : Request) (chan : Option ℕ) → is_channel number chan ≡ false

@@ -1,15 +1,20 @@
 -- What a judgement says.
-use Rattle.std.specs.Prelude.{ℕ, List}
+use Rattle.std.specs.Prelude.{◌≡◌, ℕ, List, [], None}
 use Rattle.apex_types.specs.declared.record.Body.{Body}
 use Rattle.apex_machine.specs.Configuration.{Configuration}
 pub use Rattle.apex_machine.specs.Demands.{Judges}
 use Rattle.apex_types.specs.declared.record.Call.{Call as CallRecord}
 use Rattle.apex_types.specs.declared.record.Ordered.{Ordered}
 use Rattle.apex_machine.specs.After.{own_partition}
-use Rattle.apex_machine.specs.Demands.{Demand, caller_demands, module_demands, own_call_demands, partition_demands}
+use Rattle.apex_machine.specs.Demands.{AllHold, Demand, caller_demands, module_demands, own_call_demands, partition_demands}
 use Rattle.apex_machine.specs.Pieces.{Part, PartitionPart}
+use Rattle.apex_machine.specs.Ports.{channel_of}
+use Rattle.apex_machine.specs.ServiceConditions.{conditions_of}
 use Rattle.apex_machine.specs.Waiting.{restart_of}
+use Rattle.partition_state.specs.Calls.{LeavesObjects}
 use Rattle.piece_check.specs.declared.module_piece.ModulePiece.{ModulePiece}
+use Rattle.piece_check.specs.declared.partition_piece.Course.{Course}
+use Rattle.piece_check.specs.declared.partition_piece.Course.TheVariants.{Noted, Served}
 use Rattle.piece_check.specs.declared.partition_piece.PartitionPiece.{PartitionPiece}
 
 -- what the module's piece demands of a record of this core
@@ -27,6 +32,19 @@ own_caller_demands configuration piece core call = caller_demands configuration 
 -- what it demands of a call of one of its own processes
 abbrev pub own_demands : Configuration → PartitionPiece → ℕ → CallRecord → List {1} Demand
 own_demands configuration piece core call = own_call_demands configuration piece.number piece.clock.cores piece.state core call
+
+-- a call of one of its own processes whose claim is left to its service: what comes before the outcome holds, no error condition does,
+-- and the call goes through no channel and claims none
+pub record IsForService (configuration : Configuration) (piece : PartitionPiece) (core : ℕ) (call : CallRecord) : Type 0 where
+  pub caller : AllHold (own_caller_demands configuration piece core call)
+  pub clear : conditions_of configuration call.who piece.state call.request ≡ []
+  pub through : channel_of piece.state call.request ≡ None
+  pub apart : call.claim.chan ≡ None
+
+-- how such a call goes on: all its demands hold and it leaves the objects of the partition, or its claim is left to its service
+abbrev pub GoesOn : Configuration → PartitionPiece → ℕ → CallRecord → Course → Type 0
+GoesOn configuration piece core call Noted = AllHold (own_demands configuration piece core call) × LeavesObjects call
+GoesOn configuration piece core call Served = IsForService configuration piece core call
 
 -- its part after such a call
 abbrev pub part_called : Configuration → PartitionPiece → Ordered → CallRecord → Part

@@ -7,7 +7,7 @@ ghost use Rattle.apex_types.specs.declared.record.Ordered.{Ordered as OrderedRec
 ghost use Rattle.apex_types.specs.declared.record.Who.{Who as WhoValue};
 ghost use Rattle.apex_machine.specs.After.{channel_after};
 ghost use Rattle.apex_machine.specs.Channels.{has_channel};
-ghost use Rattle.apex_machine.specs.Demands.{LocalStep, demands};
+ghost use Rattle.apex_machine.specs.Demands.{Judges, LocalStep, demands};
 ghost use Rattle.apex_machine.specs.Configuration.{Configuration};
 ghost use Rattle.apex_machine.specs.Pieces.{OfChannel, part};
 ghost use Rattle.apex_machine.specs.State.{cold_channel, cold_state};
@@ -19,7 +19,7 @@ ghost use Rattle.piece_check.specs.Parts.{HoldsBefore, WaitBefore, WantsAtCalls}
 ghost use Rattle.piece_check.specs.Subjects.{is_the};
 
 use apex_types::{
-    Body, Call, ChanId, Code, Ordered, Out, Place, ProcId, ProcessOperation, Request, Who,
+    Body, Call, Cause, ChanId, Code, Ordered, Out, Place, ProcId, ProcessOperation, Request, Who,
 };
 use channel::Channel;
 use dispatch_rule::Times;
@@ -83,6 +83,27 @@ impl ChannelPiece {
             Body::Ret(_) | Body::Disp(_) => {}
         }
         Ok(())
+    }
+
+    /// Judges a record: a call through the channel meets what the channel demands; of any other record nothing is demanded. Takes no
+    /// memory.
+    ///
+    /// Refused with the cause of the first demand that fails.
+    pub(crate) fn judge(&self, config: &Config, ordered: &Ordered) -> Result<(), Cause>
+        requires configured { IsConfigured config.now self.now.channel }
+        ensures { Judges (demands config.now (channel_part self.now) ordered.now) result }
+    {
+        match &ordered.rec.body {
+            Body::Call(call) => {
+                if call.claim.chan == Some(self.channel.number()) {
+                    let now = self.times.now(ordered.core);
+                    self.channel.judge(now, call)
+                } else {
+                    Ok(())
+                }
+            }
+            Body::Tick(_) | Body::Ret(_) | Body::Disp(_) => Ok(()),
+        }
     }
 
     // A call that goes through another channel or through none: whose waits it ends leave. Who waits has a number of 32 bits.

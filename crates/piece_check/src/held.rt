@@ -2,7 +2,7 @@
 
 ghost use Rattle.std.specs.Prelude.{◌<◌, IfErr, IfOk, OnErr, OnOk, ◌≡◌, length};
 ghost use Rattle.apex_types.specs.declared.limits.TheConstants.{PLACE_COUNT};
-ghost use Rattle.apex_machine.specs.Demands.{LocalStep, demands};
+ghost use Rattle.apex_machine.specs.Demands.{Judges, LocalStep, demands};
 ghost use Rattle.apex_machine.specs.Pieces.{part, pieces};
 ghost use Rattle.apex_machine.specs.State.{cold_state, time_of};
 ghost use Rattle.apex_machine.specs.Views.{view_in};
@@ -14,7 +14,7 @@ use crate::channel_piece::ChannelPiece;
 use crate::module_piece::ModulePiece;
 use crate::partition_piece::PartitionPiece;
 use crate::subject::{Subject, subject_of};
-use apex_types::{Ordered, View};
+use apex_types::{Cause, Ordered, View};
 use module_config::Config;
 use std::alloc::{AllocError, Global};
 use wait_set::ObjFault;
@@ -68,6 +68,20 @@ impl Held {
             Held::Module(piece) => piece.step(config, ordered),
             Held::Partition(piece) => piece.step(config, ordered),
             Held::Channel(piece) => piece.step(config, ordered),
+        }
+    }
+
+    /// Judges a record as `step` does, and changes nothing. Takes no memory.
+    pub(crate) fn judge(&self, config: &Config, ordered: &Ordered) -> Result<(), Cause>
+        requires place { ordered.now.pos < PLACE_COUNT }
+        requires holds_before { HoldsBefore ordered.now.pos (part_of self.now) }
+        requires agrees { AgreesOn config.now (part_of self.now) (settings_of self.now) }
+        ensures { Judges (demands config.now (part_of self.now) ordered.now) result }
+    {
+        match self {
+            Held::Module(piece) => piece.judge(config, ordered),
+            Held::Partition(piece) => piece.judge(config, ordered),
+            Held::Channel(piece) => piece.judge(config, ordered),
         }
     }
 

@@ -46,26 +46,34 @@ impl ModulePiece {
         ensures unchanged { OnErr result (self.new ≡ self.old) }
         ensures memory { IfErr result (WantsAtCalls ordered.now.rec.body) }
     {
+        self.judge(config, ordered).map_err(ObjFault::Unlawful)?;
+        match &ordered.rec.body {
+            Body::Call(_) | Body::Ret(_) => Ok(()),
+            Body::Disp(who) => {
+                self.clock.dispatch(ordered.core, *who);
+                Ok(())
+            }
+            Body::Tick(_) => {
+                self.clock.advance(config, ordered.core);
+                Ok(())
+            }
+        }
+    }
+
+    /// Judges a record. Takes no memory.
+    ///
+    /// Refused with the cause of the first demand that fails.
+    pub(crate) fn judge(&self, config: &Config, ordered: &Ordered) -> Result<(), Cause>
+        requires place { ordered.now.pos < PLACE_COUNT }
+        requires holds_before { HoldsBefore ordered.now.pos (ModulePart self.now.clock.cores) }
+        ensures { Judges (demands config.now (ModulePart self.now.clock.cores) ordered.now) result }
+    {
         let core = ordered.core;
         match &ordered.rec.body {
-            Body::Call(call) => self
-                .judge_call(config, core, call)
-                .map_err(ObjFault::Unlawful),
-            Body::Ret(ret) => self
-                .judge_return(config, core, ret)
-                .map_err(ObjFault::Unlawful),
-            Body::Disp(who) => {
-                self.judge_dispatch(config, core, *who)
-                    .map_err(ObjFault::Unlawful)?;
-                self.clock.dispatch(core, *who);
-                Ok(())
-            }
-            Body::Tick(woken) => {
-                self.judge_tick(config, core, woken)
-                    .map_err(ObjFault::Unlawful)?;
-                self.clock.advance(config, core);
-                Ok(())
-            }
+            Body::Call(call) => self.judge_call(config, core, call),
+            Body::Ret(ret) => self.judge_return(config, core, ret),
+            Body::Disp(who) => self.judge_dispatch(config, core, *who),
+            Body::Tick(woken) => self.judge_tick(config, core, woken),
         }
     }
 

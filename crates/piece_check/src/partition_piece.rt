@@ -1,6 +1,6 @@
 // The piece of a partition: its windows, its choices, and the claims of its own calls and returns.
 
-ghost use Rattle.std.specs.Prelude.{◌≡◌, ◌≢◌, ◌<◌, ◌↔◌, [], nat_eq, IfErr, IfOk, IsTrue, Some, None, OnOk, OnErr, length, false};
+ghost use Rattle.std.specs.Prelude.{◌≡◌, ◌<◌, ◌↔◌, [], nat_eq, IfErr, IfOk, IsTrue, Some, None, OnOk, OnErr, length, false};
 ghost use Rattle.std.specs.Option.{option_copied};
 ghost use Rattle.apex_types.specs.declared.limits.TheConstants.{PLACE_COUNT};
 ghost use Rattle.apex_types.specs.declared.record.Body.TheVariants as body;
@@ -15,7 +15,7 @@ ghost use Rattle.apex_machine.specs.Views.{view_in};
 ghost use Rattle.wait_set.specs.declared.object.ObjFault.TheVariants.{Memory};
 ghost use Rattle.partition_state.specs.Calls.{LeavesObjects, RefusesOrWants};
 ghost use Rattle.piece_check.specs.Held.{partition_part};
-ghost use Rattle.piece_check.specs.Judged.{Judges, asked_by_partition, own_caller_demands, own_demands, part_called};
+ghost use Rattle.piece_check.specs.Judged.{GoesOn, Judges, asked_by_partition, own_caller_demands, own_demands, part_called};
 ghost use Rattle.piece_check.specs.Parts.{HoldsBefore, WantsAtCalls};
 
 use crate::conditions::conditions_of;
@@ -24,8 +24,8 @@ use crate::profile::is_within;
 use crate::views::{call_view, return_view};
 use apex_machine::{Outcome, WaitingSet};
 use apex_types::{
-    Body, Call, Cause, ChanId, CoreId, Ordered, PartId, ProcId, QueuingOperation, Request, Return,
-    Service, View, Who, Woken,
+    Body, Call, Cause, CoreId, Ordered, PartId, ProcId, QueuingOperation, Request, Return, Service,
+    View, Who, Woken,
 };
 use dispatch_rule::{Clock, owns_window};
 use module_config::Config;
@@ -33,6 +33,15 @@ use partition_state::PartitionState;
 use process_state::Moment;
 use std::alloc::{AllocError, Global};
 use wait_set::{Conditions, ObjFault};
+
+// What is left of an own call once all is judged but what its service gives.
+#[derive(Clone, Copy)]
+enum Course {
+    /// Nothing is left to judge, and the objects of the partition stay: an error condition holds, or the call goes through a channel.
+    Noted,
+    /// The service judges the claim: no error condition holds, and the call goes through no channel.
+    Served,
+}
 
 /// The piece of a partition: its number, the cores, and its state.
 #[derive(Drop)]
@@ -109,6 +118,29 @@ impl PartitionPiece {
         }
     }
 
+    /// Judges a record. Takes no memory.
+    ///
+    /// Refused with the cause of the first demand that fails.
+    pub(crate) fn judge(&self, config: &Config, ordered: &Ordered) -> Result<(), Cause>
+        requires place { ordered.now.pos < PLACE_COUNT }
+        requires holds_before { HoldsBefore ordered.now.pos (partition_part self.now) }
+        ensures { Judges (demands config.now (partition_part self.now) ordered.now) result }
+    {
+        let core = ordered.core;
+        match &ordered.rec.body {
+            Body::Call(call) => {
+                if call.who.part == self.number {
+                    self.judge_own_call(config, ordered, call)
+                } else {
+                    self.judge_foreign_call(config, core, call)
+                }
+            }
+            Body::Ret(ret) => self.judge_return(config, core, ret),
+            Body::Disp(who) => self.judge_dispatch(config, core, *who),
+            Body::Tick(woken) => self.judge_tick(config, core, woken),
+        }
+    }
+
     /// The view of one of the partition's own calls or returns, from the part before it. Takes no memory.
     pub(crate) fn view(&self, ordered: &Ordered) -> Option<View>
         requires { time_of self.now.clock.cores ordered.now.core < PLACE_COUNT }
@@ -143,8 +175,8 @@ impl PartitionPiece {
         who.part == self.number
     }
 
-    // A call of one of the partition's own processes: what is demanded before its outcome is judged, then the outcome, and the
-    // call is carried out. The outcome of a call through a channel is the channel's to judge, but for what the partition sees of it.
+    // A call of one of the partition's own processes: it is judged, and carried out. The outcome of a call through a channel is the
+    // channel's to judge, but for what the partition sees of it.
     fn own_call(&mut self, config: &Config, ordered: &Ordered, call: &Call) -> Result<(), ObjFault>
         requires own { call.now.who.part ≡ self.old.number }
         requires place { ordered.now.pos < PLACE_COUNT }
@@ -154,16 +186,52 @@ impl PartitionPiece {
         ensures refused { IfErr result (RefusesOrWants (own_demands config.now self.old ordered.now.core call.now)) }
         ensures unchanged { OnErr result (self.new ≡ self.old) }
     {
-        let conditions = self
-            .judge_caller(config, ordered.core, call)
+        let course = self
+            .judge_before_service(config, ordered.core, call)
             .map_err(ObjFault::Unlawful)?;
+        match course {
+            Course::Noted => self.note(config, ordered, call),
+            Course::Served => self.serve(config, ordered, call),
+        }
+    }
+
+    // Judges a call of one of the partition's own processes, as `own_call` does.
+    fn judge_own_call(&self, config: &Config, ordered: &Ordered, call: &Call) -> Result<(), Cause>
+        ensures { Judges (own_demands config.now self.now ordered.now.core call.now) result }
+    {
+        match self.judge_before_service(config, ordered.core, call)? {
+            Course::Noted => Ok(()),
+            Course::Served => {
+                let now = self.clock.now(ordered.core);
+                self.state.judge(now, ordered.pos, call)
+            }
+        }
+    }
+
+    // Judges all of an own call but what its service gives, and says what is left: the whole outcome is judged where an error
+    // condition holds, and all that the partition sees of it where the call goes through a channel.
+    fn judge_before_service(
+        &self,
+        config: &Config,
+        core: CoreId,
+        call: &Call,
+    ) -> Result<Course, Cause>
+        ensures ok { IfOk result (GoesOn config.now self.now core call.now) }
+        ensures refused { IfErr result (FirstFails (own_demands config.now self.now core call.now)) }
+    {
+        let conditions = self.judge_caller(config, core, call)?;
         if !conditions.is_empty() {
-            return self.refuse(config, ordered, call, &conditions);
+            judge_refused(&conditions, &call.claim)?;
+            return Ok(Course::Noted);
         }
-        match self.state.channel_of(&call.request) {
-            Some(channel) => self.pass(config, ordered, call, channel),
-            None => self.serve(config, ordered, call),
+        if let Some(channel) = self.state.channel_of(&call.request) {
+            judge_through(channel, self.number, call)?;
+            return Ok(Course::Noted);
         }
+        if call.claim.chan.is_some() {
+            return Err(Cause::Chan);
+        }
+        Ok(Course::Served)
     }
 
     // Judges what is demanded before the outcome of one of the partition's own calls, and gives the error conditions that hold.
@@ -191,48 +259,20 @@ impl PartitionPiece {
         Ok(conditions)
     }
 
-    // An own call on which no error condition holds and which goes through this channel: what the partition sees of its outcome
-    // is judged, and its processes change.
-    fn pass(
-        &mut self,
-        config: &Config,
-        ordered: &Ordered,
-        call: &Call,
-        channel: ChanId,
-    ) -> Result<(), ObjFault>
-        requires own { call.now.who.part ≡ self.old.number }
-        requires place { ordered.now.pos < PLACE_COUNT }
-        requires holds_before { HoldsBefore ordered.now.pos (partition_part self.old) }
-        requires caller { AllHold (own_caller_demands config.now self.old ordered.now.core call.now) }
-        requires clear { services.conditions_of config.now call.now.who self.old.state call.now.request ≡ [] }
-        requires through { channel_of self.old.state call.now.request ≡ Some channel }
-        ensures ok { OnOk result (AllHold (own_demands config.now self.old ordered.now.core call.now)) }
-        ensures after { OnOk result (partition_part self.new ≡ part_called config.now self.old ordered.now call.now) }
-        ensures refused { IfErr result (RefusesOrWants (own_demands config.now self.old ordered.now.core call.now)) }
-        ensures unchanged { OnErr result (self.new ≡ self.old) }
-    {
-        match judge_through(channel, self.number, call) {
-            Ok(()) => self.note(config, ordered, call),
-            Err(cause) => Err(ObjFault::Unlawful(cause)),
-        }
-    }
-
-    // An own call on which no error condition holds and which goes through no channel: its partition serves it.
+    // An own call that is left to its service: its partition serves it.
     fn serve(&mut self, config: &Config, ordered: &Ordered, call: &Call) -> Result<(), ObjFault>
         requires own { call.now.who.part ≡ self.old.number }
         requires place { ordered.now.pos < PLACE_COUNT }
         requires holds_before { HoldsBefore ordered.now.pos (partition_part self.old) }
         requires caller { AllHold (own_caller_demands config.now self.old ordered.now.core call.now) }
         requires clear { services.conditions_of config.now call.now.who self.old.state call.now.request ≡ [] }
-        requires apart { channel_of self.old.state call.now.request ≡ None }
+        requires through { channel_of self.old.state call.now.request ≡ None }
+        requires apart { call.now.claim.chan ≡ None }
         ensures ok { OnOk result (AllHold (own_demands config.now self.old ordered.now.core call.now)) }
         ensures after { OnOk result (partition_part self.new ≡ part_called config.now self.old ordered.now call.now) }
         ensures refused { IfErr result (RefusesOrWants (own_demands config.now self.old ordered.now.core call.now)) }
         ensures unchanged { OnErr result (self.new ≡ self.old) }
     {
-        if call.claim.chan.is_some() {
-            return Err(ObjFault::Unlawful(Cause::Chan));
-        }
         let now = self.clock.now(ordered.core);
         let moment = Moment {
             place: ordered.pos,
@@ -240,31 +280,6 @@ impl PartitionPiece {
             cores: self.clock.states(),
         };
         self.state.serve(config, now, &moment, call)
-    }
-
-    // An own call on which these error conditions hold: it claims one of their codes and nothing else.
-    fn refuse(
-        &mut self,
-        config: &Config,
-        ordered: &Ordered,
-        call: &Call,
-        conditions: &Conditions,
-    ) -> Result<(), ObjFault>
-        requires own { call.now.who.part ≡ self.old.number }
-        requires place { ordered.now.pos < PLACE_COUNT }
-        requires holds_before { HoldsBefore ordered.now.pos (partition_part self.old) }
-        requires caller { AllHold (own_caller_demands config.now self.old ordered.now.core call.now) }
-        requires conditions { conditions.now ≡ services.conditions_of config.now call.now.who self.old.state call.now.request }
-        requires some { conditions.now ≢ [] }
-        ensures ok { OnOk result (AllHold (own_demands config.now self.old ordered.now.core call.now)) }
-        ensures after { OnOk result (partition_part self.new ≡ part_called config.now self.old ordered.now call.now) }
-        ensures refused { IfErr result (RefusesOrWants (own_demands config.now self.old ordered.now.core call.now)) }
-        ensures unchanged { OnErr result (self.new ≡ self.old) }
-    {
-        match judge_refused(conditions, &call.claim) {
-            Ok(()) => self.note(config, ordered, call),
-            Err(cause) => Err(ObjFault::Unlawful(cause)),
-        }
     }
 
     // An own call all of whose demands hold, and that changes no object: the partition's processes change.

@@ -2,7 +2,7 @@
 
 ghost use Rattle.std.specs.Prelude.{◌≡◌, ◌<◌, ◌+◌, ◌↔◌, ◌⊎◌, Err, IsTrue, IfOk, OnOk, OnErr, IfErr, false, length};
 ghost use Rattle.apex_machine.specs.State.{cold_state};
-ghost use Rattle.apex_machine.specs.Demands.{LocalStep, demands};
+ghost use Rattle.apex_machine.specs.Demands.{AllHold, LocalStep, demands};
 ghost use Rattle.apex_machine.specs.Pieces.{part, pieces};
 ghost use Rattle.apex_machine.specs.Views.{view_in};
 ghost use Rattle.apex_laws.specs.PartBounds.{PeriodFits};
@@ -61,6 +61,28 @@ impl Piece {
     {
         let _place = ordered.pos.number();
         self.held.view(ordered)
+    }
+
+    /// Judges a record that touches the piece as `step` does, and changes nothing. Takes no memory.
+    ///
+    /// Where it accepts the record, `step` refuses it for want of memory at most; where it rejects it, `step` does so for the same cause.
+    /// Where memory was refused at an earlier step, it answers Memory.
+    pub fn judge(&self, config: &Config, ordered: &Ordered) -> Result<(), PieceFault>
+        requires of_module { IsOf config.now self.now }
+        requires holds_before { HoldsBefore ordered.now.pos self.now.part }
+        ensures ok { OnOk result (AllHold (demands config.now self.now.part ordered.now)) }
+        ensures refused { IfErr result (λ fault. IsRefused (demands config.now self.now.part ordered.now) ordered.now.pos fault) }
+        ensures exhausted { IsTrue self.now.exhausted ↔ (result ≡ Err PieceFault.Memory) }
+    {
+        let pos = ordered.pos;
+        let _place = pos.number();
+        if !self.exhausted {
+            return self
+                .held
+                .judge(config, ordered)
+                .map_err(|cause| PieceFault::Rejected { pos, cause });
+        }
+        Err(PieceFault::Memory)
     }
 
     /// Judges a record that touches the piece, and makes the part what the record makes of it.

@@ -1,5 +1,4 @@
 -- What fails of the claim fails of the call.
-use Rattle.std.proofs.Common.{◌≡◌, None, rules}
 use Rattle.std.proofs.lemmas.Result.{IfErr-weaker}
 use Rattle.piece_check.proofs.Parting.{TimesFit_before}
 use Rattle.piece_check.proofs.Passing.{served_fails}
@@ -13,8 +12,7 @@ pub returns-clause-refused : goal.returns-clause-refused
 returns-clause-refused c =
     let a = c.args in
     let own = a.self.now in
-    let apart : a.call.now.claim.chan ≡ None = search rules in
     IfErr-weaker c.serve.result _ _
     (λ fault. served_fails a.config.now own.number own.clock.cores own.state a.ordered.now.core c.now-now.result a.call.now fault
-    c.requires.caller c.requires.clear c.requires.apart apart c.now-now.ensures)
+    c.requires.caller c.requires.clear c.requires.through c.requires.apart c.now-now.ensures)
     c.serve.ensures.refused

@@ -1,0 +1,11 @@
+-- A creation gives a new number, and that is what is claimed of it.
+use Rattle.std.proofs.Common.{◌≡◌, true, rules}
+use Rattle.partition_state.specs.Calls.{creates}
+use Rattle.partition_state.proofs.Created.{creation_judged}
+use Rattle.partition_state.proofs.state.PartitionState.judge.Goals as goal
+
+pub returns-in-None : goal.returns-in-None
+returns-in-None c =
+    let call = c.args.call.now in
+    let made : creates call.request ≡ true = search rules in
+    creation_judged c.args.now call.who c.args.self.now call.request call.claim _ _ made (c.is_new.ensures c.args.now call.who) c.judge_value.ensures
