@@ -1,18 +1,59 @@
-// Pieces by themselves: what one judges without a step.
+// Pieces by themselves: what one judges without a step, and clones in ample memory.
 
-ghost use Rattle.std.specs.Prelude.{◌≡◌, IfSome};
+ghost use Rattle.std.specs.Prelude.{◌≡◌, IfOk, IfSome};
+ghost use Rattle.apex_machine.specs.Runs.{ArePlaced, AreOfCores};
 ghost use Rattle.piece_check.specs.Parts.{HoldsBefore, IsOf};
 
-use crate::records::config_of;
-use crate::texts::CONFIG;
+use crate::records::{config_of, records_of};
+use crate::texts::{BOTH, CONFIG, MODULE, OBJECTS, RECEIVER, SENDER, in_turn};
 use apex_types::{
     Body, Call, CallerOperation, Cause, Claim, Code, CoreId, Message, Name, NewObject, Ordered,
     Out, PartId, Place, ProcId, Record, Request, Who, Woken,
 };
 use module_config::Config;
-use piece_check::{Piece, PieceFault, count};
+use piece_check::{Piece, PieceFault, Touched, count};
 use std::alloc::{AllocError, Global};
 use std::test::Fail;
+use verdict_merge::{Judged, Lent, judge_in_turn, start_pieces};
+
+// The pieces of a module as these records leave them.
+fn left_by(
+    alloc: Global,
+    text: &[u8],
+    cores: u8,
+    records: &[Ordered],
+) -> Result<Vec<Judged>, AllocError>
+    requires placed { ArePlaced 0 records.now }
+    requires cores { AreOfCores cores records.now }
+{
+    let config = config_of(alloc, text, cores).ok_or(AllocError)?;
+    let mut touched = Touched::new(alloc)?;
+    touched.sort_out(&config, records)?;
+    let Ok(pieces) = start_pieces(alloc, &config) else {
+        return Err(AllocError);
+    };
+    let lent = Lent::new(&config, 0, records, &touched);
+    judge_in_turn(alloc, &lent, &[], pieces).map_err(|_| AllocError)
+}
+
+// Whether there are so many pieces, each of which has gone over its records and can be cloned.
+fn can_be_cloned(count: usize, all: &[Judged]) -> bool {
+    all.len() == count
+        && all.iter().all(|one| one.outcome.found.is_none() && one.piece.clone().is_ok())
+}
+
+// A partition with objects of all kinds, and one with a port whose channel has a message.
+#[test]
+fn pieces_are_cloned(rt: HostRuntime) -> Result<(), Fail> {
+    let alloc = rt.alloc();
+    let objects = vec![in alloc; OBJECTS.as_bytes()]?;
+    let records = records_of(rt, alloc, objects, &in_turn(alloc, 20)?)?;
+    assert!(rt; can_be_cloned(2, &left_by(alloc, CONFIG, 1, &records)?));
+    let recordings = vec![in alloc; SENDER.as_bytes(), RECEIVER.as_bytes()]?;
+    let records = records_of(rt, alloc, recordings, BOTH)?;
+    assert!(rt; can_be_cloned(5, &left_by(alloc, MODULE, 2, &records)?));
+    Ok(())
+}
 
 // The initialising process of partition 0.
 fn initialising() -> Who {
@@ -92,6 +133,8 @@ fn a_record_is_judged_before_its_step(rt: HostRuntime) -> Result<(), Fail> {
     let event = Request::Create(name, NewObject::Event);
     let created = call(alloc, event, Some(7));
     assert_eq!(rt; piece.judge(&config, &created), Ok(()));
+    let clone = piece.clone()?;
     assert_eq!(rt; piece.step(&config, &created), Ok(()));
+    assert_eq!(rt; clone.judge(&config, &asked), Ok(()));
     Ok(())
 }

@@ -15,7 +15,7 @@ ghost use Rattle.apex_machine.specs.State.{change_at, given_object, is_free, ite
 ghost use Rattle.wait_set.specs.Actors.{Refuses, entry_with};
 ghost use Rattle.wait_set.specs.Sets.{IsNewInEach};
 ghost use Rattle.wait_set.specs.declared.object.ObjFault.TheVariants.{Memory};
-ghost use Rattle.object_table.specs.Copies.{AreCopies};
+ghost use Rattle.object_table.specs.Copies.{AreCopies, CopiesAreSame};
 ghost use Rattle.object_table.specs.Numbers.{NumbersFit, number_of};
 
 use crate::marked::Marked;
@@ -239,5 +239,20 @@ impl<Object: Clone> Clone for ObjectTable<Object> {
         Ok(ObjectTable {
             objects: self.objects.clone()?,
         })
+    }
+}
+
+impl<Object: Clone + Drop> ObjectTable<Object> {
+    /// Copies of another table's objects, under their numbers and in their order, take the place of its own.
+    ///
+    /// AllocError where memory is refused; nothing has changed then.
+    #[tactic(auto, using(crate::proofs::Copies::copies_are_same))]
+    pub fn copy_from(&mut self, other: &ObjectTable<Object>) -> Result<(), AllocError>
+        requires same { CopiesAreSame Object.is_clone }
+        ensures copied { OnOk result (self.new ≡ other.now) }
+        ensures unchanged { OnErr result (self.new ≡ self.old) }
+    {
+        *self = other.clone()?;
+        Ok(())
     }
 }

@@ -29,7 +29,7 @@ use std::alloc::{AllocError, Global};
 use wait_set::ObjFault;
 
 /// The piece of a channel: the times of the cores, and the channel.
-#[derive(Drop)]
+#[derive(Clone, Drop)]
 pub(crate) struct ChannelPiece {
     pub(crate) times: Times,
     pub(crate) channel: Channel,

@@ -20,7 +20,7 @@ use std::alloc::{AllocError, Global};
 use wait_set::ObjFault;
 
 /// What a piece holds.
-#[derive(Drop)]
+#[derive(Clone, Drop)]
 pub(crate) enum Held {
     Module(ModulePiece),
     Partition(PartitionPiece),

@@ -19,7 +19,7 @@ use module_config::Config;
 use wait_set::ObjFault;
 
 /// The piece of the module: the cores.
-#[derive(Debug, Drop)]
+#[derive(Clone, Debug, Drop)]
 pub(crate) struct ModulePiece {
     pub(crate) clock: Clock,
 }

@@ -44,7 +44,7 @@ enum Course {
 }
 
 /// The piece of a partition: its number, the cores, and its state.
-#[derive(Drop)]
+#[derive(Clone, Drop)]
 pub(crate) struct PartitionPiece {
     pub(crate) number: PartId,
     pub(crate) clock: Clock,

@@ -123,6 +123,18 @@ impl Piece {
     }
 }
 
+impl Clone for Piece {
+    // A copy is the same piece: its part, what was given for it, and whether memory was refused to it.
+    ghost is_clone = { λ piece copy. copy ≡ piece };
+
+    fn clone(&self) -> Result<Piece, AllocError> {
+        Ok(Piece {
+            held: self.held.clone()?,
+            exhausted: self.exhausted,
+        })
+    }
+}
+
 // Says of a record what its numbers are: the period that it gives has 63 bits, as each number of a caller, and the number of
 // who makes a call has 32. It does nothing.
 fn fits(body: &Body)

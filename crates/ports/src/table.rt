@@ -112,6 +112,16 @@ impl PortTable {
         self.ports.add(claim.val, port)
     }
 
+    /// Copies of another table's ports, under their numbers and in their order, take the place of its own.
+    ///
+    /// AllocError where memory is refused; nothing has changed then.
+    pub fn copy_from(&mut self, other: &PortTable) -> Result<(), AllocError>
+        ensures copied { OnOk result (self.new ≡ other.now) }
+        ensures unchanged { OnErr result (self.new ≡ self.old) }
+    {
+        self.ports.copy_from(&other.ports)
+    }
+
     /// A read at the port of the number that a caller gives, which claims this value: the port knows whether the sample is valid.
     /// Takes no memory.
     pub fn note_read(&mut self, number: i64, claimed: Option<i64>)
