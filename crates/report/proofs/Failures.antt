@@ -18,7 +18,7 @@ use Rattle.record_read.specs.declared.fault.RowFault.TheVariants as row
 use Rattle.record_read.specs.Format.{format_of}
 use Rattle.record_read.specs.Row.{Item, record_of}
 use Rattle.record_read.specs.Steps.{IsOfRow}
-use Rattle.record_read.proofs.FirstFaults.{row_fails}
+use Rattle.record_read.proofs.FirstFaults.{faults_are_of_rows}
 use Rattle.user_rules.specs.declared.relation.Relation.{Relation}
 use Rattle.verdict_merge.specs.declared.verdict.Verdict.{Verdict}
 use Rattle.report.specs.declared.fault.ArgumentFault.{ArgumentFault}
@@ -40,7 +40,7 @@ row_is_other : (texts : List (List ℕ)) (core index : ℕ) (fault : RowFault) �
 row_is_other [] core index fault is = λ e. let none : ◌≡◌ {A = Option Item} None (Some (Err fault)) = is in cc
 row_is_other (text ∷ texts) zero index fault is = λ e.
     let (place, fields, read) = item_at (record_of (format_of (rows_of text))) 0 (rows_of text) index (Err fault) is in
-    subst IsOfRow e ((row_fails (format_of (rows_of text)) place fields).own fault read)
+    subst IsOfRow e (faults_are_of_rows (format_of (rows_of text)) place fields fault read)
 row_is_other (text ∷ texts) (suc core) index fault is = row_is_other texts core index fault is
 
 not_read : (fault : CertFault) → HasFaultOfRow {A = Pair} (Err fault) → fault ≢ cert.Read
