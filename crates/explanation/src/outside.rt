@@ -1,7 +1,7 @@
 // Calls that the program does not judge.
 
 use crate::refusal::Refusal;
-use apex_types::{ProcessOperation, Request};
+use apex_types::{CallerOperation, ProcessOperation, Request};
 use wording::Words;
 
 /// Tells that the initialising process stops itself.
@@ -46,7 +46,29 @@ fn tell_target(words: &mut Words, refusal: &Refusal<'_>, what: &str) {
         Request::Process(process, ProcessOperation::Stop) => {
             words.say(format_args!("process {process}, which it stops, {what} a mutex"));
         }
-        Request::Process(process, _) => words.say(format_args!("process {process} {what} a mutex")),
-        _ => words.say(format_args!("it {what} a mutex, and stops itself")),
+        Request::Process(
+            process,
+            ProcessOperation::Suspend | ProcessOperation::SetPriority { .. },
+        ) => {
+            words.say(format_args!("process {process} {what} a mutex"));
+        }
+        Request::Caller(CallerOperation::StopSelf) => {
+            words.say(format_args!("it {what} a mutex, and stops itself"));
+        }
+        // no other request is outside the profile by a mutex
+        Request::CreateProcess { .. }
+        | Request::Process(..)
+        | Request::Caller(..)
+        | Request::SetPartitionMode(..)
+        | Request::Create(..)
+        | Request::Buffer(..)
+        | Request::Blackboard(..)
+        | Request::Semaphore(..)
+        | Request::Event(..)
+        | Request::Mutex(..)
+        | Request::SamplingPort(..)
+        | Request::QueuingPort(..)
+        | Request::GetId(..)
+        | Request::GetStatus(..) => {}
     }
 }
