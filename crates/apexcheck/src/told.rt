@@ -9,8 +9,8 @@ use crate::usage::FileNames;
 use csv_rows::{RowFields, read_decimal};
 use explanation::{Explanation, RecordNumber};
 use input_explanation::{
-    Compression, FoundRow, LONGEST_SIGNATURE, find_lines, find_row, find_rows, tell_certificate,
-    tell_compression, tell_configuration, tell_order, tell_row_fault,
+    Compression, FoundRow, LONGEST_SIGNATURE, Row, TwoReaders, find_lines, find_row, find_rows,
+    tell_certificate, tell_compression, tell_configuration, tell_order, tell_row_fault,
 };
 use module_config::ConfigFault;
 use placement::InputFault;
@@ -47,11 +47,11 @@ impl<'a> Told<'a> {
         }
     }
 
-    // The fields of the row. Those of a compressed file say nothing to a person.
-    fn fields(&self, alloc: Global, compression: Option<Compression>) -> Option<RowFields> {
-        match (&self.row, compression) {
-            (Some(row), None) => row.fields(alloc),
-            _ => None,
+    // The row, if it says something to a person: that of a compressed file does not.
+    fn row(&self, compression: Option<Compression>) -> Option<&FoundRow> {
+        match compression {
+            None => self.row.as_ref(),
+            Some(_) => None,
         }
     }
 }
@@ -99,14 +99,15 @@ impl<'a, R: Files<File = F>, F: Read + Drop> RunFiles<'a, R> {
                 let name = &self.names.order;
                 let compression = self.compression_of(name);
                 let mut told = self.told_of_row(name, *place);
-                let fields = told.fields(self.alloc, compression);
-                tell_certificate(&mut told.words, *fault, fields.as_ref());
+                let mut words = Words::new(self.alloc);
+                tell_certificate(&mut words, *fault, fields_of(told.row(compression)));
+                told.words.append(&words);
                 tell_compression(&mut told.words, name, compression);
                 Some(told)
             }
             InputFault::Order { place, core, fault } => {
                 let mut told = self.told_of_row(&self.names.order, *place);
-                let named = number_named(told.fields(self.alloc, None));
+                let named = number_named(fields_of(told.row(None)));
                 tell_order(&mut told.words, *fault, *core, named);
                 Some(told)
             }
@@ -114,8 +115,10 @@ impl<'a, R: Files<File = F>, F: Read + Drop> RunFiles<'a, R> {
                 let name = name_of_core(self.names, *core)?;
                 let compression = self.compression_of(name);
                 let mut told = self.told_of_row(name, *seq);
-                let fields = told.fields(self.alloc, compression);
-                tell_row_fault(&mut told.words, *fault, *seq, fields.as_ref());
+                let mut words = Words::new(self.alloc);
+                let row = row_with(*seq, told.row(compression));
+                tell_row_fault(&mut words, self.alloc, *fault, row);
+                told.words.append(&words);
                 tell_compression(&mut told.words, name, compression);
                 Some(told)
             }
@@ -138,7 +141,7 @@ impl<'a, R: Files<File = F>, F: Read + Drop> RunFiles<'a, R> {
         rising.sort_unstable();
         let rows = self.rows_of(&self.names.order, rising.as_slice());
         for (place, row) in rising.iter().zip(rows.iter()) {
-            let Some((core, seq)) = pair_named(self.alloc, row) else {
+            let Some((core, seq)) = pair_named(&row.fields) else {
                 continue;
             };
             let Some(name) = name_of_core(self.names, core) else {
@@ -154,8 +157,8 @@ impl<'a, R: Files<File = F>, F: Read + Drop> RunFiles<'a, R> {
     // The rows of these numbers, which rise, in the file of this name, as far as they are found.
     fn rows_of(&self, name: &str, numbers: &[u64]) -> Vec<FoundRow> {
         if !numbers.is_empty() && self.is_regular(name) {
-            if let Ok(file) = open(self.rt, name) {
-                return find_rows(self.alloc, file, numbers);
+            if let Some(readers) = self.read_twice(name) {
+                return find_rows(self.alloc, readers, numbers);
             }
         }
         Vec::new(self.alloc)
@@ -204,18 +207,23 @@ impl<'a, R: Files<File = F>, F: Read + Drop> RunFiles<'a, R> {
         if !self.is_regular(name) {
             return None;
         }
-        match open(self.rt, name) {
-            Ok(file) => find_row(self.alloc, file, number),
-            Err(_) => None,
-        }
+        find_row(self.alloc, self.read_twice(name)?, number)
     }
 
     /// Finds the lines of the rows from this number on in the file of this name, as many as there is room for.
     pub fn find_lines(&self, name: &str, first: u64, lines: &mut [Option<u64>]) {
         if self.is_regular(name) {
-            if let Ok(file) = open(self.rt, name) {
-                find_lines(self.alloc, file, first, lines);
+            if let Some(readers) = self.read_twice(name) {
+                find_lines(self.alloc, readers, first, lines);
             }
+        }
+    }
+
+    // The file of this name, opened once for its rows and once for its lines.
+    fn read_twice(&self, name: &str) -> Option<TwoReaders<F>> {
+        match (open(self.rt, name), open(self.rt, name)) {
+            (Ok(rows), Ok(lines)) => Some(TwoReaders { rows, lines }),
+            _ => None,
         }
     }
 
@@ -243,16 +251,35 @@ impl<'a, R: Files<File = F>, F: Read + Drop> RunFiles<'a, R> {
     }
 }
 
+// The fields of a row.
+fn fields_of(row: Option<&FoundRow>) -> Option<&RowFields> {
+    match row {
+        Some(row) => Some(&row.fields),
+        None => None,
+    }
+}
+
+// A row of a recording, whose number is this one.
+fn row_with(number: u64, row: Option<&FoundRow>) -> Option<Row<'_>> {
+    match (row, u32::try_from(number)) {
+        (Some(row), Ok(number)) => Some(Row {
+            format: row.format,
+            number,
+            fields: &row.fields,
+        }),
+        _ => None,
+    }
+}
+
 // The core and the number of the record that a row of the certificate names.
-fn pair_named(alloc: Global, row: &FoundRow) -> Option<(u32, u64)> {
-    let fields = row.fields(alloc)?;
+fn pair_named(fields: &RowFields) -> Option<(u32, u64)> {
     let core = read_decimal(fields.get(0)?, u32::MAX as u64)?;
     let seq = read_decimal(fields.get(1)?, u32::MAX as u64)?;
     Some((core as u32, seq))
 }
 
 // The number of the record that a row of the certificate names.
-fn number_named(fields: Option<RowFields>) -> Option<u64> {
+fn number_named(fields: Option<&RowFields>) -> Option<u64> {
     let fields = fields?;
     read_decimal(fields.get(1)?, u32::MAX as u64)
 }

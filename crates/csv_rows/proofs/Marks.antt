@@ -7,7 +7,7 @@ use Rattle.csv_rows.specs.Front.{HasSpecial, IsSettled}
 use Rattle.csv_rows.specs.Line.{IsPlain}
 use Rattle.csv_rows.specs.Text.{mark_length}
 
--- what is left of bytes behind a byte order mark
+-- what is left of bytes after a byte order mark
 abbrev pub unmarked : List ℕ → List ℕ
 unmarked text = drop (mark_length text) text
 

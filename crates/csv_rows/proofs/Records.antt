@@ -58,7 +58,7 @@ same_records config (suc m) (suc n) state text hm hn =
     by (Some p) (inl h) more = ap (λ r. p.0 ∷ r) (more p.1 p.2 (omega arith) (omega arith))
     by (Some p) (inr h) more = ap (λ r. p.0 ∷ r) (rw (h.0, h.1) (none_left config m ∙ sym (none_left config n)))
 
--- with an allowance of one more than the length, the first record stands at the head
+-- with an allowance of one more than the length, the first record is at the head
 unfolded : (config : Config) (state : State) (text : List ℕ)
     → records_from config (length text + 1) state text ≡ records_next (records_from config (length text)) (next_record config state [] [] text)
 unfolding records_from

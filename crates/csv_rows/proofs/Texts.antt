@@ -91,7 +91,7 @@ pub new_rows : (known : Option (List ℕ)) → rows_left (option_map strip_bom (
 new_rows None = refl
 new_rows (Some text) = refl
 
--- what `csv` reads behind a line feed has the rows that were left
+-- what `csv` reads after a line feed has the rows that were left
 pub gap_rows : (bytes : List ℕ) (known : Option (List ℕ))
     → rows_left (option_map strip_bom (option_append (Some (10 ∷ bytes)) known)) ≡ rows_left (prepend_known bytes known)
 gap_rows bytes None = refl

@@ -25,7 +25,7 @@ use Rattle.csv_rows.specs.declared.text.Text.TheVariants as text
 abbrev pub unread_of : {R : Type 0} → (R → Option (List ℕ)) → Ahead R → Option (List ℕ)
 unread_of known ahead = prepend_known (drop ahead.at ahead.bytes.items) (known ahead.source)
 
--- the text that is left: before its begin those bytes without a byte order mark
+-- the text that is left: at its start, those bytes without a byte order mark
 abbrev pub text_of : {R : Type 0} → (R → Option (List ℕ)) → Ahead R → Option (List ℕ)
 text_of known ahead = if ahead.is_begun then unread_of known ahead else option_map strip_bom (unread_of known ahead)
 
@@ -40,7 +40,7 @@ mark_length (a ∷ b ∷ c ∷ rest) = if is_bom a b c then 3 else 0
 abbrev pub rows_left : Option (List ℕ) → Option (List Fields)
 rows_left known = option_map (rows_from st.StartRecord) known
 
--- no more of a text is left than what was read ahead, where that has no end of a line
+-- where what was read ahead is plain and has no end of a line, nothing more of the text is left
 abbrev pub IsWhole : Option (List ℕ) → Front → Type 0
 IsWhole rest (front.Line line) = ⊤
 IsWhole rest front.Open = IsAtEnd rest
@@ -51,11 +51,12 @@ IsWhole rest front.Other = ⊤
 abbrev pub IsFrontOf : {R : Type 0} → (R → Option (List ℕ)) → Ahead R → Front → Type 0
 IsFrontOf known ahead front = IsFront (drop ahead.at ahead.bytes.items) front × IsWhole (known ahead.source) front
 
--- what a read answers of the failure of its source: a failed read is told, and nothing else changes that mark
-abbrev pub Tells : {A : Type 0} → Bool → Bool → Result A StreamFault → Type 0
-Tells before after (Ok answer) = after ≡ before
-Tells before after (Err Read) = after ≡ true
-Tells before after (Err Memory) = after ≡ before
+-- whether a read of the source has failed, before and after a read of the text: Read says that one has, and any other answer leaves that
+-- as it was
+abbrev pub ReportsFailure : {A : Type 0} → Bool → Bool → Result A StreamFault → Type 0
+ReportsFailure before after (Ok answer) = after ≡ before
+ReportsFailure before after (Err Read) = after ≡ true
+ReportsFailure before after (Err Memory) = after ≡ before
 
 -- a row was taken: the first that was left, or none was left
 abbrev pub TakesRow : Option (List Fields) → Bool → Fields → Option (List Fields) → Type 0

@@ -3,7 +3,7 @@
 ghost use Rattle.std.specs.Prelude.{◌≡◌, ◌<◌, ◌≤◌, IfOk, OnOk, false, true, drop, length};
 ghost use Rattle.std.specs.Io.KnownBytes.{IsAtEnd, Keeps};
 ghost use Rattle.csv_rows.specs.Front.{IsLine};
-ghost use Rattle.csv_rows.specs.Text.{IsFrontOf, TakesLine, Tells, mark_length as mark_length_of, rows_left, text_of, unread_of};
+ghost use Rattle.csv_rows.specs.Text.{IsFrontOf, ReportsFailure, TakesLine, mark_length as mark_length_of, rows_left, text_of, unread_of};
 
 use crate::fields::RowFields;
 use crate::front::{Front, Line, front_of};
@@ -23,6 +23,8 @@ pub struct Ahead<R> {
     /// The bytes that were read ahead, and how many of them were taken.
     pub bytes: Vec<u8>,
     pub at: usize,
+    /// How many bytes were taken before those, and forgotten.
+    pub forgotten: u64,
     /// Whether a byte order mark was looked for.
     pub is_begun: bool,
 }
@@ -39,6 +41,11 @@ pub enum Taken {
 }
 
 impl<R: TextSource> Ahead<R> {
+    /// How many bytes of the text were taken.
+    pub fn place(&self) -> u64 {
+        self.forgotten.saturating_add(self.at as u64)
+    }
+
     // The bytes that were read ahead and not taken.
     fn unread(&self) -> &[u8]
         ensures { result.now ≡ drop self.now.at self.now.bytes.items }
@@ -57,6 +64,7 @@ impl<R: TextSource> Ahead<R> {
         let at = self.at.min(len);
         self.bytes.copy_within(at..len, 0);
         self.bytes.truncate(len - at);
+        self.forgotten = self.forgotten.saturating_add(at as u64);
         self.at = 0;
     }
 
@@ -66,7 +74,7 @@ impl<R: TextSource> Ahead<R> {
         ensures same { IfOk result (λ more. more ≡ false → drop self.new.at self.new.bytes.items ≡ drop self.old.at self.old.bytes.items) }
         ensures at_end { IfOk result (λ more. more ≡ false → IsAtEnd (R.remaining self.new.source)) }
         ensures begun { self.new.is_begun ≡ self.old.is_begun }
-        ensures tells { Tells (R.failed self.old.source) (R.failed self.new.source) result }
+        ensures reports { ReportsFailure (R.failed self.old.source) (R.failed self.new.source) result }
     {
         self.forget_taken();
         let mut piece = [0; PIECE];
@@ -85,7 +93,7 @@ impl<R: TextSource> Ahead<R> {
         ensures keeps { OnOk result (Keeps (unread_of R.remaining self.old) (unread_of R.remaining self.new)) }
         ensures front { IfOk result (λ front. IsFrontOf R.remaining self.new front) }
         ensures begun { self.new.is_begun ≡ self.old.is_begun }
-        ensures tells { Tells (R.failed self.old.source) (R.failed self.new.source) result }
+        ensures reports { ReportsFailure (R.failed self.old.source) (R.failed self.new.source) result }
     {
         for _ in 0..u64::MAX {
             let front = front_of(self.unread());
@@ -106,7 +114,7 @@ impl<R: TextSource> Ahead<R> {
     pub fn take_line(&mut self, fields: &mut RowFields) -> Result<Taken, StreamFault>
         ensures takes { IfOk result (λ taken. TakesLine (rows_left (text_of R.remaining self.old)) taken fields.new (rows_left (text_of R.remaining self.new))) }
         ensures begun { OnOk result (self.new.is_begun ≡ true) }
-        ensures tells { Tells (R.failed self.old.source) (R.failed self.new.source) result }
+        ensures reports { ReportsFailure (R.failed self.old.source) (R.failed self.new.source) result }
     {
         self.begin()?;
         self.take_next(fields)
@@ -117,7 +125,7 @@ impl<R: TextSource> Ahead<R> {
     fn begin(&mut self) -> Result<(), StreamFault>
         ensures keeps { OnOk result (Keeps (text_of R.remaining self.old) (unread_of R.remaining self.new)) }
         ensures begun { OnOk result (self.new.is_begun ≡ true) }
-        ensures tells { Tells (R.failed self.old.source) (R.failed self.new.source) result }
+        ensures reports { ReportsFailure (R.failed self.old.source) (R.failed self.new.source) result }
     {
         if self.is_begun {
             return Ok(());
@@ -133,7 +141,7 @@ impl<R: TextSource> Ahead<R> {
     fn take_next(&mut self, fields: &mut RowFields) -> Result<Taken, StreamFault>
         ensures takes { IfOk result (λ taken. TakesLine (rows_left (unread_of R.remaining self.old)) taken fields.new (rows_left (unread_of R.remaining self.new))) }
         ensures begun { self.new.is_begun ≡ self.old.is_begun }
-        ensures tells { Tells (R.failed self.old.source) (R.failed self.new.source) result }
+        ensures reports { ReportsFailure (R.failed self.old.source) (R.failed self.new.source) result }
     {
         for _ in 0..u64::MAX {
             match self.front()? {
@@ -157,7 +165,7 @@ impl<R: TextSource> Ahead<R> {
         requires filled { 0 < line.length }
         ensures takes { IfOk result (λ taken. TakesLine (rows_left (unread_of R.remaining self.old)) taken fields.new (rows_left (unread_of R.remaining self.new))) }
         ensures begun { self.new.is_begun ≡ self.old.is_begun }
-        ensures tells { Tells (R.failed self.old.source) (R.failed self.new.source) result }
+        ensures reports { ReportsFailure (R.failed self.old.source) (R.failed self.new.source) result }
     {
         let made = fields.take_line(&self.unread()[..line.length]);
         self.at += line.taken;
@@ -173,7 +181,7 @@ impl<R: TextSource> Ahead<R> {
         requires { IsFrontOf R.remaining self.old Front.Open }
         ensures takes { IfOk result (λ taken. TakesLine (rows_left (unread_of R.remaining self.old)) taken fields.new (rows_left (unread_of R.remaining self.new))) }
         ensures begun { self.new.is_begun ≡ self.old.is_begun }
-        ensures tells { Tells (R.failed self.old.source) (R.failed self.new.source) result }
+        ensures reports { ReportsFailure (R.failed self.old.source) (R.failed self.new.source) result }
     {
         let line = self.unread();
         if line.is_empty() {

@@ -8,6 +8,8 @@ use std::io::Read;
 #[derive(Drop)]
 pub struct SourceReader<R> {
     pub source: R,
+    /// How many bytes of the text were taken before `csv` reads on.
+    pub before: u64,
 }
 
 impl<R: TextSource> Read for SourceReader<R> {

@@ -5,7 +5,7 @@ ghost use Rattle.csv_rows.specs.Stream.{Takes, rows_of};
 
 use crate::ahead::Ahead;
 use crate::fields::RowFields;
-use crate::text::{Text, source_in, take_row};
+use crate::text::{Text, place_in, source_in, take_row};
 use crate::text_source::TextSource;
 use std::alloc::Global;
 use std::marker::Model;
@@ -25,7 +25,7 @@ pub enum StreamFault {
 pub struct CsvRows<R: TextSource> {
     alloc: Global,
     text: Text<R>,
-    // Whether a row was asked for: a source that has failed before stops these rows at the first call, which tells of it.
+    // Whether a row was asked for: a source that has failed before stops these rows at the first call, which reports it.
     begun: bool,
     ended: bool,
     // Whether memory was refused.
@@ -64,6 +64,7 @@ impl<R: TextSource> CsvRows<R> {
                 source,
                 bytes: Vec::new(alloc),
                 at: 0,
+                forgotten: 0,
                 is_begun: false,
             }),
             begun: false,
@@ -77,6 +78,12 @@ impl<R: TextSource> CsvRows<R> {
         ensures failed { R.failed result.now ≡ self.now.failed }
     {
         source_in(&self.text)
+    }
+
+    /// How many bytes of the text the rows so far have taken: the last one ends there, and the next one begins after the line ends
+    /// that follow. No clause says so, since `csv` says nothing of the count that it keeps; tests show it.
+    pub fn place(&self) -> u64 {
+        place_in(&self.text)
     }
 
     /// Puts the next row into `fields`, and answers whether there was one. Once the end was reported, it is reported again.

@@ -4,7 +4,7 @@ ghost use Rattle.std.specs.Prelude.{◌≡◌, ◌||◌, IfOk, OnOk, Err, false,
 ghost use Rattle.std.specs.Io.Chain.{chain_second};
 ghost use Rattle.csv.specs.Reading.{has_failed, reader_source};
 ghost use Rattle.csv_rows.specs.Stream.{IsSet, left_of};
-ghost use Rattle.csv_rows.specs.Text.{IsBegun, IsHere, IsReady, IsRecords, TakesRow, Tells, failed_in, left_in, rest_of, rows_left, unread_of};
+ghost use Rattle.csv_rows.specs.Text.{IsBegun, IsHere, IsReady, IsRecords, ReportsFailure, TakesRow, failed_in, left_in, rest_of, rows_left, unread_of};
 
 use crate::ahead::{Ahead, Taken};
 use crate::fields::RowFields;
@@ -43,7 +43,7 @@ pub fn take_row<R: TextSource>(
     ensures takes { IfOk result (λ found. TakesRow (left_in R.remaining text.old) found fields.new (left_in R.remaining text.new)) }
     ensures ready { OnOk result (IsReady text.new) }
     ensures here { IsHere text.new }
-    ensures tells { Tells (failed_in R.failed text.old) (failed_in R.failed text.new) result }
+    ensures reports { ReportsFailure (failed_in R.failed text.old) (failed_in R.failed text.new) result }
 {
     match text {
         Text::Lines(ahead) => match ahead.take_line(fields)? {
@@ -80,10 +80,12 @@ fn reader_of<R: TextSource>(alloc: Global, ahead: Ahead<R>) -> Reader<Rest<R>>
     ensures set { IsSet result }
     ensures source { (chain_second (reader_source result)).source ≡ ahead.source }
 {
+    let before = ahead.place();
     let Ahead {
         source,
         bytes,
         at,
+        forgotten: _,
         is_begun: _,
     } = ahead;
     let mut unread = Cursor::new(bytes);
@@ -95,7 +97,7 @@ fn reader_of<R: TextSource>(alloc: Global, ahead: Ahead<R>) -> Reader<Rest<R>>
             alloc,
             Cursor::new([b'\n'])
                 .chain(unread)
-                .chain(SourceReader { source }),
+                .chain(SourceReader { source, before }),
         )
 }
 
@@ -109,7 +111,7 @@ fn take_record<R: TextSource>(
     ensures takes { IfOk result (λ found. TakesRow (left_in R.remaining text.old) found fields.new (left_in R.remaining text.new)) }
     ensures ready { OnOk result (IsReady text.new) }
     ensures here { IsHere text.new }
-    ensures tells { Tells (failed_in R.failed text.old) (failed_in R.failed text.new) result }
+    ensures reports { ReportsFailure (failed_in R.failed text.old) (failed_in R.failed text.new) result }
 {
     match text {
         Text::Records(reader) => read_record(reader, fields),
@@ -126,7 +128,7 @@ fn read_record<R: TextSource>(
     requires going { R.failed (chain_second (reader_source reader.old)).source ≡ false }
     ensures takes { IfOk result (λ found. TakesRow (left_of (rest_of R.remaining) reader.old) found fields.new (left_of (rest_of R.remaining) reader.new)) }
     ensures set { OnOk result (IsSet reader.new) }
-    ensures tells { Tells (R.failed (chain_second (reader_source reader.old)).source) (R.failed (chain_second (reader_source reader.new)).source) result }
+    ensures reports { ReportsFailure (R.failed (chain_second (reader_source reader.old)).source) (R.failed (chain_second (reader_source reader.new)).source) result }
 {
     fields.is_other = true;
     let found = reader.read_byte_record(&mut fields.other).ok();
@@ -147,6 +149,20 @@ pub fn source_in<R: TextSource>(text: &Text<R>) -> &R
     match text {
         Text::Lines(ahead) => &ahead.source,
         Text::Records(reader) => source_of(reader),
+        Text::Moved => unreachable!(),
+    }
+}
+
+/// How many bytes of a text were taken, as far as rows were read. Of what `csv` was given, the first is a line feed of no text.
+pub fn place_in<R: TextSource>(text: &Text<R>) -> u64
+    requires { IsHere text.now }
+{
+    match text {
+        Text::Lines(ahead) => ahead.place(),
+        Text::Records(reader) => {
+            let taken = reader.position().byte().saturating_sub(1);
+            reader.get_ref().get_ref().1.before.saturating_add(taken)
+        }
         Text::Moved => unreachable!(),
     }
 }

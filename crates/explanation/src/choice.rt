@@ -1,90 +1,126 @@
-// Windows and choices that are not kept.
+// Choices that are not kept.
 
 use crate::module::tell_time;
-use crate::partition::Refusing;
-use crate::processes::{tell_choice, tell_numbered};
-use apex_types::{Body, CoreId, Ordered, Who};
-use wording::{Numbered, Words};
+use crate::processes::{tell_numbered, tell_ready};
+use crate::refusal::{Refusal, Refusing};
+use apex_types::{Body, CoreId, PartId, Who};
+use wording::{Numbered, Part, Words};
 
-/// Tells whose window a core is in, where a call or a return is of another partition.
-pub fn tell_window(words: &mut Words, refusing: &Refusing<'_>, core: CoreId) {
-    words.next_line();
-    match refusing.clock.window_now(refusing.config, core) {
-        Some(owner) => words.say(format_args!(
-            "core {} is in a window of partition {}: ",
-            core.number(),
-            owner.number()
-        )),
-        None => words.say(format_args!("core {} is in no window: ", core.number())),
-    }
-    tell_time(words, refusing.config, refusing.clock.now(core));
-    words.rule("part 11, cause Window; the windows: part 1 (window_at)");
-}
-
-/// Tells the choice of a core, where a record is not of it.
-pub fn tell_refused_choice(words: &mut Words, refusing: &Refusing<'_>, ordered: &Ordered) {
-    let core = ordered.core;
-    words.next_line();
-    words.say(format_args!(
-        "core {} is in a window of partition {}: ",
-        core.number(),
-        refusing.number.number()
-    ));
-    tell_time(words, refusing.config, refusing.clock.now(core));
-    tell_choice(words, refusing.state, refusing.number, core);
-    match &ordered.rec.body {
-        Body::Disp(Some(who)) => tell_dispatched(words, refusing, *who),
-        Body::Disp(None) => {}
-        Body::Tick(_) => tell_occupant(words, refusing, core),
-        Body::Call(call) => tell_actor(words, refusing, core, &call.who),
-        Body::Ret(ret) => tell_actor(words, refusing, core, &ret.who),
-    }
+/// Tells the choice of a core and its occupant, where a record is not of the choice.
+pub fn tell_choice(
+    words: &mut Words,
+    refusal: &Refusal<'_>,
+    choice: &Option<Who>,
+    occupant: &Option<Who>,
+) {
+    let Some(refusing) = refusal.partition() else {
+        return;
+    };
+    tell_own_window(words, refusal, refusing.number);
+    tell_chosen(words, &refusing, refusal.core(), choice);
+    tell_named(words, refusal, &refusing, occupant);
     words.rule("part 2, the choice (IsChosen, GoesBefore)");
 }
 
+// Tells that a core is in a window of the partition.
+fn tell_own_window(words: &mut Words, refusal: &Refusal<'_>, part: PartId) {
+    words.next_line();
+    words.say(format_args!(
+        "core {} is in a window of partition {}: ",
+        refusal.core().number(),
+        part.number()
+    ));
+    tell_time(words, refusal.config, refusal.time());
+}
+
+// Tells the choice of a core in a partition's window, and why it is the choice.
+fn tell_chosen(words: &mut Words, refusing: &Refusing<'_>, core: CoreId, choice: &Option<Who>) {
+    words.next_line();
+    words.say(format_args!("the choice of core {} is ", core.number()));
+    match choice {
+        Some(choice) => {
+            words.say_part(Part::Expected, Numbered(*choice));
+            words.say(
+                ": the highest priority goes first, then the earliest ready position, then the smallest number",
+            );
+            tell_ready(words, refusing.state, core, choice);
+        }
+        None => {
+            words.say_part(Part::Expected, "no process");
+            words.say(format_args!(
+                ": none of partition {} is ready there",
+                refusing.number.number()
+            ));
+        }
+    }
+}
+
+// Tells the processes that the record is of, beside the occupant.
+fn tell_named(
+    words: &mut Words,
+    refusal: &Refusal<'_>,
+    refusing: &Refusing<'_>,
+    occupant: &Option<Who>,
+) {
+    let core = refusal.core();
+    match &refusal.ordered.rec.body {
+        Body::Disp(Some(who)) => tell_dispatched(words, refusing, who),
+        Body::Disp(None) => {}
+        Body::Tick(_) => tell_occupant(words, refusing, core, occupant),
+        Body::Call(call) => tell_actor(words, refusing, core, occupant, &call.who),
+        Body::Ret(ret) => tell_actor(words, refusing, core, occupant, &ret.who),
+    }
+}
+
 // Tells the state of the process to which a core is dispatched.
-fn tell_dispatched(words: &mut Words, refusing: &Refusing<'_>, who: Who) {
+fn tell_dispatched(words: &mut Words, refusing: &Refusing<'_>, who: &Who) {
     if who.part == refusing.number {
-        tell_numbered(words, refusing.state, who);
+        tell_numbered(words, refusing.state, *who);
         return;
     }
     words.next_line();
     words.say(format_args!(
         "{} does not belong to the partition of this window",
-        Numbered(who)
+        Numbered(*who)
     ));
 }
 
 // Tells the occupant of a core, and its state where it is the partition's.
-fn tell_occupant(words: &mut Words, refusing: &Refusing<'_>, core: CoreId) {
+fn tell_occupant(words: &mut Words, refusing: &Refusing<'_>, core: CoreId, occupant: &Option<Who>) {
     words.next_line();
-    match refusing.clock.on(core) {
-        Some(occupant) => words.say(format_args!(
-            "the last dispatch gave core {} to {}",
-            core.number(),
-            Numbered(occupant)
-        )),
+    match occupant {
+        Some(occupant) => {
+            words.say(format_args!(
+                "the last dispatch gave core {} to {}",
+                core.number(),
+                Numbered(*occupant)
+            ));
+            tell_own(words, refusing, occupant);
+        }
         None => words.say(format_args!(
             "core {} is idle: no dispatch before this record, or the last one, names a process",
             core.number()
         )),
     }
-    if let Some(occupant) = refusing.clock.on(core) {
-        tell_own(words, refusing, occupant);
-    }
 }
 
 // Tells the state of a process, where it is the partition's.
-fn tell_own(words: &mut Words, refusing: &Refusing<'_>, who: Who) {
+fn tell_own(words: &mut Words, refusing: &Refusing<'_>, who: &Who) {
     if who.part == refusing.number {
-        tell_numbered(words, refusing.state, who);
+        tell_numbered(words, refusing.state, *who);
     }
 }
 
 // Shows the occupant and the state of the process that calls or returns.
-fn tell_actor(words: &mut Words, refusing: &Refusing<'_>, core: CoreId, who: &Who) {
-    tell_occupant(words, refusing, core);
-    if refusing.clock.on(core) != Some(*who) {
-        tell_own(words, refusing, *who);
+fn tell_actor(
+    words: &mut Words,
+    refusing: &Refusing<'_>,
+    core: CoreId,
+    occupant: &Option<Who>,
+    who: &Who,
+) {
+    tell_occupant(words, refusing, core, occupant);
+    if *occupant != Some(*who) {
+        tell_own(words, refusing, who);
     }
 }

@@ -6,12 +6,14 @@ use module_config::{Config, QueuingPort, SamplingPort};
 use wait_set::Conditions;
 use wording::{Words, code_name};
 
-/// Tells which error conditions hold, each with its code, or that none does.
+/// Tells that no error condition holds.
+pub fn tell_no_condition(words: &mut Words) {
+    words.next_line();
+    words.say("no error condition holds");
+}
+
+/// Tells which error conditions hold, each with its code.
 pub fn tell_conditions(words: &mut Words, config: &Config, call: &Call, conditions: &Conditions) {
-    if conditions.is_empty() {
-        words.next_line();
-        words.say("no error condition holds");
-    }
     for condition in conditions.as_slice() {
         words.next_line();
         words.say(format_args!("an error condition holds: {}", condition.text()));

@@ -1,11 +1,11 @@
 // What explains a No, by the witness of a check.
 
 use crate::broken::tell_view;
-use crate::channels::tell_channel;
 use crate::demand::tell_demand;
-use crate::module::tell_module;
-use crate::partition::{Refusing, tell_partition};
-use apex_types::{Body, Cause, CoreId, Ordered, PartId, View};
+use crate::evidence::tell_evidence;
+use crate::refusal::Refusal;
+use crate::through::tell_channel;
+use apex_types::{Cause, CoreId, Ordered, View};
 use module_config::Config;
 use piece_check::{Piece, Subject};
 use std::alloc::Global;
@@ -63,7 +63,13 @@ impl Explanation {
         cause: Cause,
     ) {
         self.begin(ordered);
-        tell_refusal(&mut self.words, config, piece, ordered, cause);
+        let refusal = Refusal {
+            config,
+            piece,
+            ordered,
+            cause,
+        };
+        tell_refusal(&mut self.words, &refusal);
     }
 
     /// Takes in the record whose view breaks a rule.
@@ -85,15 +91,23 @@ impl Explanation {
 }
 
 // Tells why a piece refuses a record.
-fn tell_refusal(
-    words: &mut Words,
-    config: &Config,
-    piece: &Piece,
-    ordered: &Ordered,
-    cause: Cause,
-) {
+fn tell_refusal(words: &mut Words, refusal: &Refusal<'_>) {
     words.next_line();
-    match piece.subject() {
+    tell_subject(words, refusal.piece.subject());
+    tell_demand(
+        words,
+        refusal.piece.subject(),
+        &refusal.ordered.rec.body,
+        refusal.cause,
+    );
+    tell_actor(words, refusal);
+    tell_channel(words, refusal);
+    tell_evidence(words, refusal);
+}
+
+// Tells which piece refuses a record.
+fn tell_subject(words: &mut Words, subject: Subject) {
+    match subject {
         Subject::Module => words.say("the module rejects it"),
         Subject::Partition(number) => {
             words.say(format_args!("partition {} rejects it", number.number()));
@@ -102,62 +116,22 @@ fn tell_refusal(
             words.say(format_args!("channel {} rejects it", number.number()));
         }
     }
-    tell_demand(words, piece.subject(), &ordered.rec.body, cause);
-    tell_caller(words, piece, ordered);
-    tell_reason(words, config, piece, ordered, cause);
 }
 
 // Tells the name of who calls or returns, where the piece knows it.
-fn tell_caller(words: &mut Words, piece: &Piece, ordered: &Ordered) {
-    let Some(state) = piece.partition() else {
+fn tell_actor(words: &mut Words, refusal: &Refusal<'_>) {
+    let (Some(refusing), Some(who)) = (refusal.partition(), refusal.actor()) else {
         return;
     };
-    let who = match &ordered.rec.body {
-        Body::Call(call) => call.who,
-        Body::Ret(ret) => ret.who,
-        Body::Disp(_) | Body::Tick(_) => return,
-    };
-    if who.part != number_of(piece) {
+    if who.part != refusing.number {
         return;
     }
-    let Some(process) = state.processes().proc(who.proc) else {
+    let Some(process) = refusing.state.processes().proc(who.proc) else {
         return;
     };
     let name = process.name.as_bytes();
     if !name.is_empty() {
         words.next_line();
         words.say(format_args!("{} is \"{}\"", Numbered(who), Ascii(name)));
-    }
-}
-
-// Tells what the piece holds, and what is wanted by it.
-fn tell_reason(words: &mut Words, config: &Config, piece: &Piece, ordered: &Ordered, cause: Cause) {
-    if let (Some(channel), Some(times)) = (piece.channel(), piece.times()) {
-        tell_channel(words, config, channel, times, ordered, cause);
-        return;
-    }
-    let Some(clock) = piece.clock() else {
-        return;
-    };
-    match piece.partition() {
-        Some(state) => {
-            let refusing = Refusing {
-                config,
-                number: number_of(piece),
-                clock,
-                state,
-                piece,
-            };
-            tell_partition(words, &refusing, ordered, cause);
-        }
-        None => tell_module(words, config, clock, ordered, cause),
-    }
-}
-
-// The number of the partition that a piece is of.
-fn number_of(piece: &Piece) -> PartId {
-    match piece.subject() {
-        Subject::Partition(number) => number,
-        Subject::Module | Subject::Channel(_) => PartId::new(0),
     }
 }

@@ -1,58 +1,52 @@
 // Calls that the program does not judge.
 
-use apex_types::{Call, CallerOperation, ProcessOperation, Request};
-use partition_state::PartitionState;
+use crate::refusal::Refusal;
+use apex_types::{ProcessOperation, Request};
 use wording::Words;
 
-/// Tells why a call is outside the profile.
-pub fn tell_outside(words: &mut Words, state: &PartitionState, call: &Call) {
+/// Tells that the initialising process stops itself.
+pub fn tell_initialising(words: &mut Words) {
+    begin(words);
+    words.say("it is the initialising process, which stops itself");
+    end(words);
+}
+
+/// Tells that a call stops, suspends or gives a priority to the owner of a mutex.
+pub fn tell_mutex_owner(words: &mut Words, refusal: &Refusal<'_>) {
+    begin(words);
+    tell_target(words, refusal, "owns");
+    end(words);
+}
+
+/// Tells that a call suspends or gives a priority to a process that waits for a mutex.
+pub fn tell_mutex_waiter(words: &mut Words, refusal: &Refusal<'_>) {
+    begin(words);
+    tell_target(words, refusal, "waits for");
+    end(words);
+}
+
+fn begin(words: &mut Words) {
     words.next_line();
     words.say(
         "the program does not judge this use of the service, which does not mean that it is unlawful",
     );
     words.next_line();
-    match &call.request {
-        Request::Process(process, operation) => tell_target(words, state, *process, operation),
-        Request::Caller(CallerOperation::StopSelf) => words.say(if call.who.proc.number() == 0 {
-            "it is the initialising process, which stops itself"
-        } else {
-            "it owns a mutex, and stops itself"
-        }),
-        Request::CreateProcess { .. }
-        | Request::Caller(_)
-        | Request::SetPartitionMode(..)
-        | Request::Create(..)
-        | Request::Buffer(..)
-        | Request::Blackboard(..)
-        | Request::Semaphore(..)
-        | Request::Event(..)
-        | Request::Mutex(..)
-        | Request::SamplingPort(..)
-        | Request::QueuingPort(..)
-        | Request::GetId(..)
-        | Request::GetStatus(..) => {}
-    }
+}
+
+fn end(words: &mut Words) {
     words.rule("part 18, outside the profile (in_profile)");
 }
 
-// Tells why the process that a call names may not be its target.
-fn tell_target(
-    words: &mut Words,
-    state: &PartitionState,
-    process: i64,
-    operation: &ProcessOperation,
-) {
-    match operation {
-        ProcessOperation::Stop => {
-            words.say(format_args!("process {process}, which it stops, owns a mutex"));
+// Tells of the process that a call names, or of the caller that stops itself, what it does with a mutex.
+fn tell_target(words: &mut Words, refusal: &Refusal<'_>, what: &str) {
+    let Some(call) = refusal.call() else {
+        return;
+    };
+    match &call.request {
+        Request::Process(process, ProcessOperation::Stop) => {
+            words.say(format_args!("process {process}, which it stops, {what} a mutex"));
         }
-        ProcessOperation::Suspend | ProcessOperation::SetPriority { .. } => {
-            let owns = state.numbered_owns_mutex(process);
-            let what = if owns { "owns" } else { "waits for" };
-            words.say(format_args!("process {process} {what} a mutex"));
-        }
-        ProcessOperation::InitializeCoreAffinity { .. }
-        | ProcessOperation::Start
-        | ProcessOperation::Resume => {}
+        Request::Process(process, _) => words.say(format_args!("process {process} {what} a mutex")),
+        _ => words.say(format_args!("it {what} a mutex, and stops itself")),
     }
 }

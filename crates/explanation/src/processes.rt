@@ -1,9 +1,10 @@
 // Processes in words: what one waits for, and why it is not ready or not the choice.
 
 use apex_machine::{Process, Wait};
-use apex_types::{CoreId, PartId, ProcId, Who};
+use apex_types::{CoreId, ProcId, Who};
 use partition_state::PartitionState;
-use wording::{Ascii, Numbered, Part, Set, Words};
+use piece_check::is_ready;
+use wording::{Ascii, Numbered, Set, Words};
 
 /// Tells a process with its name and its state: ready, or why it is not.
 pub fn tell_process(words: &mut Words, who: Who, process: &Process) {
@@ -73,20 +74,6 @@ fn tell_due(words: &mut Words, due: Option<u64>) {
     }
 }
 
-/// The time at which a wait falls due, if it does.
-pub fn time_due(wait: Wait) -> Option<u64> {
-    match wait {
-        Wait::Nothing | Wait::NormalMode => None,
-        Wait::FirstRelease(time) | Wait::Until(time) | Wait::PeriodicRelease(time) => Some(time),
-        Wait::Suspended(due) | Wait::At(_, due) => due,
-    }
-}
-
-/// Whether a process is ready.
-pub fn is_ready(process: &Process) -> bool {
-    process.alive && !process.suspended && process.wait == Wait::Nothing
-}
-
 /// The process that a caller names by its number, or None where none of its partition has that number.
 pub fn peer_of(state: &PartitionState, caller: Who, given: i64) -> Option<Who> {
     let proc = state.processes().created_number(given)?;
@@ -105,35 +92,21 @@ pub fn tell_numbered(words: &mut Words, state: &PartitionState, who: Who) {
     }
 }
 
-/// Tells the choice of a core in a partition's window, and why it is the choice.
-pub fn tell_choice(words: &mut Words, state: &PartitionState, part: PartId, core: CoreId) {
-    let number = core.number();
-    let Some(choice) = state.processes().ready_on(part, core) else {
-        words.next_line();
-        words.say(format_args!("the choice of core {number} is "));
-        words.say_part(Part::Expected, "no process");
-        words.say(format_args!(": none of partition {} is ready there", part.number()));
-        return;
-    };
-    words.next_line();
-    words.say(format_args!("the choice of core {number} is "));
-    words.say_part(Part::Expected, Numbered(choice));
-    words.say(
-        ": the highest priority goes first, then the earliest ready position, then the smallest number",
-    );
+/// Tells the processes that are ready on a core, and by what this one of them is the choice.
+pub fn tell_ready(words: &mut Words, state: &PartitionState, core: CoreId, choice: &Who) {
     let table = state.processes();
     for index in 0..table.len().saturating_add(1) {
         let Some((proc, process)) = table.at(index) else {
             break;
         };
-        if is_ready(process) && process.affinity == core {
-            tell_ready(words, *proc, process, *proc == choice.proc);
+        if is_ready(process, core) {
+            tell_candidate(words, *proc, process, *proc == choice.proc);
         }
     }
 }
 
 // Tells by what a ready process is chosen or not.
-fn tell_ready(words: &mut Words, proc: ProcId, process: &Process, is_choice: bool) {
+fn tell_candidate(words: &mut Words, proc: ProcId, process: &Process, is_choice: bool) {
     words.next_line();
     words.say(format_args!("  process {} is ready", proc.number()));
     words.say(format_args!(" with priority {}", process.current_priority));

@@ -1,159 +1,73 @@
-// A row of a text, looked for once more: its line and its fields.
+// Rows of a text, read once more by the reader of rows, and the lines on which they begin.
 
-use csv_rows::{CsvRows, RowFields};
+ghost use Rattle.std.specs.Prelude.{◌≡◌, false, IsSome};
+
+use crate::lines::Lines;
+use apex_types::Format;
+use csv_rows::{CsvRows, RowFields, TextSource, Watched};
+use record_read::format_by;
 use std::alloc::Global;
 use std::io::Read;
 use std::mem;
 
-/// How many bytes of a text are read at once.
-const PIECE: usize = 8192;
+/// How many bytes of a text are read at most.
+const MOST_BYTES: u64 = 536_870_912;
 
-/// How many pieces of a text are read at most.
-const MOST_PIECES: usize = 65_536;
-
-/// How many bytes of a row are kept.
-const LONGEST_ROW: usize = 65_536;
-
-/// A row of a text: the line on which it begins, counted from 1, and its first bytes.
+/// A row of a text.
 #[derive(Drop)]
 pub struct FoundRow {
+    /// The line on which it begins, counted from 1.
     pub line: u64,
-    text: Vec<u8>,
+    pub fields: RowFields,
+    /// The format of the recording, by its first row.
+    pub format: Format,
 }
 
-// How the bytes of a row are read: a field that begins with a quote goes on to the next single quote, line feeds included.
-#[derive(Clone, Copy, PartialEq, Eq)]
-enum Reading {
-    FieldStart,
-    Unquoted,
-    Quoted,
-    // After a quote in a quoted field: the field ends there, unless a second quote follows.
-    Closed,
-}
-
-impl Reading {
-    // How the bytes after this one are read.
-    fn after(self, byte: u8) -> Reading {
-        match (self, byte) {
-            (Reading::FieldStart | Reading::Closed, b'"') => Reading::Quoted,
-            (Reading::Quoted, b'"') => Reading::Closed,
-            (Reading::Quoted, _) => Reading::Quoted,
-            (_, b',' | b'\n' | b'\r') => Reading::FieldStart,
-            _ => Reading::Unquoted,
-        }
-    }
-}
-
-// How far a walk over a text has come: the line of the next byte, the line on which its row begins, and the rows before that.
+/// Two readers of the same text: one for its rows, and one for the lines on which they begin.
 #[derive(Drop)]
-struct Walk {
-    line: u64,
-    row_line: u64,
-    rows: u64,
-    reading: Reading,
-    is_filled: bool,
-    is_after_return: bool,
-    is_found: bool,
-    text: Vec<u8>,
+pub struct TwoReaders<R> {
+    pub rows: R,
+    pub lines: R,
 }
 
-impl Walk {
-    // Takes the next byte; the row of this number is looked for.
-    fn take(&mut self, byte: u8, wanted: u64) {
-        let ends_line = byte == b'\r' || byte == b'\n' && !self.is_after_return;
-        let is_second = byte == b'\n' && self.is_after_return;
-        self.is_after_return = byte == b'\r';
-        if ends_line {
-            self.line = self.line.saturating_add(1);
-        }
-        if self.reading != Reading::Quoted && (ends_line || is_second) {
-            self.reading = Reading::FieldStart;
-            self.end_row(wanted);
-            return;
-        }
-        self.reading = self.reading.after(byte);
-        self.is_filled = true;
-        if self.rows == wanted && self.text.len() < LONGEST_ROW {
-            // Of a row for which there is no memory the first bytes are shown.
-            let _ = self.text.push(byte);
-        }
-    }
-
-    // A row ends; an empty line is none.
-    fn end_row(&mut self, wanted: u64) {
-        if self.is_filled {
-            if self.rows == wanted {
-                self.is_found = true;
-                return;
-            }
-            self.rows = self.rows.saturating_add(1);
-        }
-        self.is_filled = false;
-        self.row_line = self.line;
-    }
+/// The row of this number, counted from 0, of a text; None if it is not found among the first 512 MiB.
+pub fn find_row<R: Read + Drop>(
+    alloc: Global,
+    readers: TwoReaders<R>,
+    wanted: u64,
+) -> Option<FoundRow> {
+    find_rows(alloc, readers, &[wanted]).pop()
 }
 
-impl Walk {
-    // Keeps the row that is found, and goes on after it. Answers whether there was memory for it.
-    fn keep(&mut self, alloc: Global, found: &mut Vec<FoundRow>) -> bool {
-        let row = FoundRow {
-            line: self.row_line,
-            text: mem::replace(&mut self.text, Vec::new(alloc)),
-        };
-        self.rows = self.rows.saturating_add(1);
-        self.row_line = self.line;
-        self.is_filled = false;
-        self.is_found = false;
-        found.push(row).is_ok()
-    }
-
-    // At the beginning of a text.
-    fn new(alloc: Global) -> Walk {
-        Walk {
-            line: 1,
-            row_line: 1,
-            rows: 0,
-            reading: Reading::FieldStart,
-            is_filled: false,
-            is_after_return: false,
-            is_found: false,
-            text: Vec::new(alloc),
-        }
-    }
-}
-
-/// The row of this number, counted from 0, of the text that a reader gives; None if it is not found among the first 512 MiB.
-pub fn find_row<R: Read + Drop>(alloc: Global, reader: R, wanted: u64) -> Option<FoundRow> {
-    find_rows(alloc, reader, &[wanted]).pop()
-}
-
-/// The rows of these numbers, which rise, of the text that a reader gives: those that are found among the first 512 MiB, up to the
-/// first that is not.
-pub fn find_rows<R: Read + Drop>(alloc: Global, mut reader: R, wanted: &[u64]) -> Vec<FoundRow> {
+/// The rows of these numbers, which rise, of a text: those that are found among the first 512 MiB, up to the first that is not.
+pub fn find_rows<R: Read + Drop>(
+    alloc: Global,
+    readers: TwoReaders<R>,
+    wanted: &[u64],
+) -> Vec<FoundRow> {
     let mut found = Vec::new(alloc);
-    let mut walk = Walk::new(alloc);
-    let mut piece = [0u8; PIECE];
-    for _ in 0..MOST_PIECES {
-        let Ok(count) = reader.read(&mut piece) else {
+    let mut rows = CsvRows::new(alloc, Watched::new(readers.rows.take(MOST_BYTES)));
+    let mut lines = Lines::new(readers.lines);
+    let mut fields = RowFields::new(alloc);
+    let mut known = None;
+    'rows: for number in 0..u64::MAX {
+        let Some(next) = wanted.get(found.len()) else {
             return found;
         };
-        for byte in piece.iter().take(count) {
-            let Some(number) = wanted.get(found.len()) else {
-                return found;
-            };
-            walk.take(*byte, *number);
-            if walk.is_found && !walk.keep(alloc, &mut found) {
-                return found;
-            }
-        }
-        if count == 0 {
-            if let Some(number) = wanted.get(found.len()) {
-                walk.end_row(*number);
-                if walk.is_found {
-                    walk.keep(alloc, &mut found);
-                }
-            }
+        let Some(line) = read_row(&mut rows, &mut lines, &mut fields) else {
             return found;
+        };
+        let format = format_by(known, &fields);
+        known = Some(format);
+        if number == *next {
+            let row = FoundRow {
+                line,
+                fields: mem::replace(&mut fields, RowFields::new(alloc)),
+                format,
+            };
+            if found.push(row).is_err() {
+                return found;
+            }
         }
     }
     found
@@ -163,40 +77,38 @@ pub fn find_rows<R: Read + Drop>(alloc: Global, mut reader: R, wanted: &[u64]) -
 /// among the first 512 MiB has none.
 pub fn find_lines<R: Read + Drop>(
     alloc: Global,
-    mut reader: R,
+    readers: TwoReaders<R>,
     first: u64,
-    lines: &mut [Option<u64>],
+    found: &mut [Option<u64>],
 ) {
-    let mut walk = Walk::new(alloc);
-    let mut piece = [0u8; PIECE];
-    for _ in 0..MOST_PIECES {
-        let Ok(count) = reader.read(&mut piece) else {
+    let mut rows = CsvRows::new(alloc, Watched::new(readers.rows.take(MOST_BYTES)));
+    let mut lines = Lines::new(readers.lines);
+    let mut fields = RowFields::new(alloc);
+    'rows: for number in 0..u64::MAX {
+        let Some(line) = read_row(&mut rows, &mut lines, &mut fields) else {
             return;
         };
-        for byte in piece.iter().take(count) {
-            // No row has this number, so that none is kept.
-            walk.take(*byte, u64::MAX);
-            if walk.is_filled && walk.rows >= first {
-                let Some(line) = lines.get_mut((walk.rows - first) as usize) else {
-                    return;
-                };
-                *line = Some(walk.row_line);
-            }
-        }
-        if count == 0 {
-            return;
+        if number >= first {
+            let Some(place) = found.get_mut((number - first) as usize) else {
+                return;
+            };
+            *place = Some(line);
         }
     }
 }
 
-impl FoundRow {
-    /// The fields of the row; None where memory is refused for them.
-    pub fn fields(&self, alloc: Global) -> Option<RowFields> {
-        let mut fields = RowFields::new(alloc);
-        let mut rows = CsvRows::new(alloc, self.text.as_slice());
-        match rows.read(&mut fields) {
-            Ok(true) => Some(fields),
-            _ => None,
-        }
+// Reads the next row, and finds the line on which it begins. None where there is no further row, or it can't be read.
+fn read_row<S: TextSource, R: Read>(
+    rows: &mut CsvRows<S>,
+    lines: &mut Lines<R>,
+    fields: &mut RowFields,
+) -> Option<u64>
+    requires going { rows.old.stopped ≡ false }
+    ensures going { IsSome result → rows.new.stopped ≡ false }
+{
+    let end = rows.place();
+    match rows.read(fields) {
+        Ok(true) => Some(lines.first_filled(end)),
+        _ => None,
     }
 }

@@ -25,7 +25,7 @@ AllKnown cores [] = Unit {0}
 AllKnown cores (p ∷ ps) = (p.core < cores) × AllKnown cores ps
 
 -- a lawful order of recordings of these lengths: the numbers of each core are 0, 1, .. below its length in that
--- sequence, and no other core stands
+-- sequence, and there is no pair of another core
 pub record IsLawfulOrder (cores : ℕ) (lens : ℕ → ℕ) (pairs : List Pair) : Type 0 where
   pub numbers : (core : ℕ) → core < cores → numbers_of core pairs ≡ following 0 (lens core)
   pub known : AllKnown cores pairs

@@ -1,4 +1,4 @@
-// Why a certificate can't be read, and why a pair may not stand.
+// Why a certificate can't be read, and why a pair may not come next.
 
 use thiserror::Error;
 
@@ -11,21 +11,21 @@ pub enum CertFault {
     /// A growth of memory was refused.
     #[error("out of memory")]
     Memory,
-    /// The row stands past the 68,719,476,720 that there can be.
+    /// The row comes after the 68,719,476,720 that there can be.
     #[error("the certificate has too many rows")]
     TooMany,
-    /// The row has not two fields.
-    #[error("a row of the certificate has not two fields")]
+    /// The row does not have two fields.
+    #[error("the row does not have two fields")]
     FieldCount,
-    /// A field is no canonical decimal from 0 to 4,294,967,295.
-    #[error("a field of the certificate is no number from 0 to 4294967295")]
+    /// A field is not the canonical decimal of a number from 0 to 4,294,967,295.
+    #[error("a number is malformed or out of range")]
     BadNumber,
     /// A fault was answered before.
-    #[error("the certificate was given up")]
+    #[error("the certificate has stopped at an earlier fault")]
     Ended,
 }
 
-/// Why a pair may not stand where it stands, or an order may not end where it ends.
+/// Why a pair may not come where it does, or an order may not end where it ends.
 #[derive(Clone, Copy, Debug, Drop, PartialEq, Eq, Error)]
 pub enum OrderFault {
     /// The module has no such core.

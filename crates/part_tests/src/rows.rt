@@ -85,3 +85,47 @@ fn texts_have_their_rows(rt: HostRuntime) -> Result<(), Fail> {
     }
     Ok(())
 }
+
+// The places in a text that is read so many bytes at a time, each after a row.
+fn places_of(alloc: Global, text: &'static str, step: usize) -> Result<Vec<u64>, AllocError> {
+    let text = text.as_bytes();
+    let mut rows = CsvRows::new(alloc, Watched::new(Stepwise { text, step }));
+    let mut fields = RowFields::new(alloc);
+    let mut places = Vec::new(alloc);
+    'turns: for _ in 0..10 {
+        match rows.read(&mut fields) {
+            Ok(true) => places.push(rows.place())?,
+            _ => break,
+        }
+    }
+    Ok(places)
+}
+
+// Each text with the places after its rows.
+const PLACES: [(&'static str, [u64; 3]); 9] = [
+    ("a,b\nc,d\ne", [4, 8, 9]),
+    ("\n\na\n\n\nb\nc\n\n", [4, 8, 10]),
+    ("a\r\nb\r\n\r\nc\r\n", [3, 6, 11]),
+    ("a\rb\rc\r", [2, 4, 6]),
+    ("a\rb\r\nc\n", [2, 4, 7]),
+    ("a\n\rb\r\r\nc", [2, 5, 8]),
+    ("x\n\"a\n\"\"\"\ny\n", [2, 9, 11]),
+    ("\u{feff}a\nb\nc\n", [5, 7, 9]),
+    ("\u{feff}\"a\"\n\nb\nc\n", [7, 10, 12]),
+];
+
+#[test]
+fn rows_end_at_their_places(rt: HostRuntime) -> Result<(), Fail> {
+    let alloc = rt.alloc();
+    for (text, expected) in PLACES {
+        for step in [1, 2, 3, 1000] {
+            let places = places_of(alloc, text, step)?;
+            assert_eq!(rt;
+                places.as_slice(),
+                expected.as_slice(),
+                "{text:?} by {step}"
+            );
+        }
+    }
+    Ok(())
+}

@@ -9,3 +9,4 @@ pub mod Reaching
 pub mod Slots
 pub mod Through
 pub mod Viewing
+pub mod Shown

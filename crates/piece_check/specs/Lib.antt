@@ -5,3 +5,4 @@ pub mod Held
 pub mod Judged
 pub mod Touching
 pub mod Seen
+pub mod Evidence

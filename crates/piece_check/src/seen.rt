@@ -1,21 +1,35 @@
-// What callers read of a piece: its part, and the error conditions of a call.
+// What callers see of a piece.
 
-ghost use Rattle.std.specs.Prelude.{◌≡◌, option_map};
-ghost use Rattle.std.specs.Option.{option_copied};
+ghost use Rattle.std.specs.Prelude.{◌≡◌};
 ghost use Rattle.piece_check.specs.Parts.{holder};
-ghost use Rattle.piece_check.specs.Seen.{channel_in, conditions_in, cores_in, partition_in, times_in};
+ghost use Rattle.piece_check.specs.Seen.{IsSeen};
 ghost use Rattle.piece_check.specs.Subjects.{piece_of};
 
-use crate::conditions::conditions_of;
 use crate::held::Held;
 use crate::piece::Piece;
 use crate::subject::Subject;
-use apex_types::Call;
+use apex_types::PartId;
 use channel::Channel;
 use dispatch_rule::{Clock, Times};
-use module_config::Config;
 use partition_state::PartitionState;
-use wait_set::Conditions;
+
+/// What a piece holds, to read.
+#[derive(Clone, Copy)]
+pub enum Seen<'a> {
+    /// The module: the times and occupants of the cores.
+    Module { clock: &'a Clock },
+    /// A partition: its number, the times and occupants of the cores as it knows them, and its state.
+    Partition {
+        number: PartId,
+        clock: &'a Clock,
+        state: &'a PartitionState,
+    },
+    /// A channel: the times of the cores as it knows them, and the channel.
+    Channel {
+        times: &'a Times,
+        channel: &'a Channel,
+    },
+}
 
 impl Piece {
     /// What the piece is of.
@@ -29,54 +43,23 @@ impl Piece {
         }
     }
 
-    /// The times and occupants of the cores, as the module and each partition know them; None where it is a channel's piece.
-    pub fn clock(&self) -> Option<&Clock>
-        ensures { option_map (λ clock. clock.now.cores) result ≡ cores_in self.now.part }
+    /// What the piece holds.
+    pub fn seen(&self) -> Seen<'_>
+        ensures { IsSeen self.now.part result }
     {
         match &self.held {
-            Held::Module(piece) => Some(&piece.clock),
-            Held::Partition(piece) => Some(&piece.clock),
-            Held::Channel(_) => None,
-        }
-    }
-
-    /// The times of the cores, as a channel knows them; None where it is another piece.
-    pub fn times(&self) -> Option<&Times>
-        ensures { option_copied result ≡ times_in self.now.part }
-    {
-        match &self.held {
-            Held::Module(_) | Held::Partition(_) => None,
-            Held::Channel(piece) => Some(&piece.times),
-        }
-    }
-
-    /// The state of the partition; None where it is another piece.
-    pub fn partition(&self) -> Option<&PartitionState>
-        ensures { option_copied result ≡ partition_in self.now.part }
-    {
-        match &self.held {
-            Held::Partition(piece) => Some(&piece.state),
-            Held::Module(_) | Held::Channel(_) => None,
-        }
-    }
-
-    /// The channel; None where it is another piece.
-    pub fn channel(&self) -> Option<&Channel>
-        ensures { option_map (λ held. held.now.channel) result ≡ channel_in self.now.part }
-    {
-        match &self.held {
-            Held::Channel(piece) => Some(&piece.channel),
-            Held::Module(_) | Held::Partition(_) => None,
-        }
-    }
-
-    /// The error conditions that hold for a call, as the partition sees them; none where it is another piece.
-    pub fn conditions(&self, config: &Config, call: &Call) -> Conditions
-        ensures { result ≡ conditions_in config.now self.now.part call.now }
-    {
-        match &self.held {
-            Held::Partition(piece) => conditions_of(config, &piece.state, call),
-            Held::Module(_) | Held::Channel(_) => Conditions::none(),
+            Held::Module(piece) => Seen::Module {
+                clock: &piece.clock,
+            },
+            Held::Partition(piece) => Seen::Partition {
+                number: piece.number,
+                clock: &piece.clock,
+                state: &piece.state,
+            },
+            Held::Channel(piece) => Seen::Channel {
+                times: &piece.times,
+                channel: &piece.channel,
+            },
         }
     }
 }

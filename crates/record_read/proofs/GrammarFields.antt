@@ -4,25 +4,33 @@ use Rattle.std.specs.Prelude.{option_and_then, option_map}
 use Rattle.std.specs.Option.{ok_or}
 use Rattle.std.proofs.lemmas.Option.{none-some, option_and_then_some, same_Some}
 use Rattle.csv_rows.specs.Decimal.{decimal, signed_decimal}
+use Rattle.record_read.specs.declared.column.Column.{Column}
 use Rattle.record_read.specs.declared.fault.RowFault.{RowFault}
 use Rattle.record_read.specs.declared.fault.RowFault.TheVariants.{BadNumber, FieldNotForKind}
+use Rattle.record_read.specs.declared.misread.Misread.{Misread}
 use Rattle.record_read.specs.Field.{argument, empty, filled, maybe, maybe_number, maybe_signed, number, signed}
 use Rattle.record_read.specs.Grammar.{HoldsIf, HoldsNumber, HoldsSigned, MayHold}
-use Rattle.record_read.specs.Steps.{◌>>=◌}
+use Rattle.record_read.specs.Steps.{◌>>=◌, located, misread_at}
 use Rattle.record_read.proofs.GrammarNumbers.{number_read, number_written, signed_read_back, signed_written}
 
 -- one value is given
-pub same_ok : {A : Type 0} (x y : A) → ◌≡◌ {A = Result A RowFault} (Ok x) (Ok y) → x ≡ y
+pub same_ok : {A Fault : Type 0} (x y : A) → ◌≡◌ {A = Result A Fault} (Ok x) (Ok y) → x ≡ y
 same_ok x y e = cc
 
 -- a fault is no value
-pub no_fault : {A : Type 0} {Goal : Type 0} (fault : RowFault) (y : A) → ◌≡◌ {A = Result A RowFault} (Err fault) (Ok y) → Goal
-no_fault fault y e = absurd (let f : ◌≡◌ {A = Result _ RowFault} (Err fault) (Ok y) = e in cc)
+pub no_fault : {A Fault Goal : Type 0} (fault : Fault) (y : A) → ◌≡◌ {A = Result A Fault} (Err fault) (Ok y) → Goal
+no_fault {A} {Fault} fault y e = absurd (let f : ◌≡◌ {A = Result A Fault} (Err fault) (Ok y) = e in cc)
 
 -- a step that gave a value, and the steps after it
-pub step_ok : {A B : Type 0} (read : Result A RowFault) (more : A → Result B RowFault) (y : B) → (read >>= more) ≡ Ok y → (x : A) × (read ≡ Ok x) × (more x ≡ Ok y)
+pub step_ok : {A B Fault : Type 0} (read : Result A Fault) (more : A → Result B Fault) (y : B) → (read >>= more) ≡ Ok y → (x : A) × (read ≡ Ok x) × (more x ≡ Ok y)
 step_ok (Ok x) more y e = (x, refl, e)
 step_ok (Err fault) more y e = no_fault fault y e
+
+-- a field that gave a value, and the steps after it
+pub field_ok : {A B : Type 0} (here : Column) (read : Result A RowFault) (more : A → Result B Misread) (y : B) → (located here read >>= more) ≡ Ok y
+    → (x : A) × (read ≡ Ok x) × (more x ≡ Ok y)
+field_ok here (Ok x) more y e = (x, refl, e)
+field_ok here (Err fault) more y e = no_fault (misread_at here fault) y e
 
 -- what an option gave, or else a fault
 pub ok_some : {A : Type 0} (o : Option A) (fault : RowFault) (x : A) → ok_or o fault ≡ Ok x → o ≡ Some x
@@ -104,22 +112,22 @@ pub empty_is : (text : List ℕ) → empty text ≡ Ok tt → text ≡ []
 empty_is [] e = refl
 empty_is (b ∷ bs) e = no_fault FieldNotForKind tt e
 
--- a value that stands for an empty field was given for one
+-- a value that an empty field means was given for one
 pub unused_is : {A : Type 0} (text : List ℕ) (unused value : A) → (empty text >>= (λ u. Ok unused)) ≡ Ok value → (text ≡ []) × (value ≡ unused)
 unused_is [] unused value e = (refl, sym (same_ok unused value e))
 unused_is (b ∷ bs) unused value e = no_fault FieldNotForKind value e
 
--- for an empty field the value that stands for it is given
+-- for an empty field the value that it means is given
 pub is_unused : {A : Type 0} (text : List ℕ) (unused value : A) → (text ≡ []) × (value ≡ unused) → (empty text >>= (λ u. Ok unused)) ≡ Ok value
 is_unused text unused value h = rw (h.0, h.1) refl
 
--- an argument that is read is what the field holds, or stands for the empty field
+-- an argument that is read is what the field holds, or what an empty field means
 pub argument_holds : (taken : Bool) (text : List ℕ) (n : ℤ) → argument taken text ≡ Ok n → HoldsIf taken (pos 0) HoldsSigned text n
 unfolding argument
 argument_holds true text n e = signed_holds text n e
 argument_holds false text n e = unused_is text (pos 0) n e
 
--- an argument that the field holds, or that stands for the empty field, is read
+-- an argument that the field holds, or that an empty field means, is read
 pub holds_argument : (taken : Bool) (text : List ℕ) (n : ℤ) → HoldsIf taken (pos 0) HoldsSigned text n → argument taken text ≡ Ok n
 unfolding argument
 holds_argument true text n h = holds_signed text n h

@@ -17,10 +17,10 @@ use Rattle.apex_types.specs.declared.record.Who.{Who}
 use Rattle.apex_types.specs.Rising.{RisesFrom}
 use Rattle.record_read.specs.declared.fault.RowFault.TheVariants.{BadWoken}
 use Rattle.record_read.specs.Grammar.{HoldsProcesses, IsNameable, process_text}
-use Rattle.record_read.specs.Woken.{front_of, next_process, pieces_of, process, process_of, processes_behind, rest_of, stands_behind, woken_of}
+use Rattle.record_read.specs.Woken.{front_of, next_process, pieces_of, process, process_of, processes_after, rest_of, is_after, woken_of}
 use Rattle.record_read.proofs.GrammarFields.{found_first, found_map, ok_some, same_ok}
 use Rattle.record_read.proofs.GrammarNumbers.{number_read, number_written}
-use Rattle.record_read.proofs.Pieces.{RisesBehind, rising_behind}
+use Rattle.record_read.proofs.Pieces.{RisesAfter, rising_after}
 
 -- another byte than the separator
 abbrev pub IsOther : ℕ → ℕ → Type 0
@@ -47,15 +47,15 @@ joined_at separator (b ∷ bs) rest e = by (nat_eq b separator) refl e (joined_a
 
 -- digits are other bytes than a separator after them
 digits_lack : (separator : ℕ) (text : List ℕ) → 57 < separator → AllDigits 10 text → All (IsOther separator) text
-digits_lack separator [] behind all = All-nil (IsOther separator)
-digits_lack separator (b ∷ bs) behind all =
+digits_lack separator [] above all = All-nil (IsOther separator)
+digits_lack separator (b ∷ bs) above all =
     let range = digit_from_value b all.0 in
     let high : b ≤ 57 = range.1 in
-    All-cons (IsOther separator) b bs (ne_eqb b separator (λ same. let e : b ≡ separator = same in omega arith)) (digits_lack separator bs behind all.1)
+    All-cons (IsOther separator) b bs (ne_eqb b separator (λ same. let e : b ≡ separator = same in omega arith)) (digits_lack separator bs above all.1)
 
 -- and so is what is written for a number
 written_lacks : (separator n : ℕ) → 57 < separator → n < 2 ^ 64 → All (IsOther separator) (written n)
-written_lacks separator n behind room = digits_lack separator (written n) behind (decimal_is_IsNumeral n room).0.1
+written_lacks separator n above room = digits_lack separator (written n) above (decimal_is_IsNumeral n room).0.1
 
 -- the process of a partition and a number is made of them, and its number is 1 or more
 process_is : (part number : ℕ) (who : Who) → process part number ≡ Some who → (part ≡ who.part) × (number ≡ who.proc) × (1 ≤ who.proc)
@@ -67,7 +67,7 @@ process_is part number who e =
 
 -- a text of a front and a rest, which are the numbers of a process, is the text of the process
 process_written : (text front rest : List ℕ) (who : Who) → text ≡ front ++ 58 ∷ rest → front ≡ written who.part → rest ≡ written who.proc → text ≡ process_text who
-process_written text front rest who joined before behind = joined ∙ rw (before, behind) (sym (append_assoc (written who.part) (codes ":") (written who.proc)))
+process_written text front rest who joined first second = joined ∙ rw (first, second) (sym (append_assoc (written who.part) (codes ":") (written who.proc)))
 
 -- a process that is read from a text has this text, and a list can name it
 process_holds : (text : List ℕ) (who : Who) → process_of text ≡ Some who → (text ≡ process_text who) × IsNameable who
@@ -89,7 +89,7 @@ process_holds text who e =
       },
     )
 
--- no `;` stands in the text of a process
+-- no `;` is in the text of a process
 process_lacks : (who : Who) → IsNameable who → All (IsOther 59) (process_text who)
 process_lacks who h =
     let part : who.part ≤ GREATEST_PARTITION = h.part in
@@ -125,19 +125,19 @@ all_pieces who (next ∷ others) all =
     ∙ ap (λ found. process_text who ∷ found) (all_pieces next others (All-tail IsNameable who (next ∷ others) all))
 
 -- the text of a process that comes after the last names it
-next_is_read : (last : Option Who) (who : Who) (others : List Who) → IsNameable who → RisesBehind last (who ∷ others) → next_process last (process_text who) ≡ Some who
+next_is_read : (last : Option Who) (who : Who) (others : List Who) → IsNameable who → RisesAfter last (who ∷ others) → next_process last (process_text who) ≡ Some who
 unfolding next_process
 next_is_read None who others h rises = rw (holds_process who h) refl
 next_is_read (Some last) who others h rises = rw (holds_process who h, rises.0) refl
 
 -- processes that rise after a last one rise after the first of them
-rises_on : (last : Option Who) (who : Who) (others : List Who) → RisesBehind last (who ∷ others) → RisesFrom who others
+rises_on : (last : Option Who) (who : Who) (others : List Who) → RisesAfter last (who ∷ others) → RisesFrom who others
 rises_on None who others rises = rises
 rises_on (Some last) who others rises = rises.1
 
 -- the texts of processes that rise name them, each after the one before
-are_read : (last : Option Who) (named : List Who) → All IsNameable named → RisesBehind last named → processes_behind last (map process_text named) ≡ Some named
-unfolding processes_behind
+are_read : (last : Option Who) (named : List Who) → All IsNameable named → RisesAfter last named → processes_after last (map process_text named) ≡ Some named
+unfolding processes_after
 are_read last [] all rises = refl
 are_read last (who ∷ others) all rises =
     rw (
@@ -149,20 +149,20 @@ are_read last (who ∷ others) all rises =
 next_holds : (last : Option Who) (text : List ℕ) (who : Who) → next_process last text ≡ Some who → (text ≡ process_text who) × IsNameable who
 unfolding next_process
 next_holds last text who e =
-    let found = found_first (λ w. if stands_behind last w then Some w else None) (process_of text) who e in
-    process_holds text who (found.1 ∙ ap Some (cond_some (stands_behind last found.0) found.0 who found.2).1)
+    let found = found_first (λ w. if is_after last w then Some w else None) (process_of text) who e in
+    process_holds text who (found.1 ∙ ap Some (cond_some (is_after last found.0) found.0 who found.2).1)
 
 -- equal texts before equal ones
 both_same : (one other : List ℕ) (ones others : List (List ℕ)) → one ≡ other → ones ≡ others → one ∷ ones ≡ other ∷ others
 both_same one other ones others e f = cc
 
 -- processes that pieces name have the pieces as their texts
-are_held : (last : Option Who) (texts : List (List ℕ)) (named : List Who) → processes_behind last texts ≡ Some named → (texts ≡ map process_text named) × All IsNameable named
-unfolding processes_behind
+are_held : (last : Option Who) (texts : List (List ℕ)) (named : List Who) → processes_after last texts ≡ Some named → (texts ≡ map process_text named) × All IsNameable named
+unfolding processes_after
 are_held last [] named e = subst (λ found. ([] ≡ map process_text found) × All IsNameable found) (same_Some [] named e) (refl, All-nil IsNameable)
 are_held last (text ∷ texts) named e =
-    let who = found_first (λ w. option_map (λ more. w ∷ more) (processes_behind (Some w) texts)) (next_process last text) named e in
-    let others = found_map (λ more. who.0 ∷ more) (processes_behind (Some who.0) texts) named who.2 in
+    let who = found_first (λ w. option_map (λ more. w ∷ more) (processes_after (Some w) texts)) (next_process last text) named e in
+    let others = found_map (λ more. who.0 ∷ more) (processes_after (Some who.0) texts) named who.2 in
     let first = next_holds last text who.0 who.1 in
     let rest = are_held (Some who.0) texts others.0 others.1 in
     subst (λ found. (text ∷ texts ≡ map process_text found) × All IsNameable found) others.2
@@ -174,12 +174,12 @@ unfolding woken_of
 processes_hold [] named e =
     subst (HoldsProcesses []) (same_ok [] named e) (record { joined = refl; each = All-nil IsNameable; rising = tt })
 processes_hold (b ∷ bs) named e =
-    let read = ok_some (processes_behind None (pieces_of 59 (b ∷ bs))) BadWoken named e in
+    let read = ok_some (processes_after None (pieces_of 59 (b ∷ bs))) BadWoken named e in
     let held = are_held None (pieces_of 59 (b ∷ bs)) named read in
     record {
       joined = sym (join_with_byte-slice_split 59 (b ∷ bs)) ∙ ap (join_with_byte 59) held.0 ∙ texts_joined named;
       each = held.1;
-      rising = rising_behind None (pieces_of 59 (b ∷ bs)) named read;
+      rising = rising_after None (pieces_of 59 (b ∷ bs)) named read;
     }
 
 -- the text of a process is filled
@@ -198,5 +198,5 @@ hold_processes text (who ∷ others) h = by text (h.joined ∙ sym (texts_joined
         let pieces : [] ∷ [] ≡ process_text who ∷ map process_text others = ap (pieces_of 59) joined ∙ all_pieces who others h.each in
         absurd (process_filled who (All-head IsNameable who others h.each) (cc))
     by (b ∷ bs) joined =
-        ap (λ read. ok_or read BadWoken) (ap (processes_behind None) (ap (pieces_of 59) joined ∙ all_pieces who others h.each)
+        ap (λ read. ok_or read BadWoken) (ap (processes_after None) (ap (pieces_of 59) joined ∙ all_pieces who others h.each)
         ∙ are_read None (who ∷ others) h.each h.rising)

@@ -40,7 +40,7 @@ digits_are greatest value (b ∷ bs) n e fits =
     by false small digit is e more = absurd (none-some n e)
     by true false digit is e more = absurd (none-some n e)
 
--- digits are no less than what stands before them
+-- digits are no less than what comes before them
 value_grows : (value : ℕ) (text : List ℕ) → value ≤ digits_value_after 10 value text
 value_grows value [] = omega arith
 value_grows value (b ∷ bs) = omega (arith, value_grows (value * 10 + digit_value b) bs)
@@ -59,7 +59,7 @@ are_digits greatest value (b ∷ bs) all fits =
     let small : value * 10 + digit_value b ≤ greatest = omega (arith, value_grows (value * 10 + digit_value b) bs) in
     rw (le-leb 48 b low, le-leb b 57 high, same, le-leb (value * 10 + digit_value b) greatest small) (are_digits greatest (value * 10 + digit_value b) bs all.1 fits)
 
--- a zero that leads stands alone
+-- a zero that leads is alone
 leads_alone : (b : ℕ) (bs : List ℕ) → ((b == 48) && nat_lt 0 (length bs)) ≡ false → b ≡ 48 → length (b ∷ bs) ≡ 1
 leads_alone b bs none zero_first =
     let is : nat_lt 0 (length bs) ≡ false = subst (λ led. (led && nat_lt 0 (length bs)) ≡ false) (eq-eqb b 48 zero_first) none in

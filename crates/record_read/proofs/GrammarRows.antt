@@ -1,5 +1,5 @@
 -- Whole rows: the reader's steps from left to right give a record exactly where the row is the record's.
-use Rattle.std.proofs.Common.{◌≡◌, ◌+◌, ◌-◌, ◌^◌, ◌<◌, ◌∙◌, ◌≤◌, ℕ, zero, suc, pred, List, [], ◌∷◌, Bool, true, false, Option, Some, None, Result, Ok, Err, length, refl, sym, ap, subst, nat_le, nat_lt, nat_eq, arith, if◌then◌else◌, ◌==◌}
+use Rattle.std.proofs.Common.{◌≡◌, ◌^◌, ◌<◌, ◌∙◌, ◌≤◌, ℕ, pred, List, [], ◌∷◌, map, Bool, true, false, Option, Some, None, Result, Ok, Err, length, refl, sym, ap, subst, nat_le, nat_lt, nat_eq, arith, if◌then◌else◌, ◌==◌}
 use Rattle.std.specs.Prelude.{codes}
 use Rattle.std.specs.Fmt.{decimal}
 use Rattle.std.proofs.lemmas.Bool.{eq-eqb, eqb-true, lt-ltb}
@@ -15,57 +15,49 @@ use Rattle.apex_types.specs.declared.record.Who.{Who}
 use Rattle.apex_types.specs.declared.request.Request.{Request}
 use Rattle.record_read.specs.declared.column.Column.{Column}
 use Rattle.record_read.specs.declared.column.Column.TheVariants as column
-use Rattle.record_read.specs.Column.{place_of}
-use Rattle.record_read.specs.declared.fault.RowFault.{RowFault}
+use Rattle.record_read.specs.Column.{columns_between}
 use Rattle.record_read.specs.declared.fault.RowFault.TheVariants.{FieldCount, SeqGap, TooMany}
+use Rattle.record_read.specs.declared.misread.Misread.{Misread}
 use Rattle.apex_types.specs.declared.format.Format.{Format}
 use Rattle.record_read.specs.declared.kind.Kind.{Kind}
 use Rattle.record_read.specs.declared.kind.Kind.TheVariants as kind
 use Rattle.apex_types.specs.Services.{arguments_of}
 use Rattle.apex_types.specs.Arguments.{request_of}
-use Rattle.record_read.specs.Field.{all_empty, bytes_at, empty, empty_between, maybe_number, text_at}
+use Rattle.record_read.specs.Field.{all_empty, empty, empty_between, maybe_number, text_at}
 use Rattle.apex_types.specs.Format.{field_count}
 use Rattle.record_read.specs.Grammar.{AreEmpty, Dispatches, HoldsClaim, HoldsNumber, HoldsRequest, IsRow, IsRowOf, IsRowOfCall, IsRowOfDispatch, IsRowOfReturn, IsRowOfTick, NamesProcess}
 use Rattle.record_read.specs.GrammarLaws.{OneRecordOfARow, RowsAreTheGrammar}
 use Rattle.record_read.specs.Named.{kind_name}
-use Rattle.record_read.specs.Row.{body_in, call_in, claim_in, dispatch_in, proc_of, record_of, request_in, return_in, tick_in, who_in}
-use Rattle.record_read.proofs.GrammarFields.{argument_holds, empty_is, holds_argument, holds_maybe_number, holds_maybe_signed, holds_number, maybe_number_holds, maybe_signed_holds, no_fault, number_holds, same_ok, step_ok, test_ok}
+use Rattle.record_read.specs.Row.{body_in, call_in, claim_in, dispatch_in, proc_of, record_of, request_in, return_in, row_in, tick_in, who_in}
+use Rattle.record_read.specs.Steps.{fault_only, no_field}
+use Rattle.record_read.proofs.GrammarFields.{argument_holds, empty_is, field_ok, holds_argument, holds_maybe_number, holds_maybe_signed, holds_number, maybe_number_holds, maybe_signed_holds, no_fault, number_holds, same_ok, step_ok, test_ok}
 use Rattle.record_read.proofs.GrammarLists.{hold_processes, processes_hold}
 use Rattle.record_read.proofs.GrammarNames.{code_is, is_code, is_kind, is_outcome, is_service, kind_is, outcome_is, service_is}
 use Rattle.record_read.proofs.GrammarTexts.{data_holds, holds_data, holds_message, holds_name, message_holds, name_holds}
 
--- so many fields from this place on
-abbrev pub texts_from : Fields → ℕ → ℕ → List (List ℕ)
-texts_from fields place zero = []
-texts_from fields place (suc n) = bytes_at fields place ∷ texts_from fields (suc place) n
-
 -- fields without a fault that must be empty are empty
-pub all_are_empty : (fields : Fields) (place count : ℕ) → all_empty fields place count ≡ Ok tt → AreEmpty (texts_from fields place count)
+all_are_empty : (fields : Fields) (columns : List Column) → all_empty fields columns ≡ Ok tt → AreEmpty (map (text_at fields) columns)
 unfolding all_empty
-all_are_empty fields place zero e = tt
-all_are_empty fields place (suc n) e =
-    let s = step_ok (empty (bytes_at fields place)) (λ u. all_empty fields (suc place) n) tt e in
-    (empty_is (bytes_at fields place) s.1, all_are_empty fields (suc place) n s.2)
+all_are_empty fields [] e = tt
+all_are_empty fields (first ∷ others) e =
+    let s = field_ok first (empty (text_at fields first)) (λ u. all_empty fields others) tt e in
+    (empty_is (text_at fields first) s.1, all_are_empty fields others s.2)
 
 -- empty fields have no fault where they must be empty
-pub are_all_empty : (fields : Fields) (place count : ℕ) → AreEmpty (texts_from fields place count) → all_empty fields place count ≡ Ok tt
+are_all_empty : (fields : Fields) (columns : List Column) → AreEmpty (map (text_at fields) columns) → all_empty fields columns ≡ Ok tt
 unfolding all_empty
-are_all_empty fields place zero h = refl
-are_all_empty fields place (suc n) h = rw h.0 (are_all_empty fields (suc place) n h.1)
+are_all_empty fields [] h = refl
+are_all_empty fields (first ∷ others) h = rw h.0 (are_all_empty fields others h.1)
 
--- the texts from one column to another
-abbrev pub texts_between : Fields → Column → Column → List (List ℕ)
-texts_between fields first last = texts_from fields (place_of first) (place_of last + 1 - place_of first)
-
-are_empty_between : (fields : Fields) (first last : Column) → AreEmpty (texts_between fields first last) → empty_between fields first last ≡ Ok tt
-are_empty_between fields first last = are_all_empty fields (place_of first) (place_of last + 1 - place_of first)
+are_empty_between : (fields : Fields) (first last : Column) → AreEmpty (map (text_at fields) (columns_between first last)) → empty_between fields first last ≡ Ok tt
+are_empty_between fields first last = are_all_empty fields (columns_between first last)
 
 -- a process that is read is the one that the row names
 who_is : (fields : Fields) (who : Who) → who_in fields ≡ Ok who → NamesProcess (text_at fields) who
 unfolding who_in
 who_is fields who e =
-    let part = step_ok _ _ who e in
-    let proc = step_ok _ _ who part.2 in
+    let part = field_ok _ _ _ who e in
+    let proc = field_ok _ _ _ who part.2 in
     subst (NamesProcess (text_at fields)) (same_ok (record { part = part.0; proc = proc.0 }) who proc.2) (record {
       part = number_holds GREATEST_PARTITION (text_at fields column.Partition) part.0 (omega arith) part.1;
       proc = number_holds GREATEST_NUMBER (text_at fields column.Process) proc.0 (omega arith) proc.1;
@@ -80,12 +72,12 @@ is_who fields who h = rw (holds_number GREATEST_PARTITION (text_at fields column
 request_is : (format : Format) (fields : Fields) (request : Request) → request_in format fields ≡ Ok request → HoldsRequest format (text_at fields) request
 unfolding request_in
 request_is format fields request e =
-    let service = step_ok _ _ request e in
-    let n1 = step_ok _ _ request service.2 in
-    let n2 = step_ok _ _ request n1.2 in
-    let n3 = step_ok _ _ request n2.2 in
-    let name = step_ok _ _ request n3.2 in
-    let message = step_ok _ _ request name.2 in
+    let service = field_ok _ _ _ request e in
+    let n1 = field_ok _ _ _ request service.2 in
+    let n2 = field_ok _ _ _ request n1.2 in
+    let n3 = field_ok _ _ _ request n2.2 in
+    let name = field_ok _ _ _ request n3.2 in
+    let message = field_ok _ _ _ request name.2 in
     let takes = arguments_of service.0 in
     record {
       service = service.0;
@@ -121,14 +113,14 @@ is_request format fields request h =
 claim_is : (fields : Fields) (claim : Claim) → claim_in fields ≡ Ok claim → HoldsClaim (text_at fields) claim
 unfolding claim_in
 claim_is fields claim e =
-    let prio = step_ok _ _ claim e in
-    let out = step_ok _ _ claim prio.2 in
-    let val = step_ok _ _ claim out.2 in
-    let bytes = step_ok _ _ claim val.2 in
-    let chan = step_ok _ _ claim bytes.2 in
-    let woken = step_ok _ _ claim chan.2 in
-    let val2 = step_ok _ _ claim woken.2 in
-    let val3 = step_ok _ _ claim val2.2 in
+    let prio = field_ok _ _ _ claim e in
+    let out = field_ok _ _ _ claim prio.2 in
+    let val = field_ok _ _ _ claim out.2 in
+    let bytes = field_ok _ _ _ claim val.2 in
+    let chan = field_ok _ _ _ claim bytes.2 in
+    let woken = field_ok _ _ _ claim chan.2 in
+    let val2 = field_ok _ _ _ claim woken.2 in
+    let val3 = field_ok _ _ _ claim val2.2 in
     subst (HoldsClaim (text_at fields))
     (same_ok (record { prio = prio.0; out = out.0; val = val.0; val2 = val2.0; val3 = val3.0; bytes = bytes.0; chan = chan.0; woken = woken.0 }) claim val3.2) (record {
       prio = number_holds GREATEST_PRIORITY (text_at fields column.Priority) prio.0 (omega arith) prio.1;
@@ -182,14 +174,14 @@ return_is : (format : Format) (fields : Fields) (ret : Return) → text_at field
 unfolding return_in
 return_is format fields ret named e =
     let who = step_ok _ _ ret e in
-    let service = step_ok _ _ ret who.2 in
+    let service = field_ok _ _ _ ret who.2 in
     let unused = step_ok _ _ ret service.2 in
-    let code = step_ok _ _ ret unused.2 in
-    let val = step_ok _ _ ret code.2 in
-    let bytes = step_ok _ _ ret val.2 in
+    let code = field_ok _ _ _ ret unused.2 in
+    let val = field_ok _ _ _ ret code.2 in
+    let bytes = field_ok _ _ _ ret val.2 in
     let unused_too = step_ok _ _ ret bytes.2 in
-    let val2 = step_ok _ _ ret unused_too.2 in
-    let val3 = step_ok _ _ ret val2.2 in
+    let val2 = field_ok _ _ _ ret unused_too.2 in
+    let val3 = field_ok _ _ _ ret val2.2 in
     subst (IsRowOfReturn format (text_at fields))
     (same_ok (record { who = who.0; service = service.0; code = code.0; val = val.0; val2 = val2.0; val3 = val3.0; bytes = bytes.0 }) ret val3.2) (record {
       kind = named;
@@ -200,8 +192,8 @@ return_is format fields ret named e =
       val2 = maybe_signed_holds (text_at fields column.SecondValue) val2.0 val2.1;
       val3 = maybe_signed_holds (text_at fields column.ThirdValue) val3.0 val3.1;
       bytes = data_holds (text_at fields column.Data) bytes.0 bytes.1;
-      unused = all_are_empty fields _ _ unused.1;
-      unused_too = all_are_empty fields _ _ unused_too.1;
+      unused = all_are_empty fields _ unused.1;
+      unused_too = all_are_empty fields _ unused_too.1;
     })
 
 -- the row of a return is read as the return
@@ -237,13 +229,13 @@ proc_is fields (Some part) who p e =
 dispatch_is : (fields : Fields) (who : Option Who) → text_at fields column.Kind ≡ codes "disp" → dispatch_in fields ≡ Ok who → IsRowOfDispatch (text_at fields) who
 unfolding dispatch_in
 dispatch_is fields who named e =
-    let part = step_ok _ _ who e in
-    let found = step_ok _ _ who part.2 in
+    let part = field_ok _ _ _ who e in
+    let found = field_ok _ _ _ who part.2 in
     let unused = step_ok _ _ who found.2 in
     subst (IsRowOfDispatch (text_at fields)) (same_ok found.0 who unused.2) (record {
       kind = named;
       process = proc_is fields part.0 found.0 part.1 found.1;
-      unused = all_are_empty fields _ _ unused.1;
+      unused = all_are_empty fields _ unused.1;
     })
 
 -- the row of a dispatch is read as the dispatch
@@ -263,13 +255,13 @@ tick_is : (fields : Fields) (named : List Who) → text_at fields column.Kind �
 unfolding tick_in
 tick_is fields named is e =
     let unused = step_ok _ _ named e in
-    let woken = step_ok _ _ named unused.2 in
+    let woken = field_ok _ _ _ named unused.2 in
     let unused_too = step_ok _ _ named woken.2 in
     subst (IsRowOfTick (text_at fields)) (same_ok woken.0 named unused_too.2) (record {
       kind = is;
       woken = processes_hold (text_at fields column.Woken) woken.0 woken.1;
-      unused = all_are_empty fields _ _ unused.1;
-      unused_too = all_are_empty fields _ _ unused_too.1;
+      unused = all_are_empty fields _ unused.1;
+      unused_too = all_are_empty fields _ unused_too.1;
     })
 
 -- the row of a tick is read as the tick
@@ -304,20 +296,20 @@ is_body format fields (body.Disp who) h = (kind.Disp, h.kind, rw (is_dispatch fi
 is_body format fields (body.Tick named) h = (kind.Tick, h.kind, rw (is_tick fields named h) refl)
 
 -- a test that let a value through
-test_then : {A : Type 0} (test : Bool) (fault : RowFault) (read : Result A RowFault) (y : A) → (if test then read else Err fault) ≡ Ok y → (test ≡ true) × (read ≡ Ok y)
+test_then : {A Fault : Type 0} (test : Bool) (fault : Fault) (read : Result A Fault) (y : A) → (if test then read else Err fault) ≡ Ok y → (test ≡ true) × (read ≡ Ok y)
 test_then true fault read y e = (refl, e)
 test_then false fault read y e = no_fault fault y e
 
 -- a row that is read as a record is its row
-row_is : (format : Format) (next : ℕ) (fields : Fields) (rec : Record) → record_of format next fields ≡ Ok rec → IsRow format next fields rec
-unfolding record_of
+row_is : (format : Format) (next : ℕ) (fields : Fields) (rec : Record) → row_in format next fields ≡ Ok rec → IsRow format next fields rec
+unfolding row_in
 row_is format next fields rec e =
     let small : pred MOST_RECORDS < 2 ^ 64 = omega arith in
-    let room = test_then (nat_lt next MOST_RECORDS) TooMany _ rec e in
-    let count = test_then (length fields == field_count format) FieldCount _ rec room.1 in
-    let given = step_ok _ _ rec count.1 in
-    let seq = step_ok _ _ rec given.2 in
-    let k = step_ok _ _ rec seq.2 in
+    let room = test_then (nat_lt next MOST_RECORDS) (no_field TooMany) _ rec e in
+    let count = test_then (length fields == field_count format) (no_field FieldCount) _ rec room.1 in
+    let given = field_ok _ _ _ rec count.1 in
+    let seq = field_ok _ _ _ rec given.2 in
+    let k = field_ok _ _ _ rec seq.2 in
     let found = step_ok _ _ rec k.2 in
     let test = test_ok (nat_eq given.0 next) SeqGap given.0 seq.0 seq.1 in
     let number = number_holds (pred MOST_RECORDS) (text_at fields column.Sequence) given.0 small given.1 in
@@ -331,8 +323,8 @@ row_is format next fields rec e =
     })
 
 -- the row of a record is read as the record
-is_row : (format : Format) (next : ℕ) (fields : Fields) (rec : Record) → IsRow format next fields rec → record_of format next fields ≡ Ok rec
-unfolding record_of
+is_row : (format : Format) (next : ℕ) (fields : Fields) (rec : Record) → IsRow format next fields rec → row_in format next fields ≡ Ok rec
+unfolding row_in
 is_row format next fields rec h =
     let b = is_body format fields rec.body h.body in
     let bound : rec.seq < MOST_RECORDS = h.bound in
@@ -346,10 +338,21 @@ is_row format next fields rec h =
       b.2,
     ) refl
 
+-- a value, whatever is said of faults
+value_only : {A : Type 0} (read : Result A Misread) (x : A) → fault_only read ≡ Ok x → read ≡ Ok x
+value_only (Ok y) x e = ap Ok (same_ok y x e)
+value_only (Err misread) x e = no_fault misread.fault x e
+
 -- a row is read as a record exactly where it is the record's row
 pub rows_are_the_grammar : RowsAreTheGrammar
-rows_are_the_grammar format next fields rec = (row_is format next fields rec, is_row format next fields rec)
+unfolding record_of
+rows_are_the_grammar format next fields rec = (
+  (λ e. row_is format next fields rec (value_only (row_in format next fields) rec e)),
+  (λ h. ap fault_only (is_row format next fields rec h)),
+)
 
 -- so a row is the row of at most one record
 pub one_record_of_a_row : OneRecordOfARow
-one_record_of_a_row format next fields rec other h k = same_ok rec other (sym (is_row format next fields rec h) ∙ is_row format next fields other k)
+one_record_of_a_row format next fields rec other h k =
+    let first : row_in format next fields ≡ Ok rec = is_row format next fields rec h in
+    same_ok rec other (sym first ∙ is_row format next fields other k)

@@ -33,14 +33,14 @@ is_name : (text name : List ℕ) → HoldsName text name → name_of text ≡ Ok
 unfolding name_of
 is_name text name h = rw (le-leb (length text) LONGEST_NAME h.short, list_all-from_AllPass is_printable text h.printable, h.is) refl
 
--- a name that is read is what the field holds, or stands for the empty field
+-- a name that is read is what the field holds, or what an empty field means
 pub name_holds : (taken : Bool) (text name : List ℕ) → name_in taken text ≡ Ok name → HoldsIf taken [] HoldsName text name
 unfolding name_in
 name_holds true [] name e = no_fault FieldNotForKind name e
 name_holds true (b ∷ bs) name e = name_is (b ∷ bs) name (λ none. cc) e
 name_holds false text name e = unused_is text [] name e
 
--- a name that the field holds, or that stands for the empty field, is read
+-- a name that the field holds, or that an empty field means, is read
 pub holds_name : (taken : Bool) (text name : List ℕ) → HoldsIf taken [] HoldsName text name → name_in taken text ≡ Ok name
 unfolding name_in
 holds_name true [] name h = absurd (h.filled refl)
@@ -86,14 +86,14 @@ bytes_are test text bytes e =
     let t = test_ok (test (length s.0)) BadLength s.0 bytes s.2 in
     (hex_is (decode_of text) s.0 s.1 ∙ ap Ok t.1, subst (λ given. test (length given) ≡ true) t.1 t.0)
 
--- a message that is read is what the field holds, or stands for the empty field
+-- a message that is read is what the field holds, or what an empty field means
 pub message_holds : (taken : Bool) (len : ℤ) (text bytes : List ℕ) → message_in taken len text ≡ Ok bytes → HoldsIf taken [] (HoldsMessage len) text bytes
 unfolding message_in message_of
 message_holds true len text bytes e =
     let read = bytes_are (goes_with len) text bytes e in record { digits = read.0; count = (length_decides len (length bytes)).0 read.1 }
 message_holds false len text bytes e = unused_is text [] bytes e
 
--- a message that the field holds, or that stands for the empty field, is read
+-- a message that the field holds, or that an empty field means, is read
 pub holds_message : (taken : Bool) (len : ℤ) (text bytes : List ℕ) → HoldsIf taken [] (HoldsMessage len) text bytes → message_in taken len text ≡ Ok bytes
 unfolding message_in message_of
 holds_message true len text bytes h = rw (h.digits, (length_decides len (length bytes)).1 h.count) refl

@@ -1,5 +1,4 @@
 pub mod Lengths
-pub mod Empty
 pub mod FirstFaults
 pub mod GrammarFields
 pub mod GrammarLists

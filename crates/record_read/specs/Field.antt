@@ -1,13 +1,14 @@
 -- Fields of a row: filled or empty, and numbers.
-use Rattle.std.specs.Prelude.{ℕ, zero, suc, ◌+◌, ◌-◌, ℤ, pos, List, [], ◌∷◌, Bool, true, false, Option, Some, None, Result, Ok, Err}
+use Rattle.std.specs.Prelude.{ℕ, ℤ, pos, List, [], ◌∷◌, Bool, true, false, Option, Some, None, Result, Ok, Err}
 use Rattle.std.specs.Option.{ok_or, unwrap_or}
 use Rattle.csv.specs.Records.{field_at}
 use Rattle.csv_rows.specs.Decimal.{decimal, signed_decimal}
-use Rattle.record_read.specs.Column.{place_of}
+use Rattle.record_read.specs.Column.{columns_between, place_of}
 use Rattle.record_read.specs.declared.column.Column.{Column}
 use Rattle.record_read.specs.declared.fault.RowFault.{RowFault}
 use Rattle.record_read.specs.declared.fault.RowFault.TheVariants.{FieldNotForKind, BadNumber}
-use Rattle.record_read.specs.Steps.{◌>>=◌}
+use Rattle.record_read.specs.declared.misread.Misread.{Misread}
+use Rattle.record_read.specs.Steps.{◌>>=◌, located}
 
 -- the bytes of the field at this place
 abbrev pub bytes_at : List (List ℕ) → ℕ → List ℕ
@@ -17,19 +18,23 @@ bytes_at fields place = unwrap_or (field_at fields place) []
 abbrev pub text_at : List (List ℕ) → Column → List ℕ
 text_at fields column = bytes_at fields (place_of column)
 
+-- what is read from the text of a column, whose fault is at that column
+abbrev pub read_at : {A : Type 0} → (List ℕ → Result A RowFault) → List (List ℕ) → Column → Result A Misread
+read_at read fields column = located column (read (text_at fields column))
+
 -- a field that must be empty
 abbrev pub empty : List ℕ → Result (Unit {0}) RowFault
 empty [] = Ok tt
 empty (b ∷ bs) = Err FieldNotForKind
 
--- so many fields from this place on, which must be empty
-unfoldable pub all_empty : List (List ℕ) → ℕ → ℕ → Result (Unit {0}) RowFault
-all_empty fields place zero = Ok tt
-all_empty fields place (suc n) = empty (bytes_at fields place) >>= (λ u. all_empty fields (suc place) n)
+-- the fields of these columns, which must be empty
+unfoldable pub all_empty : List (List ℕ) → List Column → Result (Unit {0}) Misread
+all_empty fields [] = Ok tt
+all_empty fields (first ∷ others) = read_at empty fields first >>= (λ u. all_empty fields others)
 
 -- the fields from one column to another, which must be empty
-abbrev pub empty_between : List (List ℕ) → Column → Column → Result (Unit {0}) RowFault
-empty_between fields first last = all_empty fields (place_of first) (place_of last + 1 - place_of first)
+abbrev pub empty_between : List (List ℕ) → Column → Column → Result (Unit {0}) Misread
+empty_between fields first last = all_empty fields (columns_between first last)
 
 -- a field that must be filled: what is found in its text, or else this fault
 unfoldable pub filled : {A : Type 0} → RowFault → Option A → List ℕ → Result A RowFault
@@ -57,7 +62,7 @@ signed text = filled BadNumber (signed_decimal text) text
 unfoldable pub maybe_signed : List ℕ → Result (Option ℤ) RowFault
 maybe_signed text = maybe (signed text) text
 
--- an argument: filled where the service takes it, and else empty, for which 0 stands
+-- an argument: filled where the service takes it, and else empty, which means 0
 unfoldable pub argument : Bool → List ℕ → Result ℤ RowFault
 argument true text = signed text
 argument false text = empty text >>= (λ u. Ok (pos 0))

@@ -101,7 +101,7 @@ pub record HoldsProcesses (text : List ℕ) (named : List Who) : Type 0 where
 
 -- what a row holds
 
--- a row is the text of each column; in format 1 it has no second and no third value, for which the empty text stands
+-- a row is the text of each column; in format 1 it has no second and no third value, and the empty text means that
 abbrev pub Row : Type 0
 Row = Column → List ℕ
 
@@ -110,12 +110,12 @@ abbrev pub AreEmpty : List (List ℕ) → Type 0
 AreEmpty [] = Unit {0}
 AreEmpty (text ∷ texts) = (text ≡ []) × AreEmpty texts
 
--- where a service takes a value the field holds it; else the field is empty, and the unused value stands for it
+-- where a service takes a value the field holds it; else the field is empty, which means the unused value
 abbrev pub HoldsIf : {A : Type 0} → Bool → A → (List ℕ → A → Type 0) → List ℕ → A → Type 0
 HoldsIf true unused Holds text value = Holds text value
 HoldsIf false unused Holds text value = (text ≡ []) × (value ≡ unused)
 
--- the first, second or third of a service's numbers; 0 stands for one that it doesn't take
+-- the first, second or third of a service's numbers; one that it doesn't take is 0
 abbrev pub HoldsArgument : Service → ℕ → List ℕ → ℤ → Type 0
 HoldsArgument service place text number = HoldsIf (nat_le place (arguments_of service).numbers) (pos 0) HoldsSigned text number
 

@@ -18,49 +18,50 @@ use Rattle.record_read.specs.declared.kind.Kind.{Kind}
 use Rattle.record_read.specs.declared.kind.Kind.TheVariants as kind
 use Rattle.record_read.specs.declared.fault.RowFault.{RowFault}
 use Rattle.record_read.specs.declared.fault.RowFault.TheVariants.{TooMany, FieldCount, SeqGap}
+use Rattle.record_read.specs.declared.misread.Misread.{Misread}
 use Rattle.apex_types.specs.Services.{arguments_of}
 use Rattle.apex_types.specs.Arguments.{request_of}
-use Rattle.record_read.specs.Field.{argument, empty, empty_between, maybe_number, maybe_signed, number, text_at}
+use Rattle.record_read.specs.Field.{argument, empty, empty_between, maybe_number, maybe_signed, number, read_at}
 use Rattle.apex_types.specs.Format.{field_count}
 use Rattle.record_read.specs.Format.{format_of}
 use Rattle.record_read.specs.Named.{code_of, kind_of, out_of, service_of}
 use Rattle.record_read.specs.Payload.{maybe_message, message_in, name_in}
-use Rattle.record_read.specs.Steps.{◌>>=◌}
+use Rattle.record_read.specs.Steps.{◌>>=◌, fault_only, located, no_field}
 use Rattle.record_read.specs.Woken.{woken_of}
 
 -- the process of a call or a return
-unfoldable pub who_in : Fields → Result Who RowFault
+unfoldable pub who_in : Fields → Result Who Misread
 who_in fields = do
-  part ← number GREATEST_PARTITION (text_at fields column.Partition)
-  proc ← number GREATEST_NUMBER (text_at fields column.Process)
+  part ← read_at (number GREATEST_PARTITION) fields column.Partition
+  proc ← read_at (number GREATEST_NUMBER) fields column.Process
   Ok (record { part = part; proc = proc })
 
--- the request of a call: the service, which stands in the format, and just the arguments that it takes
-unfoldable pub request_in : Format → Fields → Result Request RowFault
+-- the request of a call: the service, which is one of the format, and just the arguments that it takes
+unfoldable pub request_in : Format → Fields → Result Request Misread
 request_in format fields = do
-  service ← service_of format (text_at fields column.Service)
-  n1 ← argument (nat_le 1 (arguments_of service).numbers) (text_at fields column.FirstNumber)
-  n2 ← argument (nat_le 2 (arguments_of service).numbers) (text_at fields column.SecondNumber)
-  n3 ← argument (nat_le 3 (arguments_of service).numbers) (text_at fields column.ThirdNumber)
-  name ← name_in (arguments_of service).name (text_at fields column.Name)
-  message ← message_in (arguments_of service).message n2 (text_at fields column.Message)
+  service ← read_at (service_of format) fields column.Service
+  n1 ← read_at (argument (nat_le 1 (arguments_of service).numbers)) fields column.FirstNumber
+  n2 ← read_at (argument (nat_le 2 (arguments_of service).numbers)) fields column.SecondNumber
+  n3 ← read_at (argument (nat_le 3 (arguments_of service).numbers)) fields column.ThirdNumber
+  name ← read_at (name_in (arguments_of service).name) fields column.Name
+  message ← read_at (message_in (arguments_of service).message n2) fields column.Message
   Ok (request_of service n1 n2 n3 name message)
 
 -- what a call claims
-unfoldable pub claim_in : Fields → Result Claim RowFault
+unfoldable pub claim_in : Fields → Result Claim Misread
 claim_in fields = do
-  prio ← number GREATEST_PRIORITY (text_at fields column.Priority)
-  out ← out_of (text_at fields column.Outcome)
-  val ← maybe_signed (text_at fields column.Value)
-  bytes ← maybe_message (text_at fields column.Data)
-  chan ← maybe_number GREATEST_CHANNEL (text_at fields column.Channel)
-  woken ← woken_of (text_at fields column.Woken)
-  val2 ← maybe_signed (text_at fields column.SecondValue)
-  val3 ← maybe_signed (text_at fields column.ThirdValue)
+  prio ← read_at (number GREATEST_PRIORITY) fields column.Priority
+  out ← read_at out_of fields column.Outcome
+  val ← read_at maybe_signed fields column.Value
+  bytes ← read_at maybe_message fields column.Data
+  chan ← read_at (maybe_number GREATEST_CHANNEL) fields column.Channel
+  woken ← read_at woken_of fields column.Woken
+  val2 ← read_at maybe_signed fields column.SecondValue
+  val3 ← read_at maybe_signed fields column.ThirdValue
   Ok (record { prio = prio; out = out; val = val; val2 = val2; val3 = val3; bytes = bytes; chan = chan; woken = woken })
 
 -- a call
-unfoldable pub call_in : Format → Fields → Result Call RowFault
+unfoldable pub call_in : Format → Fields → Result Call Misread
 call_in format fields = do
   who ← who_in fields
   request ← request_in format fields
@@ -68,17 +69,17 @@ call_in format fields = do
   Ok (record { who = who; request = request; claim = claim })
 
 -- a return: its service without arguments, and a code
-unfoldable pub return_in : Format → Fields → Result Return RowFault
+unfoldable pub return_in : Format → Fields → Result Return Misread
 return_in format fields = do
   who ← who_in fields
-  service ← service_of format (text_at fields column.Service)
+  service ← read_at (service_of format) fields column.Service
   unused ← empty_between fields column.FirstNumber column.Priority
-  code ← code_of (text_at fields column.Outcome)
-  val ← maybe_signed (text_at fields column.Value)
-  bytes ← maybe_message (text_at fields column.Data)
+  code ← read_at code_of fields column.Outcome
+  val ← read_at maybe_signed fields column.Value
+  bytes ← read_at maybe_message fields column.Data
   unused_too ← empty_between fields column.Channel column.Woken
-  val2 ← maybe_signed (text_at fields column.SecondValue)
-  val3 ← maybe_signed (text_at fields column.ThirdValue)
+  val2 ← read_at maybe_signed fields column.SecondValue
+  val3 ← read_at maybe_signed fields column.ThirdValue
   Ok (record { who = who; service = service; code = code; val = val; val2 = val2; val3 = val3; bytes = bytes })
 
 -- the process of a dispatch: with its partition, or neither
@@ -87,46 +88,51 @@ proc_of None text = empty text >>= (λ u. Ok None)
 proc_of (Some part) text = number GREATEST_NUMBER text >>= (λ proc. Ok (Some (record { part = part; proc = proc })))
 
 -- a dispatch of a process, or of none
-unfoldable pub dispatch_in : Fields → Result (Option Who) RowFault
+unfoldable pub dispatch_in : Fields → Result (Option Who) Misread
 dispatch_in fields = do
-  part ← maybe_number GREATEST_PARTITION (text_at fields column.Partition)
-  who ← proc_of part (text_at fields column.Process)
+  part ← read_at (maybe_number GREATEST_PARTITION) fields column.Partition
+  who ← read_at (proc_of part) fields column.Process
   unused ← empty_between fields column.Service column.ThirdValue
   Ok who
 
 -- a tick, with the processes whose wait ends
-unfoldable pub tick_in : Fields → Result (List Who) RowFault
+unfoldable pub tick_in : Fields → Result (List Who) Misread
 tick_in fields = do
   unused ← empty_between fields column.Partition column.Channel
-  woken ← woken_of (text_at fields column.Woken)
+  woken ← read_at woken_of fields column.Woken
   unused_too ← empty_between fields column.SecondValue column.ThirdValue
   Ok woken
 
 -- what a row of this kind records, in a recording of this format
-unfoldable pub body_in : Format → Kind → Fields → Result Body RowFault
+unfoldable pub body_in : Format → Kind → Fields → Result Body Misread
 body_in format kind.Call fields = call_in format fields >>= (λ call. Ok (body.Call call))
 body_in format kind.Ret fields = return_in format fields >>= (λ ret. Ok (body.Ret ret))
 body_in format kind.Disp fields = dispatch_in fields >>= (λ who. Ok (body.Disp who))
 body_in format kind.Tick fields = tick_in fields >>= (λ woken. Ok (body.Tick woken))
 
--- the row of this number, from 0, in a recording of this format; a recording has at most 4,294,967,295 rows
-unfoldable pub record_of : Format → ℕ → Fields → Result Record RowFault
-record_of format next fields = if nat_lt next MOST_RECORDS then (if length fields == field_count format then (do
-  given ← number (MOST_RECORDS - 1) (text_at fields column.Sequence)
-  seq ← if nat_eq given next then Ok given else Err SeqGap
-  kind ← kind_of (text_at fields column.Kind)
+-- the row of this number, from 0, in a recording of this format: its record, or its first fault with the column of the field that
+-- has it; a recording has at most 4,294,967,295 rows
+unfoldable pub row_in : Format → ℕ → Fields → Result Record Misread
+row_in format next fields = if nat_lt next MOST_RECORDS then (if length fields == field_count format then (do
+  given ← read_at (number (MOST_RECORDS - 1)) fields column.Sequence
+  seq ← located column.Sequence (if nat_eq given next then Ok given else Err SeqGap)
+  kind ← read_at kind_of fields column.Kind
   body ← body_in format kind fields
-  Ok (record { seq = seq; body = body })) else Err FieldCount) else Err TooMany
+  Ok (record { seq = seq; body = body })) else Err (no_field FieldCount)) else Err (no_field TooMany)
+
+-- the same, where of a fault only its cause is reported
+unfoldable pub record_of : Format → ℕ → Fields → Result Record RowFault
+record_of format next fields = fault_only (row_in format next fields)
 
 -- a record, or why a row is none
 abbrev pub Item : Type 0
 Item = Result Record RowFault
 
--- the records of a text: its rows are all of the format that the first of them tells
+-- the records of a text: its rows are all of the format that the first of them gives
 abbrev pub records_of : List ℕ → List Item
 records_of text = items_of (record_of (format_of (rows_of text))) text
 
 -- the records of the rows that are left, the first of this number: they are of the format that is known, or, where no row was read
--- yet, of the one that the first of them tells
+-- yet, of the one that the first of them gives
 abbrev pub records_left : Option Format → ℕ → List Fields → List Item
 records_left known number rows = items_from (record_of (unwrap_or known (format_of rows))) number rows

@@ -1,13 +1,33 @@
 -- Steps of reading a row, the first fault of which decides.
-use Rattle.std.specs.Prelude.{◌≡◌, ◌⊎◌, Bool, true, Result, Ok, Err, IsOkAnd}
+use Rattle.std.specs.Prelude.{◌≡◌, ◌⊎◌, Bool, true, Option, Some, None, Result, Ok, Err, IsOkAnd}
+use Rattle.record_read.specs.declared.column.Column.{Column}
 use Rattle.record_read.specs.declared.fault.RowFault.{RowFault}
 use Rattle.record_read.specs.declared.fault.RowFault.TheVariants.{Read, Memory, Ended}
+use Rattle.record_read.specs.declared.misread.Misread.{Misread}
 
 infixl 10 ◌>>=◌
 -- the first fault decides
-abbrev pub ◌>>=◌ : {A B : Type 0} → Result A RowFault → (A → Result B RowFault) → Result B RowFault
+abbrev pub ◌>>=◌ : {A B Fault : Type 0} → Result A Fault → (A → Result B Fault) → Result B Fault
 (Ok x) >>= f = f x
 (Err e) >>= f = Err e
+
+-- a fault of the field of a column
+abbrev pub misread_at : Column → RowFault → Misread
+misread_at column fault = record { fault = fault; column = Some column }
+
+-- what was read in the field of a column: its fault is at that column
+abbrev pub located : {A : Type 0} → Column → Result A RowFault → Result A Misread
+located column (Ok x) = Ok x
+located column (Err fault) = Err (misread_at column fault)
+
+-- a fault of no one field
+abbrev pub no_field : RowFault → Misread
+no_field fault = record { fault = fault; column = None }
+
+-- what was read, and of a fault only what it is
+abbrev pub fault_only : {A : Type 0} → Result A Misread → Result A RowFault
+fault_only (Ok x) = Ok x
+fault_only (Err misread) = Err misread.fault
 
 -- a fault of which the text says nothing: the failure of a source that can fail, or want of memory
 abbrev pub IsOutside : Bool → RowFault → Type 0
@@ -23,3 +43,7 @@ IsOfRow _ = Unit {0}
 -- a refusal: the text has this fault; or it has none, and memory was refused for a value that needs some
 abbrev pub Refuses : {A : Type 0} → (A → Type 0) → RowFault → Result A RowFault → Type 0
 Refuses needs fault read = (IsOfRow fault × (read ≡ Err fault)) ⊎ ((fault ≡ Memory) × IsOkAnd read needs)
+
+-- the same, with the column of the fault
+abbrev pub RefusesAt : {A : Type 0} → (A → Type 0) → Misread → Result A Misread → Type 0
+RefusesAt needs misread read = (IsOfRow misread.fault × (read ≡ Err misread)) ⊎ ((misread ≡ no_field Memory) × IsOkAnd read needs)

@@ -35,24 +35,24 @@ process_of text =
     (rest_of 58 text)
 
 -- whether a process comes after the last, if there is one
-abbrev pub stands_behind : Option Who → Who → Bool
-stands_behind None who = true
-stands_behind (Some last) who = is_behind last who
+abbrev pub is_after : Option Who → Who → Bool
+is_after None who = true
+is_after (Some last) who = is_behind last who
 
 -- a process that comes after the last
 unfoldable pub next_process : Option Who → List ℕ → Option Who
-next_process last text = option_and_then (λ who. if stands_behind last who then Some who else None) (process_of text)
+next_process last text = option_and_then (λ who. if is_after last who then Some who else None) (process_of text)
 
 -- the processes that pieces name, each after the one before
-unfoldable pub processes_behind : Option Who → List (List ℕ) → Option (List Who)
-processes_behind last [] = Some []
-processes_behind last (piece ∷ pieces) =
-    option_and_then (λ who. option_map (λ more. who ∷ more) (processes_behind (Some who) pieces)) (next_process last piece)
+unfoldable pub processes_after : Option Who → List (List ℕ) → Option (List Who)
+processes_after last [] = Some []
+processes_after last (piece ∷ pieces) =
+    option_and_then (λ who. option_map (λ more. who ∷ more) (processes_after (Some who) pieces)) (next_process last piece)
 
 -- a list of processes: none where the field is empty
 unfoldable pub woken_of : List ℕ → Result (List Who) RowFault
 woken_of [] = Ok []
-woken_of (b ∷ bs) = ok_or (processes_behind None (pieces_of 59 (b ∷ bs))) BadWoken
+woken_of (b ∷ bs) = ok_or (processes_after None (pieces_of 59 (b ∷ bs))) BadWoken
 
 -- the processes that a list names
 abbrev pub processes_in : List ℕ → List Who

@@ -1,7 +1,11 @@
 // The columns of a recording.
 
 ghost use Rattle.std.specs.Prelude.{◌≡◌};
-ghost use Rattle.record_read.specs.Column.{place_of};
+ghost use Rattle.record_read.specs.Column.{greatest_of, place_of};
+
+use apex_types::limits::{
+    GREATEST_CHANNEL, GREATEST_NUMBER, GREATEST_PARTITION, GREATEST_PRIORITY, MOST_RECORDS,
+};
 
 /// A column of a recording: a field of each row, in the order of the fields. The rows of format 1 end at `Woken`.
 #[derive(Clone, Copy, Debug, PartialEq, Eq)]
@@ -48,6 +52,28 @@ pub const COLUMNS: [(Column, &'static str); 18] = [
     (Column::ThirdValue, "val3"),
 ];
 
+/// The columns in their order.
+pub const EVERY_COLUMN: [Column; 18] = [
+    Column::Sequence,
+    Column::Kind,
+    Column::Partition,
+    Column::Process,
+    Column::Service,
+    Column::FirstNumber,
+    Column::SecondNumber,
+    Column::ThirdNumber,
+    Column::Name,
+    Column::Message,
+    Column::Priority,
+    Column::Outcome,
+    Column::Value,
+    Column::Data,
+    Column::Channel,
+    Column::Woken,
+    Column::SecondValue,
+    Column::ThirdValue,
+];
+
 impl Column {
     /// The name of the column.
     pub fn name(self) -> &'static str {
@@ -60,5 +86,19 @@ impl Column {
         ensures { result ≡ place_of self }
     {
         self as usize
+    }
+
+    /// The greatest number that its field can have, where its numbers are those from 0 on.
+    pub fn greatest(self) -> Option<u64>
+        ensures { result ≡ greatest_of self }
+    {
+        match self {
+            Column::Sequence => Some(MOST_RECORDS as u64 - 1),
+            Column::Partition => Some(GREATEST_PARTITION as u64),
+            Column::Process => Some(GREATEST_NUMBER as u64),
+            Column::Priority => Some(GREATEST_PRIORITY as u64),
+            Column::Channel => Some(GREATEST_CHANNEL as u64),
+            _ => None,
+        }
     }
 }

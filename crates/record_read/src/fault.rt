@@ -11,43 +11,43 @@ pub enum RowFault {
     /// A growth of memory was refused.
     #[error("out of memory")]
     Memory,
-    /// The row stands past the 4,294,967,295 that a recording can have.
+    /// The row comes after the 4,294,967,295 that a recording can have.
     #[error("the recording has too many rows")]
     TooMany,
-    /// The row has not as many fields as the recording's format.
-    #[error("a row has more or fewer fields than the recording's format")]
+    /// The row has more or fewer fields than the recording's format.
+    #[error("the row has more or fewer fields than the recording's format")]
     FieldCount,
     /// A number is not in canonical decimal, or out of its range.
-    #[error("a field is no number of its range")]
+    #[error("a number is malformed or out of range")]
     BadNumber,
     /// The row's number is not the next one.
-    #[error("a row's number is not the next")]
+    #[error("the row's number is not the next one")]
     SeqGap,
     /// The kind is none of the four.
-    #[error("a row is of no known kind")]
+    #[error("unknown kind of row")]
     BadKind,
     /// A field is filled that must be empty, or empty that must be filled.
-    #[error("a field does not go with the row's kind")]
+    #[error("a field is filled but must be empty, or is empty but must be filled")]
     FieldNotForKind,
-    /// The service is not known, or does not stand in the recording's format.
-    #[error("a service is not known")]
+    /// The service is not known, or the recording's format does not have it.
+    #[error("unknown service")]
     BadService,
     /// The name is too long or has a byte that is not printable.
-    #[error("a name is too long or not printable")]
+    #[error("a name is too long, or has a byte that is not printable")]
     BadName,
     /// The message is not hexadecimal.
-    #[error("a message is not hexadecimal")]
+    #[error("a message is not in hexadecimal")]
     BadHex,
     /// The message is too long, or not as long as its length argument says.
     #[error("a message has the wrong length")]
     BadLength,
     /// The outcome is none that the row can have.
-    #[error("an outcome is not known")]
+    #[error("unknown outcome")]
     BadOut,
-    /// The list of processes is malformed, or does not rise.
-    #[error("a list of processes is malformed")]
+    /// The list of processes is malformed, or not in rising order.
+    #[error("a list of processes is malformed or out of order")]
     BadWoken,
     /// A fault was answered before.
-    #[error("the recording was given up")]
+    #[error("the recording has stopped at an earlier fault")]
     Ended,
 }

@@ -2,8 +2,9 @@
 //!
 //! Promises: the n-th answer of a source is the record that the n-th row of the text is by the row grammar, or the
 //! first fault of that row from left to right; the end is reported only after the last row. The grammar is a relation between
-//! rows and records (`IsRow`), by the recording's format, which its first row tells, and a row is read as a record exactly where
-//! the relation holds. A row that is none is refused with the fault of its first faulty field (`IsFirstFault`).
+//! rows and records (`IsRow`), by the recording's format, which its first row gives, and a row is read as a record exactly where
+//! the relation holds. A row that is none is refused with the fault of its first faulty field (`IsFirstFault`), and
+//! `read_record_explained` also reports that field (`IsMisread`).
 #![tactic(auto)]
 
 mod call;
@@ -14,6 +15,7 @@ mod field;
 mod format;
 mod kind;
 mod laws;
+mod misread;
 mod named;
 mod payload;
 mod request;
@@ -25,9 +27,12 @@ mod woken;
 pub use column::{COLUMNS, Column};
 pub use fault::RowFault;
 pub use field::text;
+pub use format::format_by;
 pub use kind::Kind;
 pub use laws::{
     faults_are_of_rows, first_faults_decide, one_record_of_a_row, rows_are_the_grammar,
 };
+pub use misread::Misread;
 pub use named::{find_kind, find_out, find_service};
+pub use row::read_record_explained;
 pub use source::RowSource;

@@ -3,13 +3,17 @@
 ghost use Rattle.std.specs.Prelude.{◌≡◌, ◌≤◌, ◌==◌, IfErr, IsTrue, drop, length, not, take};
 ghost use Rattle.std.specs.List.{list_all};
 ghost use Rattle.std.specs.Str.{bytes_eq};
-ghost use Rattle.record_read.specs.Named.{code_named, kind_named, name_lengths, out_named, service_among, service_in, service_named, service_of};
+ghost use Rattle.record_read.specs.Field.{read_at};
+ghost use Rattle.record_read.specs.Named.{code_named, code_of, kind_named, kind_of, name_lengths, out_named, out_of, service_among, service_in, service_named, service_of};
 ghost use Rattle.record_read.specs.Steps.{IsOfRow};
 
+use crate::column::Column;
 use crate::fault::RowFault;
-use crate::field::required;
+use crate::field::{required, text};
 use crate::kind::Kind;
+use crate::misread::Misread;
 use apex_types::{Code, Format, Out, SERVICES, Service, ServiceRow};
+use csv_rows::RowFields;
 
 // All codes, the most frequent one first.
 const CODES: [Code; 7] = [
@@ -21,6 +25,16 @@ const CODES: [Code; 7] = [
     Code::InvalidMode,
     Code::TimedOut,
 ];
+
+/// The kind of a row, which must be given.
+#[tactic(auto, unfolding(crate::specs::Named::kind_of))]
+pub fn read_kind(fields: &RowFields) -> Result<Kind, Misread>
+    ensures value { result ≡ read_at kind_of fields.now Column.Kind }
+    ensures own { IfErr result (λ misread. IsOfRow misread.fault) }
+{
+    let name = text(fields, Column::Kind);
+    required(Column::Kind, name, find_kind(name), RowFault::BadKind)
+}
 
 /// The kind that rows give by this name, if there is one. Takes no memory.
 #[tactic(auto, unfolding(crate::specs::Named::kind_named))]
@@ -40,13 +54,14 @@ pub fn find_kind(text: &[u8]) -> Option<Kind>
     }
 }
 
-/// The service in a field that must be filled, in a row of this format.
+/// The service of a row of this format, which must be given.
 #[tactic(auto, unfolding(crate::specs::Named::service_of))]
-pub fn read_service(format: Format, text: &[u8]) -> Result<Service, RowFault>
-    ensures value { result ≡ service_of format text.now }
-    ensures own { IfErr result (λ fault. IsOfRow fault) }
+pub fn read_service(format: Format, fields: &RowFields) -> Result<Service, Misread>
+    ensures value { result ≡ read_at (service_of format) fields.now Column.Service }
+    ensures own { IfErr result (λ misread. IsOfRow misread.fault) }
 {
-    required(text, find_service_in(format, text), RowFault::BadService)
+    let name = text(fields, Column::Service);
+    required(Column::Service, name, find_service_in(format, name), RowFault::BadService)
 }
 
 // The service of this name, where the format has it.
@@ -60,6 +75,26 @@ fn find_service_in(format: Format, text: &[u8]) -> Option<Service>
     } else {
         None
     }
+}
+
+/// The outcome of a call, which must be given.
+#[tactic(auto, unfolding(crate::specs::Named::out_of))]
+pub fn read_out(fields: &RowFields) -> Result<Out, Misread>
+    ensures value { result ≡ read_at out_of fields.now Column.Outcome }
+    ensures own { IfErr result (λ misread. IsOfRow misread.fault) }
+{
+    let name = text(fields, Column::Outcome);
+    required(Column::Outcome, name, find_out(name), RowFault::BadOut)
+}
+
+/// The code of a return, which must be given.
+#[tactic(auto, unfolding(crate::specs::Named::code_of))]
+pub fn read_code(fields: &RowFields) -> Result<Code, Misread>
+    ensures value { result ≡ read_at code_of fields.now Column.Outcome }
+    ensures own { IfErr result (λ misread. IsOfRow misread.fault) }
+{
+    let name = text(fields, Column::Outcome);
+    required(Column::Outcome, name, find_code(name), RowFault::BadOut)
 }
 
 /// The outcome that rows give by this name, if there is one. Takes no memory.
@@ -76,8 +111,8 @@ pub fn find_out(text: &[u8]) -> Option<Out>
     find_code(text).map(Out::Answer)
 }
 
-/// The code of this name.
-pub fn find_code(text: &[u8]) -> Option<Code>
+// The code of this name.
+fn find_code(text: &[u8]) -> Option<Code>
     ensures { result ≡ code_named text.now }
 {
     CODES.iter().copied().find(|code| code.name() == text)

@@ -3,43 +3,48 @@
 ghost use Rattle.std.specs.Prelude.{◌≡◌, ◌≢◌, [], true, IfOk, IfErr, OnOk, OnErr, Ok, Err, is_ok, length};
 ghost use Rattle.std.specs.List.{list_all};
 ghost use Rattle.hex.specs.Hex.{decode_of, is_hex_digit};
-ghost use Rattle.record_read.specs.Payload.{IsHex, from_hex, goes_with as goes_with_of, hex_bytes, is_printable, maybe_message, message_in, name_in, name_of};
-ghost use Rattle.record_read.specs.Steps.{IsOfRow};
+ghost use Rattle.record_read.specs.Field.{read_at, text_at};
+ghost use Rattle.record_read.specs.Payload.{IsHex, from_hex, goes_with as goes_with_of, hex_bytes, is_printable, maybe_message, message_in, message_of, name_in, name_of};
+ghost use Rattle.record_read.specs.Steps.{IsOfRow, located};
 
+use crate::column::Column;
 use crate::fault::RowFault;
-use crate::field::expect_empty;
+use crate::field::{expect_empty, text};
+use crate::misread::Misread;
 use apex_types::limits::{LONGEST_MESSAGE, LONGEST_NAME};
 use apex_types::{Message, Name};
+use csv_rows::RowFields;
 use hex::FromHexError;
 use std::alloc::{AllocError, Global};
 
-/// Judges the name in a field, filled where the service takes one, and else empty. Gives its bytes.
+/// The bytes of the name of a call, which must be given where the service takes one, and else must not.
 #[tactic(auto, unfolding(crate::specs::Payload::name_in))]
-pub fn judge_name(taken: bool, text: &[u8]) -> Result<&[u8], RowFault>
-    ensures value { IfOk result (λ name. name_in taken text.now ≡ Ok name.now) }
+pub fn read_name(fields: &RowFields, taken: bool) -> Result<&[u8], Misread>
+    ensures value { IfOk result (λ name. read_at (name_in taken) fields.now Column.Name ≡ Ok name.now) }
     ensures taken { IfOk result (λ name. name.now ≢ [] → taken ≡ true) }
-    ensures refused { IfErr result (λ fault. name_in taken text.now ≡ Err fault) }
-    ensures own { IfErr result (λ fault. IsOfRow fault) }
+    ensures refused { IfErr result (λ misread. read_at (name_in taken) fields.now Column.Name ≡ Err misread) }
+    ensures own { IfErr result (λ misread. IsOfRow misread.fault) }
 {
+    let text = text(fields, Column::Name);
     if !taken {
-        expect_empty(text)?;
+        expect_empty(Column::Name, text)?;
         return Ok(b"");
     }
     match text {
-        [] => Err(RowFault::FieldNotForKind),
-        _ => judge_bytes(text),
+        [] => Err(Misread::at(Column::Name, RowFault::FieldNotForKind)),
+        _ => judge_name(text),
     }
 }
 
-// Judges the bytes of a name.
+// Judges the text of a name.
 #[tactic(auto, unfolding(crate::specs::Payload::name_of))]
-fn judge_bytes(text: &[u8]) -> Result<&[u8], RowFault>
+fn judge_name(text: &[u8]) -> Result<&[u8], Misread>
     ensures value { IfOk result (λ name. name_of text.now ≡ Ok name.now) }
-    ensures refused { IfErr result (λ fault. name_of text.now ≡ Err fault) }
-    ensures own { IfErr result (λ fault. IsOfRow fault) }
+    ensures refused { IfErr result (λ misread. located Column.Name (name_of text.now) ≡ Err misread) }
+    ensures own { IfErr result (λ misread. IsOfRow misread.fault) }
 {
     if text.len() > LONGEST_NAME || !all_printable(text) {
-        return Err(RowFault::BadName);
+        return Err(Misread::at(Column::Name, RowFault::BadName));
     }
     Ok(text)
 }
@@ -62,39 +67,54 @@ fn all_printable(text: &[u8]) -> bool
     text.iter().all(|byte| 0x20 <= *byte && *byte <= 0x7E)
 }
 
-/// Judges the message in a field, which may be left out.
+/// The digits of the message that a call or a return gives, which may be left out.
 #[tactic(auto, unfolding(crate::specs::Payload::maybe_message))]
-pub fn judge_data(text: &[u8]) -> Result<(), RowFault>
-    ensures value { OnOk result (maybe_message text.now ≡ Ok (hex_bytes text.now)) }
-    ensures hex { OnOk result (IsHex text.now) }
-    ensures refused { IfErr result (λ fault. maybe_message text.now ≡ Err fault) }
-    ensures own { IfErr result (λ fault. IsOfRow fault) }
+pub fn read_data(fields: &RowFields) -> Result<&[u8], Misread>
+    ensures text { IfOk result (λ digits. digits.now ≡ text_at fields.now Column.Data) }
+    ensures value { OnOk result (read_at maybe_message fields.now Column.Data ≡ Ok (hex_bytes (text_at fields.now Column.Data))) }
+    ensures hex { OnOk result (IsHex (text_at fields.now Column.Data)) }
+    ensures refused { IfErr result (λ misread. read_at maybe_message fields.now Column.Data ≡ Err misread) }
+    ensures own { IfErr result (λ misread. IsOfRow misread.fault) }
 {
-    if count_bytes(text)? > LONGEST_MESSAGE {
-        return Err(RowFault::BadLength);
-    }
-    Ok(())
-}
-
-/// Judges the message in a field, as long as its length argument says where the service takes one, and else empty.
-/// Gives its digits.
-#[tactic(auto, unfolding(crate::specs::Payload::message_in, crate::specs::Payload::message_of, hex::specs::Hex::decode_pairs))]
-pub fn judge_message(taken: bool, len: i64, text: &[u8]) -> Result<&[u8], RowFault>
-    ensures value { IfOk result (λ digits. message_in taken len text.now ≡ Ok (hex_bytes digits.now)) }
-    ensures hex { IfOk result (λ digits. IsHex digits.now) }
-    ensures taken { IfOk result (λ digits. hex_bytes digits.now ≢ [] → taken ≡ true) }
-    ensures refused { IfErr result (λ fault. message_in taken len text.now ≡ Err fault) }
-    ensures own { IfErr result (λ fault. IsOfRow fault) }
-{
-    if !taken {
-        expect_empty(text)?;
-        return Ok(b"");
-    }
-    let count = count_bytes(text)?;
-    if !goes_with(len, count) {
-        return Err(RowFault::BadLength);
+    let text = text(fields, Column::Data);
+    if count_bytes(Column::Data, text)? > LONGEST_MESSAGE {
+        return Err(Misread::at(Column::Data, RowFault::BadLength));
     }
     Ok(text)
+}
+
+/// The digits of the message of a call, which is as long as its length argument says where the service takes one, and else must not
+/// be given.
+#[tactic(auto, unfolding(crate::specs::Payload::message_in, hex::specs::Hex::decode_pairs))]
+pub fn read_message(fields: &RowFields, taken: bool, len: i64) -> Result<&[u8], Misread>
+    ensures value { IfOk result (λ digits. read_at (message_in taken len) fields.now Column.Message ≡ Ok (hex_bytes digits.now)) }
+    ensures hex { IfOk result (λ digits. IsHex digits.now) }
+    ensures taken { IfOk result (λ digits. hex_bytes digits.now ≢ [] → taken ≡ true) }
+    ensures refused { IfErr result (λ misread. read_at (message_in taken len) fields.now Column.Message ≡ Err misread) }
+    ensures own { IfErr result (λ misread. IsOfRow misread.fault) }
+{
+    let text = text(fields, Column::Message);
+    if !taken {
+        expect_empty(Column::Message, text)?;
+        return Ok(b"");
+    }
+    judge_message(text, len)?;
+    Ok(text)
+}
+
+// Judges the text of a message that goes with this length argument.
+#[tactic(auto, unfolding(crate::specs::Payload::message_of))]
+fn judge_message(text: &[u8], len: i64) -> Result<(), Misread>
+    ensures value { OnOk result (message_of len text.now ≡ Ok (hex_bytes text.now)) }
+    ensures hex { OnOk result (IsHex text.now) }
+    ensures refused { IfErr result (λ misread. located Column.Message (message_of len text.now) ≡ Err misread) }
+    ensures own { IfErr result (λ misread. IsOfRow misread.fault) }
+{
+    let count = count_bytes(Column::Message, text)?;
+    if !goes_with(len, count) {
+        return Err(Misread::at(Column::Message, RowFault::BadLength));
+    }
+    Ok(())
 }
 
 /// The message of these hexadecimal digits. Memory is refused only where there are any.
@@ -133,17 +153,17 @@ fn goes_with(len: i64, count: usize) -> bool
     }
 }
 
-// How many bytes a text in hexadecimal holds.
+// How many bytes the text of a column holds in hexadecimal.
 #[tactic(auto, using(crate::proofs::Hexadecimal::hex_text, crate::proofs::Hexadecimal::hex_value, crate::proofs::Hexadecimal::hex_none, crate::proofs::Hexadecimal::hex_count))]
-fn count_bytes(text: &[u8]) -> Result<usize, RowFault>
+fn count_bytes(column: Column, text: &[u8]) -> Result<usize, Misread>
     ensures value { OnOk result (from_hex (decode_of text.now) ≡ Ok (hex_bytes text.now)) }
     ensures hex { OnOk result (IsHex text.now) }
     ensures count { IfOk result (λ count. length (hex_bytes text.now) ≡ count) }
-    ensures refused { IfErr result (λ fault. from_hex (decode_of text.now) ≡ Err fault) }
-    ensures own { IfErr result (λ fault. IsOfRow fault) }
+    ensures refused { IfErr result (λ misread. located column (from_hex (decode_of text.now)) ≡ Err misread) }
+    ensures own { IfErr result (λ misread. IsOfRow misread.fault) }
 {
     if !is_hexadecimal(text) {
-        return Err(RowFault::BadHex);
+        return Err(Misread::at(column, RowFault::BadHex));
     }
     Ok(text.len() / 2)
 }

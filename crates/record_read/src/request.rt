@@ -8,15 +8,15 @@ ghost use Rattle.record_read.specs.Row.{request_in};
 ghost use Rattle.record_read.specs.Steps.{IsOfRow};
 
 use crate::column::Column;
-use crate::fault::RowFault;
-use crate::field::{read_argument, text};
+use crate::field::read_argument;
+use crate::misread::Misread;
 use crate::named::read_service;
-use crate::payload::{copy_message, copy_name, judge_message, judge_name};
+use crate::payload::{copy_message, copy_name, read_message, read_name};
 use apex_types::{ArgumentValues, Format, Request, Service};
 use csv_rows::RowFields;
 use std::alloc::{AllocError, Global};
 
-/// What a call requests, judged, with its name and its message as they stand in the row.
+/// What a call requests, judged, with its name and its message as the row has them.
 #[derive(Clone, Copy)]
 pub struct RequestText<'a> {
     pub service: Service,
@@ -29,21 +29,21 @@ pub struct RequestText<'a> {
 
 /// Judges the request of a call in a recording of this format: its service and the service's arguments.
 #[tactic(auto, unfolding(crate::specs::Row::request_in))]
-pub fn judge_request(format: Format, fields: &RowFields) -> Result<RequestText<'_>, RowFault>
+pub fn judge_request(format: Format, fields: &RowFields) -> Result<RequestText<'_>, Misread>
     ensures value { IfOk result (λ given. request_in format fields.now ≡ Ok (request_of given.service given.n1 given.n2 given.n3 given.name.now (hex_bytes given.message.now))) }
     ensures hex { IfOk result (λ given. IsHex given.message.now) }
     ensures name { IfOk result (λ given. given.name.now ≢ [] → (arguments_of given.service).name ≡ true) }
     ensures message { IfOk result (λ given. hex_bytes given.message.now ≢ [] → (arguments_of given.service).message ≡ true) }
-    ensures refused { IfErr result (λ fault. request_in format fields.now ≡ Err fault) }
-    ensures own { IfErr result (λ fault. IsOfRow fault) }
+    ensures refused { IfErr result (λ misread. request_in format fields.now ≡ Err misread) }
+    ensures own { IfErr result (λ misread. IsOfRow misread.fault) }
 {
-    let service = read_service(format, text(fields, Column::Service))?;
+    let service = read_service(format, fields)?;
     let takes = service.arguments();
-    let n1 = read_argument(takes.numbers >= 1, text(fields, Column::FirstNumber))?;
-    let n2 = read_argument(takes.numbers >= 2, text(fields, Column::SecondNumber))?;
-    let n3 = read_argument(takes.numbers >= 3, text(fields, Column::ThirdNumber))?;
-    let name = judge_name(takes.name, text(fields, Column::Name))?;
-    let message = judge_message(takes.message, n2, text(fields, Column::Message))?;
+    let n1 = read_argument(fields, Column::FirstNumber, takes.numbers >= 1)?;
+    let n2 = read_argument(fields, Column::SecondNumber, takes.numbers >= 2)?;
+    let n3 = read_argument(fields, Column::ThirdNumber, takes.numbers >= 3)?;
+    let name = read_name(fields, takes.name)?;
+    let message = read_message(fields, takes.message, n2)?;
     Ok(RequestText {
         service,
         n1,

@@ -8,13 +8,13 @@ ghost use Rattle.record_read.specs.Steps.{IsOutside};
 
 use crate::fault::RowFault;
 use crate::format::format_by;
-use crate::row::read_record;
+use crate::row::read_record_explained;
 use apex_types::{Format, Record};
 use csv_rows::{CsvRows, RowFields, StreamFault, TextSource};
 use std::alloc::Global;
 use std::marker::Model;
 
-/// The records that the rows of a recording are, one for each call of `next`. The first row tells the recording's format.
+/// The records that the rows of a recording are, one for each call of `next`. The first row gives the recording's format.
 #[derive(Drop)]
 pub struct RowSource<R: TextSource> {
     rows: CsvRows<R>,
@@ -101,7 +101,10 @@ impl<R: TextSource> RowSource<R> {
         }
         let format = format_by(self.format, &self.fields);
         self.format = Some(format);
-        let made = read_record(self.alloc, format, self.count, &self.fields)?;
+        let made = match read_record_explained(self.alloc, format, self.count, &self.fields) {
+            Ok(made) => made,
+            Err(misread) => return Err(misread.fault),
+        };
         self.count += 1;
         self.stopped = false;
         Ok(Some(made))

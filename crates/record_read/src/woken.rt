@@ -2,13 +2,17 @@
 
 ghost use Rattle.std.specs.Prelude.{◌≡◌, ◌≢◌, ◌<◌, [], IfOk, IfErr, IfSome, IsSome, OnOk, OnErr, Ok, Err, None, is_some, length, option_map};
 ghost use Rattle.apex_types.specs.Rising.{IsRising};
+ghost use Rattle.record_read.specs.Field.{read_at, text_at};
 ghost use Rattle.record_read.specs.Steps.{IsOfRow};
-ghost use Rattle.record_read.specs.Woken.{IsList, front_of, rest_of, next_process, pieces_of, processes_behind, processes_in, stands_behind as behind, woken_of};
+ghost use Rattle.record_read.specs.Woken.{IsList, front_of, rest_of, next_process, pieces_of, processes_after, processes_in, is_after as is_after_of, woken_of};
 
+use crate::column::Column;
 use crate::fault::RowFault;
+use crate::field::text;
+use crate::misread::Misread;
 use apex_types::limits::{GREATEST_NUMBER, GREATEST_PARTITION};
 use apex_types::{PartId, ProcId, Who, Woken};
-use csv_rows::read_decimal;
+use csv_rows::{RowFields, read_decimal};
 use std::alloc::{AllocError, Global};
 
 // A text before its first separator, and after it if there is one.
@@ -18,23 +22,25 @@ struct Split<'a> {
     rest: Option<&'a [u8]>,
 }
 
-/// Judges a list of processes: empty, or each process after the one before.
+/// The text of the list of processes of a call or a tick: none, or each process after the one before.
 #[tactic(auto, unfolding(crate::specs::Woken::woken_of))]
-pub fn judge_woken(text: &[u8]) -> Result<(), RowFault>
-    ensures list { OnOk result (IsList text.now) }
-    ensures refused { IfErr result (λ fault. woken_of text.now ≡ Err fault) }
-    ensures own { IfErr result (λ fault. IsOfRow fault) }
+pub fn read_list(fields: &RowFields) -> Result<&[u8], Misread>
+    ensures text { IfOk result (λ list. list.now ≡ text_at fields.now Column.Woken) }
+    ensures list { OnOk result (IsList (text_at fields.now Column.Woken)) }
+    ensures refused { IfErr result (λ misread. read_at woken_of fields.now Column.Woken ≡ Err misread) }
+    ensures own { IfErr result (λ misread. IsOfRow misread.fault) }
 {
+    let text = text(fields, Column::Woken);
     if !text.is_empty() && !are_processes(text) {
-        return Err(RowFault::BadWoken);
+        return Err(Misread::at(Column::Woken, RowFault::BadWoken));
     }
-    Ok(())
+    Ok(text)
 }
 
 // Whether the pieces of a text name processes, each after the one before.
 #[tactic(auto, using(crate::proofs::Pieces::judged_more, crate::proofs::Pieces::judged_none))]
 fn are_processes(text: &[u8]) -> bool
-    ensures { result ≡ is_some (processes_behind None (pieces_of 59 text.now)) }
+    ensures { result ≡ is_some (processes_after None (pieces_of 59 text.now)) }
 {
     let mut last = None;
     let mut left = Some(text);
@@ -65,8 +71,8 @@ pub fn copy_woken(alloc: Global, text: &[u8]) -> Result<Woken, AllocError>
 // The processes that the pieces of a text name.
 #[tactic(auto, using(crate::proofs::Pieces::next_is, crate::proofs::Pieces::named_more, crate::proofs::Pieces::named_none, crate::proofs::Pieces::named_end))]
 fn copy_processes(alloc: Global, text: &[u8]) -> Result<Vec<Who>, AllocError>
-    requires { IsSome (processes_behind None (pieces_of 59 text.now)) }
-    ensures value { IfOk result (λ named. processes_behind None (pieces_of 59 text.now) ≡ Some named.items) }
+    requires { IsSome (processes_after None (pieces_of 59 text.now)) }
+    ensures value { IfOk result (λ named. processes_after None (pieces_of 59 text.now) ≡ Some named.items) }
     ensures rising { IfOk result (λ named. IsRising named.items) }
 {
     let mut named = Vec::new(alloc);
@@ -91,7 +97,7 @@ fn read_next(last: Option<Who>, text: &[u8]) -> Option<Who>
     let rest = split.rest?;
     let part = read_decimal(split.front, GREATEST_PARTITION as u64)? as u8;
     let proc = read_decimal(rest, GREATEST_NUMBER as u64)? as u32;
-    if proc == 0 || !stands_behind(last, part, proc) {
+    if proc == 0 || !is_after(last, part, proc) {
         return None;
     }
     Some(Who {
@@ -101,8 +107,8 @@ fn read_next(last: Option<Who>, text: &[u8]) -> Option<Who>
 }
 
 // Whether the process of this partition and number comes after the last.
-fn stands_behind(last: Option<Who>, part: u8, proc: u32) -> bool
-    ensures { result ≡ behind last (record { part = part; proc = proc }) }
+fn is_after(last: Option<Who>, part: u8, proc: u32) -> bool
+    ensures { result ≡ is_after_of last (record { part = part; proc = proc }) }
 {
     match last {
         Some(last) => {

@@ -30,6 +30,7 @@ use Rattle.report.specs.Last.{item_of, kept_behind, last_of, most_last}
 use Rattle.report.specs.Outcome.{IsJudged, answer_with}
 use Rattle.report.specs.Rounds.{IsDecided, IsLastAnswer, MayJudge}
 use Rattle.report.proofs.LastOnes.{answer_within, kept_is_last, verdict_within}
+use Rattle.report.proofs.Rejecting.{leaves_its_piece}
 
 -- one round
 
@@ -49,7 +50,8 @@ pub round_decides : (configuration : Configuration) (relations : List Relation) 
     → (decides : Option Verdict) → decides ≡ against judging.count found (broken_of breach) → IsDecided configuration relations judging records decides judged
 round_decides configuration relations judging judged records found breach may round tested (Some verdict) is = (
   (λ later. ends_here configuration relations judging judged records later found breach verdict may.placed round tested (sym is)),
-  λ end. decides_whatever judging.count found (broken_of breach) verdict end (sym is),
+  (λ end. decides_whatever judging.count found (broken_of breach) verdict end (sym is)),
+  leaves_its_piece configuration judging judged records found (broken_of breach) verdict round (sym is),
 )
 round_decides configuration relations judging judged records found breach may round tested None is =
     let on = goes_on_here configuration relations judging judged records found breach round tested (sym is) in
@@ -58,7 +60,7 @@ round_decides configuration relations judging judged records found breach may ro
 -- the answer over the last records, by what they decide
 pub last_decided : (configuration : Configuration) (relations : List Relation) (judging judged : Judging) (records : List Ordered) (end : Result (Unit {0}) InputFault) (verdict : Verdict)
     → IsDecided configuration relations judging records (Some verdict) judged → IsLastAnswer configuration relations judging records end (Ok verdict)
-last_decided configuration relations judging judged records end verdict (over, final) =
+last_decided configuration relations judging judged records end verdict (over, final, leaves) =
     inr (verdict, subst (λ list. IsVerdictFrom configuration relations (parts_of judging) judging.count list verdict) (append-nil records) (over []), final end)
 
 pub last_undecided : (configuration : Configuration) (relations : List Relation) (judging judged : Judging) (records : List Ordered) (end : Result (Unit {0}) InputFault)
@@ -113,7 +115,7 @@ last_on can_fail configuration relations start now judging before records end an
 pub decided_on : (can_fail : CanFail) (configuration : Configuration) (relations : List Relation) (start now : Placing) (judging judged : Judging) (before records : List Ordered) (verdict : Verdict)
     → Lead can_fail start (before ++ records) now → HoldBefore configuration relations before judging → ArePlaced judging.count records → IsDecided configuration relations judging records (Some verdict) judged
     → (Ok verdict ≡ Err Memory) ⊎ IsReportedOf can_fail configuration relations start (Ok verdict) (kept_behind (Ok verdict) judging.count (keep_last most_last (map item_of before)) records)
-decided_on can_fail configuration relations start now judging judged before records verdict lead behind placed (over, final) =
+decided_on can_fail configuration relations start now judging judged before records verdict lead behind placed (over, final, leaves) =
     let more = something_ahead can_fail now in
     let here = subst (λ list. IsVerdictFrom configuration relations (parts_of judging) judging.count list verdict) (append-nil records) (over []) in
     inr (

@@ -2,6 +2,7 @@ pub mod Lawful
 pub mod Whole
 pub mod Failures
 pub mod Answering
+pub mod Rejecting
 pub mod Going
 pub mod LastOnes
 pub mod Onward

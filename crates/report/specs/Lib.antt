@@ -7,3 +7,4 @@ pub mod Refused
 pub mod Answers
 pub mod Text
 pub mod Rounds
+pub mod Shown

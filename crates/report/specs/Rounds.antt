@@ -11,8 +11,9 @@ use Rattle.placement.specs.Lanes.{AreHonest, IsFilled, Placing}
 use Rattle.placement.specs.Reading.{CanFail}
 use Rattle.user_rules.specs.declared.relation.Relation.{Relation}
 use Rattle.verdict_merge.specs.declared.verdict.Verdict.{Verdict}
+use Rattle.verdict_merge.specs.declared.verdict.Verdict.TheVariants.{No}
 use Rattle.verdict_merge.specs.Verdicts.{IsVerdictFrom, ViewsMeet}
-use Rattle.verdict_merge.specs.Rounds.{AllRun, IsReady, Judging, parts_of}
+use Rattle.verdict_merge.specs.Rounds.{AllRun, EndsInNo, IsReady, Judging, parts_of}
 use Rattle.report.specs.declared.fault.CheckFault.{CheckFault}
 use Rattle.report.specs.declared.fault.CheckFault.TheVariants.{Memory}
 use Rattle.report.specs.Outcome.{answer_with}
@@ -27,14 +28,21 @@ pub record MayJudge (configuration : Configuration) (judging : Judging) (records
 abbrev pub IsFinal : Verdict → Type 0
 IsFinal verdict = (end : Result (Unit {0}) InputFault) → Ok verdict ≡ answer_with verdict end
 
+-- after a No over these records, its piece is left as it was before the one that it rejects
+abbrev pub LeavesItsPiece : Configuration → Judging → List Ordered → Result Verdict CheckFault → Judging → Type 0
+LeavesItsPiece configuration old records (Ok (No place number cause)) new =
+    EndsInNo configuration (parts_of old) records (record { pos = place; piece = number; cause = cause }) (parts_of new)
+LeavesItsPiece configuration old records _ new = Unit {0}
+
 -- what the records of a round decide: nothing, where each piece ran over them and each of their views meets every relation; or the
--- verdict over them, whatever comes after them
+-- verdict over them, whatever comes after them, and after a No its piece is left as it was
 abbrev pub IsDecided : Configuration → List Relation → Judging → List Ordered → Option Verdict → Judging → Type 0
 IsDecided configuration relations old records None new =
     AllRun configuration (parts_of old) records (parts_of new) × (new.count ≡ old.count + length records)
     × ViewsMeet configuration relations (parts_of old) records × IsReady configuration new
 IsDecided configuration relations old records (Some verdict) new =
     ((later : List Ordered) → IsVerdictFrom configuration relations (parts_of old) old.count (records ++ later) verdict) × IsFinal verdict
+    × LeavesItsPiece configuration old records (Ok verdict) new
 
 -- the answer over the last records, after which the input ends so; want of memory outranks it
 abbrev pub IsLastAnswer : Configuration → List Relation → Judging → List Ordered → Result (Unit {0}) InputFault → Result Verdict CheckFault → Type 0

@@ -11,8 +11,8 @@
 //! read ahead: the depth and two batches.
 //!
 //! `check_inputs` is the check; the other calls are the same one under other arguments. Whoever has relations, and no tests of their
-//! own, calls `check_relations`. A witness receives what is at the place of a No, to show it to a person; the answer is the
-//! same for every witness.
+//! own, calls `check_relations`. A witness receives what is at the place of a No, to show it to a person: the record, and the piece
+//! that rejects it, as the piece was before it. The answer is the same for every witness.
 #![tactic(auto)]
 
 mod checking;

@@ -9,7 +9,7 @@ ghost use Rattle.user_rules.specs.Rules.{relations_of};
 ghost use Rattle.verdict_merge.specs.declared.verdict.Verdict.TheVariants.{Yes};
 ghost use Rattle.report.specs.Last.{last_of};
 ghost use Rattle.report.specs.Outcome.{IsJudged, answer_with};
-ghost use Rattle.report.specs.Rounds.{IsDecided, IsLastAnswer, IsPlaced, MayJudge};
+ghost use Rattle.report.specs.Rounds.{IsDecided, IsLastAnswer, IsPlaced, LeavesItsPiece, MayJudge};
 
 use crate::fault::CheckFault;
 use crate::last::Last;
@@ -182,7 +182,8 @@ fn judge_last<T: Threads + Wait + Sync, G: Gate + Sync>(
     end: Result<(), InputFault>,
 ) -> Result<Verdict, CheckFault>
     requires may { MayJudge config.now judge.old round.now }
-    ensures { IsLastAnswer config.now (relations_of rules.now) judge.old round.now end result }
+    ensures answer { IsLastAnswer config.now (relations_of rules.now) judge.old round.now end result }
+    ensures leaves { LeavesItsPiece config.now judge.old round.now result judge.new }
 {
     match judge_round(rt, config, judge, round, rules, workers, gate) {
         Ok(Some(verdict)) => Ok(verdict),

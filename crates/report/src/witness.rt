@@ -1,6 +1,10 @@
 // Who receives what is at the place of a No.
 
 ghost use Rattle.std.specs.Prelude.{◌≡◌, ◌-◌, option_copied, slice_get};
+ghost use Rattle.apex_machine.specs.Runs.{ArePlaced};
+ghost use Rattle.piece_check.specs.Parts.{holder};
+ghost use Rattle.verdict_merge.specs.Rounds.{Rejects};
+ghost use Rattle.report.specs.Shown.{IsReachedBefore, StillRejects};
 
 use crate::fault::CheckFault;
 use apex_types::{Cause, Ordered, Place, View};
@@ -11,8 +15,13 @@ use verdict_merge::Verdict;
 
 /// Who receives what is at the place of a No or of a broken rule, to explain it to a person. No answer hangs on a witness.
 pub trait Witness {
-    /// The piece refuses this record for this cause. It stands as it stood before the record.
-    fn refused(&mut self, config: &Config, piece: &Piece, ordered: &Ordered, cause: Cause);
+    /// The piece rejects this record for this cause, and is as it was before the record.
+    ///
+    /// Its part is one that it reaches from the cold state over as many records as the record's place. There the record touches it, and
+    /// the first of its demands that fails has the cause.
+    fn refused(&mut self, config: &Config, piece: &Piece, ordered: &Ordered, cause: Cause)
+        requires reached { IsReachedBefore config.now piece.now.part ordered.now }
+        requires rejects { Rejects config.now (holder piece.now.part) piece.now.part ordered.now cause };
 
     /// The view of this record breaks the rule of this number, counted from 0.
     fn broken(&mut self, ordered: &Ordered, view: &View, rule: usize);
@@ -28,7 +37,8 @@ impl Witness for Nobody {
     fn broken(&mut self, _ordered: &Ordered, _view: &View, _rule: usize) {}
 }
 
-/// Tells a witness of an answer over these records, of which the first stands at this place.
+/// Shows a witness the answer over these records, of which the first is at this place. After a No, its piece must be as it was before
+/// the record that it rejects.
 pub(crate) fn tell<V: Witness>(
     witness: &mut V,
     config: &Config,
@@ -36,7 +46,10 @@ pub(crate) fn tell<V: Witness>(
     answer: &Result<Verdict, CheckFault>,
     first: u64,
     records: &[Ordered],
-) {
+)
+    requires placed { ArePlaced first records.now }
+    requires rejects { StillRejects config.now records.now answer.now judge.now }
+{
     match answer {
         Ok(Verdict::No { pos, piece, cause }) => {
             let found = record_at(*pos, first, records);

@@ -1,4 +1,4 @@
-use Rattle.std.proofs.Common.{refl, sym, inl, inr}
+use Rattle.std.proofs.Common.{sym, inl, inr}
 use Rattle.record_read.specs.Payload.{hex_bytes}
 use Rattle.record_read.specs.Row.{call_in}
 use Rattle.record_read.proofs.Memory.{request_needs}
@@ -10,7 +10,7 @@ returns-in_default-clause-refused c =
     let given = c.in_ok-request.request in
     rw (sym c.in_ok-who.ensures.value, c.in_ok-request.ensures.value, c.in_ok-claim.ensures.value)
     (inr (
-      refl,
+      c.of_no_field.ensures,
       inl (request_needs given.service given.n1 given.n2 given.n3 given.name.now (hex_bytes given.message.now) c.in_ok-request.ensures.name
           c.in_ok-request.ensures.message c.in_default.ensures.memory),
     ))

@@ -1,5 +1,5 @@
-use Rattle.record_read.proofs.FirstFaults.{row_fails}
+use Rattle.record_read.proofs.FirstFaults.{faults_are_of_rows}
 use Rattle.record_read.proofs.laws.faults_are_of_rows.Goals as goal
 
 pub returns : goal.returns
-returns c = λ format next fields. (row_fails format next fields).own
+returns c = faults_are_of_rows

@@ -1,4 +1,4 @@
-use Rattle.std.proofs.Common.{◌≡◌, ◌++◌, ◌∙◌, List, Some, None, ap, map, subst, sym, arith}
+use Rattle.std.proofs.Common.{◌≡◌, ◌++◌, ◌∙◌, List, Some, None, Ok, ap, map, subst, sym, arith}
 use Rattle.std.proofs.lemmas.List.{map-append}
 use Rattle.apex_types.specs.declared.record.Ordered.{Ordered}
 use Rattle.apex_machine.specs.Runs.{ArePlaced, AreOfCores}
@@ -7,10 +7,35 @@ use Rattle.placement.specs.Lanes.{AreHonest, IsFilled, Lead}
 use Rattle.placement.specs.Reading.{CanFail}
 use Rattle.user_rules.specs.Rules.{relations_of}
 use Rattle.report.specs.Last.{item_of, most_last}
-use Rattle.report.specs.Rounds.{IsDecided}
+use Rattle.report.specs.Rounds.{IsDecided, LeavesItsPiece}
+use Rattle.report.specs.Shown.{StillRejects}
 use Rattle.report.proofs.Going.{behind_on, decided_on, filled_on, last_on}
 use Rattle.report.proofs.LastOnes.{kept_on}
+use Rattle.report.proofs.Rejecting.{still_rejects}
 use Rattle.report.proofs.rounds.judge_all.Goals as goal
+
+pub tell-requires-clause-rejects : goal.tell-requires-clause-rejects
+tell-requires-clause-rejects g c =
+    let config = c.args.config.now in
+    let outcome = c.rounds.invariant.outcome in
+    let round : List Ordered = c.rounds.round.items in
+    let leaves : LeavesItsPiece config c.rounds.judge round c.judge_last-answer.result c.judge_last-answer.new.judge =
+    rw c.deref.ensures.value at c.judge_last-answer.ensures.leaves in
+    rw c.deref-in-Ended-2.ensures.value
+    (still_rejects config c.rounds.judge c.judge_last-answer.new.judge outcome.0 round c.judge_last-answer.result outcome.2.0 outcome.2.2 c.rounds.invariant.may.placed leaves)
+
+pub tell-requires-in-Ok-Some-clause-rejects : goal.tell-requires-in-Ok-Some-clause-rejects
+tell-requires-in-Ok-Some-clause-rejects g c =
+    let config = c.args.config.now in
+    let relations = relations_of c.args.rules.now in
+    let outcome = c.rounds.invariant.outcome in
+    let round : List Ordered = c.rounds.round.items in
+    let verdict = c.in-Ok-Some.verdict in
+    let judged = c.judge_and_fill-decided.new.judge in
+    let decided : IsDecided config relations c.rounds.judge round (Some verdict) judged =
+    rw c.in-Ok-Some.field-0-is at (rw c.in-Ok-Some.is at (rw c.deref-in-rounds.ensures.value at c.judge_and_fill-decided.ensures.decided)) in
+    subst (λ records. StillRejects config records (Ok verdict) judged) (sym c.deref-in-Ok-Some-2.ensures.value)
+    (still_rejects config c.rounds.judge judged outcome.0 round (Ok verdict) outcome.2.0 outcome.2.2 c.rounds.invariant.may.placed decided.2)
 
 pub returns-in-Ended : goal.returns-in-Ended
 returns-in-Ended g c = λ honest.
@@ -20,7 +45,7 @@ returns-in-Ended g c = λ honest.
     rw (rw (c.deref-in-Ended.ensures.value, c.count-first.ensures, outcome.3) at c.keep_behind.ensures)
     (last_on can_fail c.args.config.now (relations_of c.args.rules.now) c.args.placer.now c.rounds.placer c.rounds.judge outcome.0 round c.in-Ended.end c.judge_last-answer.result
     (subst (λ filled. IsFilled can_fail c.args.placer.now (outcome.0 ++ round) filled c.rounds.placer) c.in-Ended.is (outcome.1 honest)) outcome.2 c.rounds.invariant.may.placed
-    (rw c.deref.ensures.value at c.judge_last-answer.ensures))
+    (rw c.deref.ensures.value at c.judge_last-answer.ensures.answer))
 
 pub returns-in-Ok-Some : goal.returns-in-Ok-Some
 returns-in-Ok-Some g c =

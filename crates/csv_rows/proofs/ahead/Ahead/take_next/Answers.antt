@@ -14,5 +14,5 @@ loop-preserved g c =
     let P : Option (List Fields) → Type 0 = λ rows. KeepsRows (rows_left (unread_of known c.loop.self)) rows in (
       keeps_rows_through _ _ _ c.loop.invariant.0 (subst P (sym skipped) (rows_stay _ _ c.in_ok-line.ensures.keeps)),
       c.front.ensures.begun ∙ c.loop.invariant.1,
-      c.in_ok-line.ensures.tells ∙ c.loop.invariant.2,
+      c.in_ok-line.ensures.reports ∙ c.loop.invariant.2,
     )

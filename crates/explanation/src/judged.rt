@@ -1,0 +1,117 @@
+// What a call is judged by: the process or the object that it names, or the time.
+
+use crate::held::tell_object;
+use crate::processes::{peer_of, tell_numbered};
+use apex_types::{Call, CallerOperation, ObjectKind, ProcId, ProcessOperation, Request, Who};
+use partition_state::PartitionState;
+use wording::Words;
+
+/// Tells what a call is judged by: the process or the object that it names, or the time.
+pub fn tell_basis(words: &mut Words, state: &PartitionState, now: u64, call: &Call) {
+    match &call.request {
+        Request::CreateProcess { .. }
+        | Request::SetPartitionMode(..)
+        | Request::Create(..)
+        // These go through a channel.
+        | Request::SamplingPort(..)
+        | Request::QueuingPort(..) => {}
+        Request::Process(process, operation) => {
+            tell_target(words, state, call.who, *process, operation);
+        }
+        Request::Caller(operation) => tell_time(words, state, now, call.who.proc, operation),
+        Request::Buffer(buffer, _) => tell_object(words, state, ObjectKind::Buffer, *buffer),
+        Request::Blackboard(blackboard, _) => {
+            tell_object(words, state, ObjectKind::Blackboard, *blackboard);
+        }
+        Request::Semaphore(semaphore, _) => {
+            tell_object(words, state, ObjectKind::Semaphore, *semaphore);
+        }
+        Request::Event(event, _) => tell_object(words, state, ObjectKind::Event, *event),
+        Request::Mutex(mutex, _) => tell_object(words, state, ObjectKind::Mutex, *mutex),
+        Request::GetId(kind, name) => {
+            if let Some(number) = state.number_of(*kind, name) {
+                tell_object(words, state, *kind, i64::from(number));
+            }
+        }
+        Request::GetStatus(kind, object) => tell_object(words, state, *kind, *object),
+    }
+}
+
+/// Shows what already has the number that a creation claims.
+pub fn tell_holder(words: &mut Words, state: &PartitionState, call: &Call) {
+    let Some(number) = call.claim.val else {
+        return;
+    };
+    match &call.request {
+        Request::CreateProcess { .. } => {
+            if let Some(holder) = peer_of(state, call.who, number) {
+                tell_numbered(words, state, holder);
+            }
+        }
+        Request::Create(_, object) => tell_object(words, state, object.kind(), number),
+        Request::Process(..)
+        | Request::Caller(_)
+        | Request::SetPartitionMode(..)
+        | Request::Buffer(..)
+        | Request::Blackboard(..)
+        | Request::Semaphore(..)
+        | Request::Event(..)
+        | Request::Mutex(..)
+        | Request::SamplingPort(..)
+        | Request::QueuingPort(..)
+        | Request::GetId(..)
+        | Request::GetStatus(..) => {}
+    }
+}
+
+// Tells the process that a call names, where the answer depends on it.
+fn tell_target(
+    words: &mut Words,
+    state: &PartitionState,
+    caller: Who,
+    process: i64,
+    operation: &ProcessOperation,
+) {
+    match operation {
+        ProcessOperation::Resume => {
+            if let Some(peer) = peer_of(state, caller, process) {
+                tell_numbered(words, state, peer);
+            }
+        }
+        ProcessOperation::InitializeCoreAffinity { .. }
+        | ProcessOperation::Start
+        | ProcessOperation::Stop
+        | ProcessOperation::Suspend
+        | ProcessOperation::SetPriority { .. } => {}
+    }
+}
+
+// Tells the time, where the answer to its caller depends on it.
+fn tell_time(
+    words: &mut Words,
+    state: &PartitionState,
+    now: u64,
+    caller: ProcId,
+    operation: &CallerOperation,
+) {
+    match operation {
+        CallerOperation::PeriodicWait => {
+            if let Some(process) = state.processes().proc(caller) {
+                words.next_line();
+                words.say(format_args!("its last release was at {}", process.last_release));
+                if let Some(period) = process.period {
+                    words.say(format_args!(", its period is {period}"));
+                }
+                words.say(format_args!(", and the time is {now}"));
+            }
+        }
+        CallerOperation::GetTime => {
+            words.next_line();
+            words.say(format_args!("the time of its core is {now}"));
+        }
+        CallerOperation::StopSelf
+        | CallerOperation::SuspendSelf { .. }
+        | CallerOperation::GetMyId
+        | CallerOperation::TimedWait { .. } => {}
+    }
+}

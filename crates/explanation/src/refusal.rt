@@ -1,0 +1,71 @@
+// A record that a piece refuses, and what of the piece is asked for it.
+
+use apex_types::{Body, Call, Cause, CoreId, Ordered, PartId, Who};
+use dispatch_rule::Clock;
+use module_config::Config;
+use partition_state::PartitionState;
+use piece_check::{Piece, Seen};
+
+/// A record that a piece refuses for a cause. The piece is as it was before the record.
+#[derive(Clone, Copy)]
+pub struct Refusal<'a> {
+    pub config: &'a Config,
+    pub piece: &'a Piece,
+    pub ordered: &'a Ordered,
+    pub cause: Cause,
+}
+
+/// A partition that refuses a record: its number and its state.
+#[derive(Clone, Copy)]
+pub struct Refusing<'a> {
+    pub number: PartId,
+    pub state: &'a PartitionState,
+}
+
+impl<'a> Refusal<'a> {
+    /// The core of the record.
+    pub fn core(&self) -> CoreId {
+        self.ordered.core
+    }
+
+    /// The time of the record's core, in ticks.
+    pub fn time(&self) -> u64 {
+        match self.piece.seen() {
+            Seen::Module { clock } | Seen::Partition { clock, .. } => clock.now(self.ordered.core),
+            Seen::Channel { times, .. } => times.now(self.ordered.core),
+        }
+    }
+
+    /// The clock of the module; None where another piece refuses the record.
+    pub fn module_clock(&self) -> Option<&'a Clock> {
+        match self.piece.seen() {
+            Seen::Module { clock } => Some(clock),
+            Seen::Partition { .. } | Seen::Channel { .. } => None,
+        }
+    }
+
+    /// The partition that refuses the record; None where it is another piece.
+    pub fn partition(&self) -> Option<Refusing<'a>> {
+        match self.piece.seen() {
+            Seen::Partition { number, state, .. } => Some(Refusing { number, state }),
+            Seen::Module { .. } | Seen::Channel { .. } => None,
+        }
+    }
+
+    /// The call that is refused; None where it is another record.
+    pub fn call(&self) -> Option<&'a Call> {
+        match &self.ordered.rec.body {
+            Body::Call(call) => Some(call),
+            Body::Ret(_) | Body::Disp(_) | Body::Tick(_) => None,
+        }
+    }
+
+    /// Who calls or returns; None where it is another record.
+    pub fn actor(&self) -> Option<Who> {
+        match &self.ordered.rec.body {
+            Body::Call(call) => Some(call.who),
+            Body::Ret(ret) => Some(ret.who),
+            Body::Disp(_) | Body::Tick(_) => None,
+        }
+    }
+}

@@ -1,0 +1,32 @@
+use Rattle.std.proofs.Common.{◌≡◌, ◌∙◌, Ok, ap, subst, sym}
+use Rattle.std.specs.Prelude.{option_copied}
+use Rattle.verdict_merge.specs.declared.verdict.Verdict.TheVariants.{No}
+use Rattle.report.specs.Shown.{StillRejects}
+use Rattle.report.proofs.Rejecting.{rejects_shown}
+use Rattle.report.proofs.witness.tell.Goals as goal
+
+pub refused-requires-clause-reached : goal.refused-requires-clause-reached
+refused-requires-clause-reached g c =
+    let config = c.args.config.now in
+    let records = c.args.records.now in
+    let judging = c.args.judge.now in
+    let no = c.in-Ok-No in
+    let shown = c.in-Some-Some in
+    let answer : c.args.answer.now ≡ Ok (No no.pos no.piece no.cause) = no.is ∙ ap (λ verdict. Ok verdict) (rw no.is at no.field-0-is) in
+    let rejects = subst (λ answer. StillRejects config records answer judging) answer c.requires.rejects in
+    let both = rejects_shown config judging c.args.first records no.pos no.piece no.cause shown.piece.now shown.ordered.now c.requires.placed rejects
+    (sym c.piece.ensures ∙ ap (λ piece. option_copied piece) shown.is-0) (sym c.record_at-found.ensures ∙ ap (λ ordered. option_copied ordered) shown.is-1) in
+    both.0
+
+pub refused-requires-clause-rejects : goal.refused-requires-clause-rejects
+refused-requires-clause-rejects g c =
+    let config = c.args.config.now in
+    let records = c.args.records.now in
+    let judging = c.args.judge.now in
+    let no = c.in-Ok-No in
+    let shown = c.in-Some-Some in
+    let answer : c.args.answer.now ≡ Ok (No no.pos no.piece no.cause) = no.is ∙ ap (λ verdict. Ok verdict) (rw no.is at no.field-0-is) in
+    let rejects = subst (λ answer. StillRejects config records answer judging) answer c.requires.rejects in
+    let both = rejects_shown config judging c.args.first records no.pos no.piece no.cause shown.piece.now shown.ordered.now c.requires.placed rejects
+    (sym c.piece.ensures ∙ ap (λ piece. option_copied piece) shown.is-0) (sym c.record_at-found.ensures ∙ ap (λ ordered. option_copied ordered) shown.is-1) in
+    both.1
