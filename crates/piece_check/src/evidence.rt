@@ -365,7 +365,9 @@ fn first_left_back(config: &Config, now: u64, states: &[CoreState]) -> Option<us
     ensures { result ≡ position_from (leaves_back config.now now) 0 states.now }
 {
     let skew = config.skew();
-    states.iter().position(|other| is_left_back(now, skew, other))
+    states
+        .iter()
+        .position(|other| is_left_back(now, skew, other))
 }
 
 // Whether a core is left more than the skew back after a tick of one that is at this time.
@@ -468,16 +470,11 @@ fn first_owned(mutexes: &ObjectTable<Mutex653>, process: ProcId) -> Option<u32>
 }
 
 // The number of the first mutex that has this priority and that a process does not own.
-fn first_elsewhere(
-    mutexes: &ObjectTable<Mutex653>,
-    process: ProcId,
-    priority: u8,
-) -> Option<u32>
+fn first_elsewhere(mutexes: &ObjectTable<Mutex653>, process: ProcId, priority: u8) -> Option<u32>
     ensures { result ≡ first_mutex (is_elsewhere priority process) mutexes.now }
 {
-    let (number, _) = mutexes
-        .iter()
-        .find(|(_, mutex)| mutex.priority() == priority && !mutex.is_owned_by(process))?;
+    let (number, _) = mutexes.iter().find(|(_, mutex)| mutex.priority() == priority
+        && !mutex.is_owned_by(process))?;
     Some(*number)
 }
 

@@ -17,7 +17,9 @@ use partition_state::PartitionState;
 #[derive(Clone, Copy)]
 pub enum Seen<'a> {
     /// The module: the times and occupants of the cores.
-    Module { clock: &'a Clock },
+    Module {
+        clock: &'a Clock,
+    },
     /// A partition: its number, the times and occupants of the cores as it knows them, and its state.
     Partition {
         number: PartId,

@@ -61,7 +61,12 @@ pub fn read_service(format: Format, fields: &RowFields) -> Result<Service, Misre
     ensures own { IfErr result (λ misread. IsOfRow misread.fault) }
 {
     let name = text(fields, Column::Service);
-    required(Column::Service, name, find_service_in(format, name), RowFault::BadService)
+    required(
+        Column::Service,
+        name,
+        find_service_in(format, name),
+        RowFault::BadService,
+    )
 }
 
 // The service of this name, where the format has it.

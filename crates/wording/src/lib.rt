@@ -2,7 +2,7 @@
 //! records and requests, and the place in the specification of a service's rule.
 //!
 //! Promises nothing but that its functions end and take no memory beyond their texts. A text has about 16 KiB at most. Where memory
-//! is refused, or the text is long, nothing more is added.
+//! is refused, or the text is long, nothing more is added; whether memory was refused is kept.
 #![tactic(auto)]
 
 mod naming;

@@ -1,0 +1,166 @@
+// The files of a run, opened and shown.
+
+use crate::ending::{Ending, out_of_memory, refused_by};
+use crate::run::{Shown, show};
+use crate::usage::FilesAsked;
+use answer_words::{Explainer, InputNames, open, open_text};
+use core_intake::Intake;
+use csv_rows::Watched;
+use module_config::Config;
+use order_cert::CertSource;
+use placement::Placer;
+use report::{ArgumentFault, CheckFault};
+use rule_options::{RuleOption, relations_of};
+use rules_file::{NamedRule, RulesRefusal};
+use sink::Sink;
+use std::alloc::{AllocError, Global};
+use std::fs::{File, Files};
+use std::io;
+use std::io::ErrorKind;
+use std::sync::Wait;
+use std::thread::Threads;
+use user_rules::Relation;
+
+/// How many records of a core are read ahead.
+const DEPTH: usize = 64;
+
+/// Opens the files of a run and shows it. The explainer receives what explains its end.
+pub fn show_files<R, W: Sink>(
+    rt: &R,
+    alloc: Global,
+    asked: &FilesAsked,
+    explainer: &mut Explainer,
+    output: &mut W,
+) -> Ending
+where
+    R: Files<File = File> + Threads + Wait + Sync + Copy + Send + 'static,
+{
+    let names = &asked.names;
+    let config = match reported(
+        explainer,
+        &names.config,
+        open_text(rt, alloc, &names.config),
+    ) {
+        Ok(config) => config,
+        Err(ending) => return ending,
+    };
+    let rules_text = match open_rules(rt, alloc, names, explainer) {
+        Ok(text) => text,
+        Err(ending) => return ending,
+    };
+    let order: File = match reported(explainer, &names.order, open(rt, &names.order)) {
+        Ok(order) => order,
+        Err(ending) => return ending,
+    };
+    let cores = match open_cores(rt, alloc, names, explainer) {
+        Ok(cores) => cores,
+        Err(ending) => return ending,
+    };
+    let rules = match read_rules(alloc, rules_text.as_deref()) {
+        Ok(rules) => rules,
+        Err(refusal) => {
+            explainer.note_rules(names, &refusal, rules_text.as_deref());
+            return refused_by(refusal.fault);
+        }
+    };
+    let Ok(options) = asked.options.in_order(alloc) else {
+        return out_of_memory();
+    };
+    let Ok(relations) = all_relations(alloc, &options, &rules) else {
+        return out_of_memory();
+    };
+    explainer.note_configuration(&config);
+    let config = match Config::read(alloc, &config) {
+        Ok(config) => config,
+        Err(fault) if fault.is_memory() => return out_of_memory(),
+        Err(fault) => return Ending::Checked(Err(CheckFault::Config(fault))),
+    };
+    if cores.len() != config.cores() as usize {
+        return Ending::Checked(Err(CheckFault::Arguments(ArgumentFault::ReaderCount)));
+    }
+    let Ok(intake) = Intake::open(*rt, alloc, cores, DEPTH) else {
+        return out_of_memory();
+    };
+    let mut placer = Placer::new(intake, CertSource::new(alloc, Watched::new(order)));
+    let shown = Shown {
+        config: &config,
+        options: options.as_slice(),
+        relations: relations.as_slice(),
+        rules: rules.as_slice(),
+        asked,
+    };
+    let ending = show(rt, alloc, &shown, &mut placer, explainer, output);
+    placer.close(rt);
+    ending
+}
+
+// The answer of the system for the file of this name. A refusal other than want of memory is noted for a person.
+fn reported<T: Drop>(
+    explainer: &mut Explainer,
+    name: &str,
+    answer: io::Result<T>,
+) -> Result<T, Ending> {
+    match answer {
+        Ok(value) => Ok(value),
+        Err(e) if e.kind() == ErrorKind::OutOfMemory => Err(out_of_memory()),
+        Err(e) => {
+            explainer.note_unopened(name, e);
+            Err(Ending::Unopened)
+        }
+    }
+}
+
+fn open_rules<R: Files<File = File>>(
+    rt: &R,
+    alloc: Global,
+    names: &InputNames,
+    explainer: &mut Explainer,
+) -> Result<Option<Vec<u8>>, Ending> {
+    match &names.rules {
+        None => Ok(None),
+        Some(name) => match reported(explainer, name, open_text(rt, alloc, name)) {
+            Ok(text) => Ok(Some(text)),
+            Err(ending) => Err(ending),
+        },
+    }
+}
+
+fn open_cores<R: Files<File = File>>(
+    rt: &R,
+    alloc: Global,
+    names: &InputNames,
+    explainer: &mut Explainer,
+) -> Result<Vec<Watched<File>>, Ending> {
+    let mut cores = Vec::new(alloc);
+    for name in names.cores.iter() {
+        let core: File = match reported(explainer, name, open(rt, name)) {
+            Ok(core) => core,
+            Err(ending) => return Err(ending),
+        };
+        if cores.push(Watched::new(core)).is_err() {
+            return Err(out_of_memory());
+        }
+    }
+    Ok(cores)
+}
+
+// The rules that a text gives, in its order; none where there is no text.
+fn read_rules(alloc: Global, text: Option<&[u8]>) -> Result<Vec<NamedRule>, RulesRefusal> {
+    match text {
+        Some(text) => rules_file::read_explained(alloc, text),
+        None => Ok(Vec::new(alloc)),
+    }
+}
+
+// The relations that options ask for, and after them those of the rules file.
+fn all_relations(
+    alloc: Global,
+    options: &[RuleOption],
+    rules: &[NamedRule],
+) -> Result<Vec<Relation>, AllocError> {
+    let mut relations = relations_of(alloc, options)?;
+    for rule in rules {
+        relations.push(rule.relation.clone()?)?;
+    }
+    Ok(relations)
+}

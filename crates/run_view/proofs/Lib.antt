@@ -1,0 +1,7 @@
+pub mod Standings
+pub mod Turns
+pub mod Adding
+pub mod Parts
+pub mod Righting
+pub mod Showing
+pub mod Following
