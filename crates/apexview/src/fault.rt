@@ -1,9 +1,10 @@
 // Why a run is not shown whole.
 
 use crate::ending::{Ending, out_of_memory};
+use apex_types::Ordered;
 use placement::{InputFault, PlacingFault};
-use report::CheckFault;
-use run_walk::WalkFault;
+use report::{CheckFault, Verdict};
+use run_walk::{Refusal, WalkFault};
 use sink::WriteFault;
 use std::alloc::{AllocError, AllocFailed};
 use view_trace::TraceFault;
@@ -13,6 +14,8 @@ use view_trace::TraceFault;
 pub enum ShowFault {
     /// The certificate, the order or a recording is refused.
     Input(InputFault),
+    /// A piece rejects a record, in a second walk over the records that a first walk accepted.
+    Rejected(Verdict),
     /// Memory was refused.
     Memory,
     /// Standard output could not be written.
@@ -24,10 +27,20 @@ impl ShowFault {
     pub fn ending(self) -> Ending {
         match self {
             ShowFault::Input(fault) => Ending::Checked(Err(CheckFault::Input(fault))),
+            ShowFault::Rejected(verdict) => Ending::Checked(Ok(verdict)),
             ShowFault::Memory => out_of_memory(),
             ShowFault::Unwritten => Ending::Unwritten,
         }
     }
+}
+
+/// The fault that a rejected record is.
+pub fn rejected(ordered: &Ordered, refusal: &Refusal) -> ShowFault {
+    ShowFault::Rejected(Verdict::No {
+        pos: ordered.pos,
+        piece: refusal.piece,
+        cause: refusal.cause,
+    })
 }
 
 impl From<PlacingFault> for ShowFault {

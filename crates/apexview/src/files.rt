@@ -24,7 +24,8 @@ use user_rules::Relation;
 /// How many records of a core are read ahead.
 const DEPTH: usize = 64;
 
-/// Opens the files of a run and shows it. The explainer receives what explains its end.
+/// Opens the files of a run and shows it. The configuration is read first, then the rules file, if one is named; then the order is
+/// opened, then the recordings, core 0 first. The explainer receives what explains its end.
 pub fn show_files<R, W: Sink>(
     rt: &R,
     alloc: Global,
@@ -35,61 +36,114 @@ pub fn show_files<R, W: Sink>(
 where
     R: Files<File = File> + Threads + Wait + Sync + Copy + Send + 'static,
 {
-    let names = &asked.names;
-    let config = match reported(
-        explainer,
-        &names.config,
-        open_text(rt, alloc, &names.config),
-    ) {
-        Ok(config) => config,
-        Err(ending) => return ending,
-    };
-    let rules_text = match open_rules(rt, alloc, names, explainer) {
-        Ok(text) => text,
-        Err(ending) => return ending,
-    };
-    let order: File = match reported(explainer, &names.order, open(rt, &names.order)) {
-        Ok(order) => order,
-        Err(ending) => return ending,
-    };
-    let cores = match open_cores(rt, alloc, names, explainer) {
-        Ok(cores) => cores,
-        Err(ending) => return ending,
-    };
-    let rules = match read_rules(alloc, rules_text.as_deref()) {
-        Ok(rules) => rules,
-        Err(refusal) => {
-            explainer.note_rules(names, &refusal, rules_text.as_deref());
-            return refused_by(refusal.fault);
-        }
-    };
-    let Ok(options) = asked.options.in_order(alloc) else {
-        return out_of_memory();
-    };
-    let Ok(relations) = all_relations(alloc, &options, &rules) else {
-        return out_of_memory();
-    };
-    explainer.note_configuration(&config);
-    let config = match Config::read(alloc, &config) {
-        Ok(config) => config,
-        Err(fault) if fault.is_memory() => return out_of_memory(),
-        Err(fault) => return Ending::Checked(Err(CheckFault::Config(fault))),
-    };
-    if cores.len() != config.cores() as usize {
+    match Opened::open(rt, alloc, &asked.names, explainer) {
+        Ok(opened) => opened.show(rt, alloc, asked, explainer, output),
+        Err(ending) => ending,
+    }
+}
+
+// What is opened to be shown.
+#[derive(Drop)]
+struct Opened {
+    config: Vec<u8>,
+    rules: Option<Vec<u8>>,
+    order: Watched<File>,
+    cores: Vec<Watched<File>>,
+}
+
+impl Opened {
+    fn open<R: Files<File = File>>(
+        rt: &R,
+        alloc: Global,
+        names: &InputNames,
+        explainer: &mut Explainer,
+    ) -> Result<Opened, Ending> {
+        let config = reported(
+            explainer,
+            &names.config,
+            open_text(rt, alloc, &names.config),
+        )?;
+        let rules = open_rules(rt, alloc, names, explainer)?;
+        let order = Watched::new(reported(explainer, &names.order, open(rt, &names.order))?);
+        let cores = open_cores(rt, alloc, names, explainer)?;
+        Ok(Opened {
+            config,
+            rules,
+            order,
+            cores,
+        })
+    }
+
+    // Judges the rules file, and then shows the others under the rules of the options and of the file.
+    fn show<R, W: Sink>(
+        self,
+        rt: &R,
+        alloc: Global,
+        asked: &FilesAsked,
+        explainer: &mut Explainer,
+        output: &mut W,
+    ) -> Ending
+    where
+        R: Files<File = File> + Threads + Wait + Sync + Copy + Send + 'static,
+    {
+        let Opened {
+            config: text,
+            rules,
+            order,
+            cores,
+        } = self;
+        let rules_text = rules.as_deref();
+        let rules = match read_rules(alloc, rules_text) {
+            Ok(rules) => rules,
+            Err(refusal) => {
+                explainer.note_rules(&asked.names, &refusal, rules_text);
+                return refused_by(refusal.fault);
+            }
+        };
+        let Ok(options) = asked.options.in_order(alloc) else {
+            return out_of_memory();
+        };
+        let Ok(relations) = all_relations(alloc, &options, &rules) else {
+            return out_of_memory();
+        };
+        explainer.note_configuration(&text);
+        let config = match Config::read(alloc, &text) {
+            Ok(config) => config,
+            Err(fault) if fault.is_memory() => return out_of_memory(),
+            Err(fault) => return Ending::Checked(Err(CheckFault::Config(fault))),
+        };
+        let shown = Shown {
+            config: &config,
+            options: &options,
+            relations: &relations,
+            rules: &rules,
+            asked,
+        };
+        show_recordings(rt, alloc, &shown, order, cores, explainer, output)
+    }
+}
+
+// Shows the recordings in this order.
+fn show_recordings<R, W: Sink>(
+    rt: &R,
+    alloc: Global,
+    shown: &Shown<'_>,
+    order: Watched<File>,
+    cores: Vec<Watched<File>>,
+    explainer: &mut Explainer,
+    output: &mut W,
+) -> Ending
+where
+    R: Files<File = File> + Threads + Wait + Sync + Copy + Send + 'static,
+{
+    if cores.len() != shown.config.cores() as usize {
         return Ending::Checked(Err(CheckFault::Arguments(ArgumentFault::ReaderCount)));
     }
     let Ok(intake) = Intake::open(*rt, alloc, cores, DEPTH) else {
         return out_of_memory();
     };
-    let mut placer = Placer::new(intake, CertSource::new(alloc, Watched::new(order)));
-    let shown = Shown {
-        config: &config,
-        options: options.as_slice(),
-        relations: relations.as_slice(),
-        rules: rules.as_slice(),
-        asked,
-    };
-    let ending = show(rt, alloc, &shown, &mut placer, explainer, output);
+    let mut placer = Placer::new(intake, CertSource::new(alloc, order));
+    let ending = show(rt, alloc, shown, &mut placer, explainer, output);
     placer.close(rt);
     ending
 }

@@ -7,6 +7,10 @@
 //! by that.
 #![tactic(auto)]
 
+ghost use Rattle.std.specs.Prelude.{◌≡◌, ◌⊎◌, IfErr, Ok};
+ghost use Rattle.apexview.specs.declared.ending.Ending.TheVariants.{Unwritten, Version};
+ghost use Rattle.apexview.specs.Endings.{refused_words};
+
 mod ending;
 mod explained;
 mod fault;
@@ -52,6 +56,8 @@ fn answer<R, W: Sink>(
 ) -> Ending
 where
     R: Files<File = File> + Threads + Wait + Sync + Copy + Send + 'static,
+    ensures version { asked.now ≡ Ok Asked.Version → (result ≡ Version) ⊎ (result ≡ Unwritten) }
+    ensures refused { IfErr asked.now (λ fault. result ≡ refused_words fault) }
 {
     match asked {
         Ok(Asked::Version) => match put_all(output, b"apexview 0.1.0\n") {

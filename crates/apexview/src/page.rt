@@ -1,7 +1,12 @@
 // A run as a picture.
 
+ghost use Rattle.std.specs.Prelude.{◌≡◌, ◌<◌, ◌+◌, IfOk, OnOk, false, length};
+ghost use Rattle.order_cert.specs.Kept.{place_of};
+ghost use Rattle.verdict_merge.specs.Rounds.{AreGoing};
+ghost use Rattle.apexview.specs.Stretches.{IsWhole};
+
 use crate::ending::{Ending, Line};
-use crate::fault::ShowFault;
+use crate::fault::{ShowFault, rejected};
 use crate::rows::ShownRows;
 use crate::run::Shown;
 use crate::stretch::{Stretch, gather};
@@ -9,9 +14,11 @@ use crate::usage::Format;
 use answer_words::{Explainer, RunFiles};
 use apex_types::Ordered;
 use csv_rows::TextSource;
+use module_config::Config;
 use placement::Placer;
 use report::{CheckFault, Verdict};
-use run_view::{LastSeen, MessageLinks};
+use run_view::{Change, LastSeen, MessageLinks};
+use run_walk::Walk;
 use sink::{Sink, put_all};
 use std::alloc::{AllocError, Global};
 use std::fs::{File, Files};
@@ -33,6 +40,9 @@ pub fn show_picture<R, S: TextSource, C: TextSource, W: Sink>(
 ) -> Ending
 where
     R: Files<File = File> + Wait,
+    requires going { placer.old.ended ≡ false }
+    requires first { place_of placer.old.kept ≡ 0 }
+    requires cores { length placer.old.lanes ≡ shown.now.config.now.cores }
 {
     let (verdict, stretch) = match gather(rt, alloc, shown, placer, explainer) {
         Ok(gathered) => gathered,
@@ -55,6 +65,7 @@ fn write_picture<R, W: Sink>(
 ) -> Result<(), ShowFault>
 where
     R: Files<File = File>,
+    requires { IsWhole shown.now.config.now stretch }
 {
     let heading = heading_of(alloc, shown, &verdict, &stretch)?;
     let outcome = Ok(verdict);
@@ -145,46 +156,30 @@ fn picture_of<R: Files<File = File>>(
     alloc: Global,
     shown: &Shown<'_>,
     stretch: Stretch,
-) -> Result<Picture, ShowFault> {
+) -> Result<Picture, ShowFault>
+    requires { IsWhole shown.now.config.now stretch }
+{
+    let rows = rows_of(rt, alloc, shown, &stretch)?;
     let Stretch {
-        before: mut walk,
-        kept,
+        before,
+        mut kept,
         rejected,
         is_broken,
         after,
     } = stretch;
-    let mut records: Vec<&Ordered> = Vec::new(alloc);
-    for ordered in kept.iter() {
-        records.push(ordered)?;
-    }
-    if let Some(rejected) = &rejected {
-        records.push(&rejected.ordered)?;
-    }
-    for ordered in after.iter() {
-        records.push(ordered)?;
-    }
-    let rows = ShownRows::find(rt, alloc, &shown.asked.names, records.as_slice())?;
-    let mut picture = Picture::new(alloc);
-    let mut seen = LastSeen::new(alloc);
-    let mut links = MessageLinks::new(alloc);
-    let mut changes = Vec::new(alloc);
-    seen.look(shown.config, walk.pieces(), None, &mut changes)?;
-    picture.begin(walk.pieces(), changes.as_slice())?;
-    let count = kept.len();
-    for (index, ordered) in kept.iter().enumerate() {
-        walk.take(shown.config, ordered)?;
-        changes.clear();
-        seen.look(shown.config, walk.pieces(), Some(ordered), &mut changes)?;
-        let followed = links.follow(walk.pieces(), ordered)?;
-        let is_last = index.saturating_add(1) == count;
-        let status = if is_broken && is_last {
+    let mut drawing = Drawing::begin(alloc, shown.config, before)?;
+    'records: for _ in 0..kept.len() {
+        let Some(ordered) = kept.pop_front() else {
+            break;
+        };
+        let status = if is_broken && kept.is_empty() {
             Status::Broken
         } else {
             Status::Accepted
         };
-        let added = added(&rows, ordered, status);
-        picture.accept(walk.pieces(), &added, changes.as_slice(), followed.received)?;
+        drawing.accept(&rows, &ordered, status)?;
     }
+    let mut picture = drawing.end();
     if let Some(rejected) = &rejected {
         let added = added(&rows, &rejected.ordered, Status::Rejected);
         picture.reject(&added, rejected.cause_name(), rejected.lawful.as_slice())?;
@@ -201,6 +196,100 @@ fn picture_of<R: Files<File = File>>(
     Ok(picture)
 }
 
+// The rows of the records of a stretch.
+fn rows_of<'a, R: Files<File = File>>(
+    rt: &R,
+    alloc: Global,
+    shown: &Shown<'a>,
+    stretch: &Stretch,
+) -> Result<ShownRows<'a>, AllocError> {
+    let mut records: Vec<&Ordered> = Vec::new(alloc);
+    for ordered in stretch.kept.iter() {
+        records.push(ordered)?;
+    }
+    if let Some(rejected) = &stretch.rejected {
+        records.push(&rejected.ordered)?;
+    }
+    for ordered in stretch.after.iter() {
+        records.push(ordered)?;
+    }
+    ShownRows::find(rt, alloc, &shown.asked.names, records.as_slice())
+}
+
+// A picture that grows record by record, and the pieces that the records go through.
+#[derive(Drop)]
+struct Drawing<'a> {
+    config: &'a Config,
+    walk: Walk,
+    seen: LastSeen,
+    links: MessageLinks,
+    changes: Vec<Change>,
+    picture: Picture,
+}
+
+impl<'a> Drawing<'a> {
+    // The picture of these pieces before the first record.
+    fn begin(alloc: Global, config: &'a Config, walk: Walk) -> Result<Drawing<'a>, ShowFault>
+        ensures config { IfOk result (λ drawing. drawing.config.now ≡ config.now) }
+        ensures walk { IfOk result (λ drawing. drawing.walk ≡ walk) }
+    {
+        let mut drawing = Drawing {
+            config,
+            walk,
+            seen: LastSeen::new(alloc),
+            links: MessageLinks::new(alloc),
+            changes: Vec::new(alloc),
+            picture: Picture::new(alloc),
+        };
+        let pieces = drawing.walk.pieces();
+        drawing
+            .seen
+            .look(config, pieces, None, &mut drawing.changes)?;
+        drawing.picture.begin(pieces, drawing.changes.as_slice())?;
+        Ok(drawing)
+    }
+
+    // The picture of the records so far.
+    fn end(self) -> Picture {
+        let Drawing {
+            config: _,
+            walk: _,
+            seen: _,
+            links: _,
+            changes: _,
+            picture,
+        } = self;
+        picture
+    }
+
+    // Adds a record that was accepted, or that breaks a rule.
+    fn accept(
+        &mut self,
+        rows: &ShownRows<'_>,
+        ordered: &Ordered,
+        status: Status,
+    ) -> Result<(), ShowFault>
+        requires going { AreGoing self.old.config.now ordered.now.pos self.old.walk }
+        requires core { ordered.now.core < self.old.config.now.cores }
+        ensures config { self.new.config ≡ self.old.config }
+        ensures going { OnOk result (AreGoing self.old.config.now (ordered.now.pos + 1) self.new.walk) }
+    {
+        if let Some(refusal) = self.walk.take(self.config, ordered)? {
+            return Err(rejected(ordered, &refusal));
+        }
+        let pieces = self.walk.pieces();
+        self.changes.clear();
+        self.seen
+            .look(self.config, pieces, Some(ordered), &mut self.changes)?;
+        let followed = self.links.follow(pieces, ordered)?;
+        let added = added(rows, ordered, status);
+        self.picture
+            .accept(pieces, &added, self.changes.as_slice(), followed.received)?;
+        Ok(())
+    }
+}
+
+// Where a record is, and what was made of it.
 fn added<'a>(rows: &'a ShownRows<'a>, ordered: &'a Ordered, status: Status) -> Added<'a> {
     Added {
         ordered,

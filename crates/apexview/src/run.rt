@@ -1,5 +1,11 @@
 // A run, judged record by record while it is shown.
 
+ghost use Rattle.std.specs.Prelude.{◌≡◌, ◌<◌, ◌+◌, IfOk, None, Ok, false, length};
+ghost use Rattle.order_cert.specs.Kept.{place_of};
+ghost use Rattle.verdict_merge.specs.Rounds.{AreGoing};
+ghost use Rattle.verdict_merge.specs.declared.verdict.Verdict.TheVariants.{Yes};
+ghost use Rattle.apexview.specs.Going.{IsJudged, verdict_of};
+
 use crate::ending::Ending;
 use crate::page::show_picture;
 use crate::traced::show_trace;
@@ -51,6 +57,9 @@ pub fn show<R, S: TextSource, C: TextSource, W: Sink>(
 ) -> Ending
 where
     R: Files<File = File> + Wait,
+    requires going { placer.old.ended ≡ false }
+    requires first { place_of placer.old.kept ≡ 0 }
+    requires cores { length placer.old.lanes ≡ shown.now.config.now.cores }
 {
     match shown.asked.format {
         Format::Html | Format::Svg => show_picture(rt, alloc, shown, placer, explainer, output),
@@ -78,7 +87,10 @@ pub struct Run<'a> {
 
 impl<'a> Run<'a> {
     /// The run before its first record.
-    pub fn start(alloc: Global, shown: &'a Shown<'a>) -> Result<Run<'a>, WalkFault> {
+    pub fn start(alloc: Global, shown: &'a Shown<'a>) -> Result<Run<'a>, WalkFault>
+        ensures shown { IfOk result (λ run. run.shown.now ≡ shown.now) }
+        ensures going { IfOk result (λ run. AreGoing shown.now.config.now 0 run.walk) }
+    {
         Ok(Run {
             shown,
             walk: Walk::start(alloc, shown.config)?,
@@ -87,18 +99,22 @@ impl<'a> Run<'a> {
     }
 
     /// The pieces, as the records so far have left them.
-    pub fn walk(&self) -> &Walk {
+    pub fn walk(&self) -> &Walk
+        ensures { result.now ≡ self.now.walk }
+    {
         &self.walk
     }
 
-    /// Judges the next record.
-    pub fn judge(&mut self, ordered: &Ordered) -> Result<Judgement, WalkFault> {
+    /// Judges the next record. Memory where it was refused to a piece.
+    pub fn judge(&mut self, ordered: &Ordered) -> Result<Judgement, WalkFault>
+        requires going { AreGoing self.old.shown.now.config.now ordered.now.pos self.old.walk }
+        requires core { ordered.now.core < self.old.shown.now.config.now.cores }
+        ensures judged { IfOk result (λ judgement. IsJudged self.old.shown.now.config.now ordered.now self.old.walk judgement self.new.walk) }
+        ensures going { result ≡ Ok Judgement.Accepted → AreGoing self.old.shown.now.config.now (ordered.now.pos + 1) self.new.walk }
+        ensures shown { self.new.shown ≡ self.old.shown }
+    {
+        let view = self.view(ordered);
         let config = self.shown.config;
-        let view = if self.shown.relations.is_empty() {
-            None
-        } else {
-            self.walk.view(config, ordered)
-        };
         if let Some(refusal) = self.walk.take(config, ordered)? {
             return Ok(Judgement::Rejected(refusal));
         }
@@ -116,8 +132,20 @@ impl<'a> Run<'a> {
         Ok(Judgement::Accepted)
     }
 
+    // What the rules see of the next record. Without rules no view is made.
+    fn view(&self, ordered: &Ordered) -> Option<View>
+        requires { AreGoing self.now.shown.now.config.now ordered.now.pos self.now.walk }
+    {
+        if self.shown.relations.is_empty() {
+            return None;
+        }
+        self.walk.view(self.shown.config, ordered)
+    }
+
     /// The verdict where all records are accepted.
-    pub fn yes(&self) -> Verdict {
+    pub fn yes(&self) -> Verdict
+        ensures { result ≡ Yes self.now.count }
+    {
         Verdict::Yes {
             records: self.count,
         }
@@ -130,7 +158,10 @@ impl<'a> Run<'a> {
         ordered: &Ordered,
         judgement: &Judgement,
         explainer: &mut Explainer,
-    ) -> Option<Verdict> {
+    ) -> Option<Verdict>
+        ensures verdict { result ≡ verdict_of ordered.now judgement.now }
+        ensures accepted { result ≡ None → judgement.now ≡ Judgement.Accepted }
+    {
         match judgement {
             Judgement::Accepted => None,
             Judgement::Rejected(refusal) => {

@@ -1,6 +1,12 @@
 // The stretch of a run that a picture shows.
 
-use crate::fault::ShowFault;
+ghost use Rattle.std.specs.Prelude.{◌≡◌, ◌<◌, ◌+◌, [], IfOk, OnOk, false, length};
+ghost use Rattle.order_cert.specs.Kept.{place_of};
+ghost use Rattle.verdict_merge.specs.Rounds.{AreGoing};
+ghost use Rattle.apexview.specs.Going.{IsKept};
+ghost use Rattle.apexview.specs.Stretches.{IsWhole, KeepsSame};
+
+use crate::fault::{ShowFault, rejected};
 use crate::run::{Judgement, Run, Shown};
 use answer_words::Explainer;
 use apex_types::{Cause, Ordered};
@@ -52,36 +58,74 @@ pub fn gather<R: Wait, S: TextSource, C: TextSource>(
     shown: &Shown<'_>,
     placer: &mut Placer<S, C>,
     explainer: &mut Explainer,
-) -> Result<(Verdict, Stretch), ShowFault> {
+) -> Result<(Verdict, Stretch), ShowFault>
+    requires going { placer.old.ended ≡ false }
+    requires first { place_of placer.old.kept ≡ 0 }
+    requires cores { length placer.old.lanes ≡ shown.now.config.now.cores }
+    ensures { IfOk result (λ found. IsWhole shown.now.config.now found.1) }
+{
     let mut run = Run::start(alloc, shown)?;
     let mut stretch = Stretch::new(alloc, Walk::start(alloc, shown.config)?);
-    for _ in 0..u64::MAX {
+    // There are fewer places than this many rounds.
+    'records: for _ in 0..u64::MAX {
         let Some(ordered) = placer.next(rt)? else {
             return Ok((run.yes(), stretch));
         };
-        let is_past = shown.is_past(&ordered);
-        let judgement = run.judge(&ordered)?;
-        let verdict = run.verdict(alloc, &ordered, &judgement, explainer);
-        match judgement {
-            _ if is_past => stretch.keep_after(ordered)?,
-            Judgement::Accepted => stretch.keep(shown, ordered)?,
-            Judgement::Rejected(refusal) => {
-                let lawful = lawful_at(alloc, shown.config, &run, &ordered, &refusal)?;
-                stretch.rejected = Some(Rejected {
-                    ordered,
-                    cause: refusal.cause,
-                    lawful,
-                });
-            }
-            Judgement::Broken { .. } => {
-                stretch.keep(shown, ordered)?;
-                stretch.is_broken = true;
-            }
-        }
-        if let Some(verdict) = verdict {
-            stretch.add_after(rt, placer)?;
+        if shown.is_past(&ordered) {
+            let verdict = judge_after(
+                rt,
+                alloc,
+                &mut run,
+                ordered,
+                placer,
+                explainer,
+                &mut stretch,
+            )?;
             return Ok((verdict, stretch));
         }
+        let judgement = run.judge(&ordered)?;
+        match run.verdict(alloc, &ordered, &judgement, explainer) {
+            None => stretch.keep(shown, ordered)?,
+            Some(verdict) => {
+                stretch.decide(alloc, shown, &run, ordered, &judgement)?;
+                stretch.add_after(rt, placer)?;
+                return Ok((verdict, stretch));
+            }
+        }
+    }
+    Err(ShowFault::Memory)
+}
+
+// Judges the records from this one on, which are after the place at which the picture ends. The first few of them are kept.
+fn judge_after<R: Wait, S: TextSource, C: TextSource>(
+    rt: &R,
+    alloc: Global,
+    run: &mut Run<'_>,
+    first: Ordered,
+    placer: &mut Placer<S, C>,
+    explainer: &mut Explainer,
+    stretch: &mut Stretch,
+) -> Result<Verdict, ShowFault>
+    requires going { placer.old.ended ≡ false }
+    requires pieces { AreGoing run.old.shown.now.config.now first.pos run.old.walk }
+    requires place { place_of placer.old.kept ≡ first.pos + 1 }
+    requires core { first.core < run.old.shown.now.config.now.cores }
+    requires cores { length placer.old.lanes ≡ run.old.shown.now.config.now.cores }
+    ensures { KeepsSame stretch.old stretch.new }
+{
+    let mut next = first;
+    'records: for _ in 0..u64::MAX {
+        let judgement = run.judge(&next)?;
+        let verdict = run.verdict(alloc, &next, &judgement, explainer);
+        stretch.keep_after(next)?;
+        if let Some(verdict) = verdict {
+            stretch.add_after(rt, placer)?;
+            return Ok(verdict);
+        }
+        next = match placer.next(rt)? {
+            Some(ordered) => ordered,
+            None => return Ok(run.yes()),
+        };
     }
     Err(ShowFault::Memory)
 }
@@ -101,7 +145,10 @@ fn lawful_at(
 }
 
 impl Stretch {
-    fn new(alloc: Global, before: Walk) -> Stretch {
+    fn new(alloc: Global, before: Walk) -> Stretch
+        ensures before { result.before ≡ before }
+        ensures kept { result.kept.items ≡ [] }
+    {
         Stretch {
             before,
             kept: VecDeque::new(alloc),
@@ -112,17 +159,58 @@ impl Stretch {
     }
 
     // Keeps a record that is accepted; the pieces before the stretch take the first one, where there are more than the span.
-    fn keep(&mut self, shown: &Shown<'_>, ordered: Ordered) -> Result<(), ShowFault> {
+    fn keep(&mut self, shown: &Shown<'_>, ordered: Ordered) -> Result<(), ShowFault>
+        requires kept { IsKept shown.now.config.now ordered.pos self.old.before self.old.kept.items }
+        requires core { ordered.core < shown.now.config.now.cores }
+        ensures { OnOk result (IsKept shown.now.config.now (ordered.pos + 1) self.new.before self.new.kept.items) }
+    {
         self.kept.push_back(ordered)?;
-        if self.kept.len() > shown.asked.span {
-            if let Some(first) = self.kept.pop_front() {
-                self.before.take(shown.config, &first)?;
-            }
+        if self.kept.len() <= shown.asked.span {
+            return Ok(());
         }
-        Ok(())
+        let Some(first) = self.kept.pop_front() else {
+            return Ok(());
+        };
+        match self.before.take(shown.config, &first)? {
+            None => Ok(()),
+            Some(refusal) => Err(rejected(&first, &refusal)),
+        }
     }
 
-    fn keep_after(&mut self, ordered: Ordered) -> Result<(), ShowFault> {
+    // Keeps the record that decides: one that is rejected with what would have been lawful there, one that breaks a rule as accepted.
+    fn decide(
+        &mut self,
+        alloc: Global,
+        shown: &Shown<'_>,
+        run: &Run<'_>,
+        ordered: Ordered,
+        judgement: &Judgement,
+    ) -> Result<(), ShowFault>
+        requires kept { IsKept shown.now.config.now ordered.pos self.old.before self.old.kept.items }
+        requires core { ordered.core < shown.now.config.now.cores }
+        ensures { OnOk result (IsWhole shown.now.config.now self.new) }
+    {
+        match judgement {
+            Judgement::Rejected(refusal) => {
+                let lawful = lawful_at(alloc, shown.config, run, &ordered, refusal)?;
+                self.rejected = Some(Rejected {
+                    ordered,
+                    cause: refusal.cause,
+                    lawful,
+                });
+                Ok(())
+            }
+            Judgement::Accepted => self.keep(shown, ordered),
+            Judgement::Broken { .. } => {
+                self.is_broken = true;
+                self.keep(shown, ordered)
+            }
+        }
+    }
+
+    fn keep_after(&mut self, ordered: Ordered) -> Result<(), ShowFault>
+        ensures { KeepsSame self.old self.new }
+    {
         if self.after.len() < MOST_AFTER {
             self.after.push(ordered)?;
         }
@@ -134,8 +222,11 @@ impl Stretch {
         &mut self,
         rt: &R,
         placer: &mut Placer<S, C>,
-    ) -> Result<(), ShowFault> {
-        for _ in self.after.len()..MOST_AFTER {
+    ) -> Result<(), ShowFault>
+        requires { placer.old.ended ≡ false }
+        ensures { KeepsSame self.old self.new }
+    {
+        'records: for _ in self.after.len()..MOST_AFTER {
             match placer.next(rt) {
                 Ok(Some(ordered)) => self.after.push(ordered)?,
                 Err(PlacingFault::Memory) => return Err(ShowFault::Memory),

@@ -1,5 +1,8 @@
 // A whole run as a trace.
 
+ghost use Rattle.std.specs.Prelude.{◌≡◌, false, length};
+ghost use Rattle.order_cert.specs.Kept.{place_of};
+
 use crate::ending::Ending;
 use crate::fault::ShowFault;
 use crate::run::{Judgement, Run, Shown};
@@ -23,7 +26,11 @@ pub fn show_trace<R: Wait, S: TextSource, C: TextSource, W: Sink>(
     placer: &mut Placer<S, C>,
     explainer: &mut Explainer,
     output: &mut W,
-) -> Ending {
+) -> Ending
+    requires going { placer.old.ended ≡ false }
+    requires first { place_of placer.old.kept ≡ 0 }
+    requires cores { length placer.old.lanes ≡ shown.now.config.now.cores }
+{
     let mut tracer = Tracer::new(alloc, output);
     let traced = trace_all(rt, alloc, shown, placer, explainer, &mut tracer);
     if let Err(fault @ (ShowFault::Memory | ShowFault::Unwritten)) = traced {
@@ -46,11 +53,16 @@ fn trace_all<R: Wait, S: TextSource, C: TextSource, W: Sink>(
     placer: &mut Placer<S, C>,
     explainer: &mut Explainer,
     tracer: &mut Tracer<'_, W>,
-) -> Result<Verdict, ShowFault> {
+) -> Result<Verdict, ShowFault>
+    requires going { placer.old.ended ≡ false }
+    requires first { place_of placer.old.kept ≡ 0 }
+    requires cores { length placer.old.lanes ≡ shown.now.config.now.cores }
+{
     let mut run = Run::start(alloc, shown)?;
     let mut following = Following::new(alloc);
     following.begin(shown, &run, tracer)?;
-    for _ in 0..u64::MAX {
+    // There are fewer places than this many rounds.
+    'records: for _ in 0..u64::MAX {
         let Some(ordered) = placer.next(rt)? else {
             return Ok(run.yes());
         };
