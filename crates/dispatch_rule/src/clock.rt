@@ -21,6 +21,10 @@ const COLD: CoreState = CoreState {
     occupant: None,
 };
 
+/// The guess of a core's window is renewed at every tick of this number. Between two of them few windows begin, and a guess that is one too
+/// small spares the search as well.
+const RENEWAL: u64 = 4;
+
 /// A tick that would lead its core further ahead of another than the skew allows.
 #[derive(Clone, Copy, Debug, PartialEq, Eq, Error)]
 #[error("the core would run ahead of another by more than the skew")]
@@ -30,7 +34,7 @@ pub struct Skew;
 #[derive(Debug, Drop)]
 pub struct Clock {
     cores: [CoreState; MOST_CORES],
-    // For each core a guess how many windows have begun, renewed as it ticks: its window is found there without a search.
+    // For each core a guess how many windows have begun, renewed now and then as it ticks: its window is found there without a search.
     begun: [usize; MOST_CORES],
     count: usize,
     skew: u64,
@@ -137,7 +141,9 @@ impl Clock {
             time,
             occupant: state.occupant,
         };
-        self.begun[index] = config.windows_begun(self.begun[index], core, time);
+        if time % RENEWAL == 0 {
+            self.begun[index] = config.windows_begun(self.begun[index], core, time);
+        }
     }
 
     /// Gives a core to a process, or leaves it idle.

@@ -6,3 +6,4 @@ pub mod Judged
 pub mod Touching
 pub mod Seen
 pub mod Evidence
+pub mod Quiet

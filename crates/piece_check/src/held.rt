@@ -1,14 +1,16 @@
 // What a piece holds: the part of the module, of a partition or of a channel.
 
-ghost use Rattle.std.specs.Prelude.{◌<◌, IfErr, IfOk, OnErr, OnOk, ◌≡◌, length};
+ghost use Rattle.std.specs.Prelude.{◌<◌, IfErr, IfOk, OnErr, OnOk, ◌≡◌, false, true, length};
 ghost use Rattle.apex_types.specs.declared.limits.TheConstants.{PLACE_COUNT};
+ghost use Rattle.apex_machine.specs.Configuration.{Configuration};
 ghost use Rattle.apex_machine.specs.Demands.{Judges, LocalStep, demands};
 ghost use Rattle.apex_machine.specs.Pieces.{part, pieces};
 ghost use Rattle.apex_machine.specs.State.{cold_state, time_of};
 ghost use Rattle.apex_machine.specs.Views.{view_in};
 ghost use Rattle.partition_state.specs.Calls.{RefusesOrWants};
 ghost use Rattle.piece_check.specs.Held.{part_of, settings_of};
-ghost use Rattle.piece_check.specs.Parts.{AgreesOn, HoldsBefore, WantsAtCalls, cores_of, piece_at};
+ghost use Rattle.piece_check.specs.Parts.{AgreesOn, HoldsBefore, WantsAtCalls, cores_of, holder, piece_at};
+ghost use Rattle.piece_check.specs.Quiet.{passes_by};
 
 use crate::channel_piece::ChannelPiece;
 use crate::module_piece::ModulePiece;
@@ -68,6 +70,23 @@ impl Held {
             Held::Module(piece) => piece.step(config, ordered),
             Held::Partition(piece) => piece.step(config, ordered),
             Held::Channel(piece) => piece.step(config, ordered),
+        }
+    }
+
+    /// Lets a channel pass by a tick that ends no wait, and says whether it did. Takes no memory.
+    pub(crate) fn pass_by(&mut self, ordered: &Ordered) -> bool
+        requires core { ordered.now.core < length (cores_of (part_of self.old)) }
+        requires place { ordered.now.pos < PLACE_COUNT }
+        requires holds_before { HoldsBefore ordered.now.pos (part_of self.old) }
+        ensures value { result ≡ passes_by (part_of self.old) ordered.now }
+        ensures passed { result ≡ true → (configuration : Configuration) → LocalStep configuration (part_of self.old) ordered.now (part_of self.new) }
+        ensures unchanged { result ≡ false → self.new ≡ self.old }
+        ensures settings { settings_of self.new ≡ settings_of self.old }
+        ensures whose { holder (part_of self.new) ≡ holder (part_of self.old) }
+    {
+        match self {
+            Held::Channel(piece) => piece.pass_by(ordered),
+            Held::Module(_) | Held::Partition(_) => false,
         }
     }
 

@@ -327,8 +327,8 @@ impl PartitionPiece {
     fn judge_dispatch(&self, config: &Config, core: CoreId, who: Option<Who>) -> Result<(), Cause>
         ensures { Judges (asked_by_partition config.now self.now core (body.Disp who)) result }
     {
-        if self.is_in_window(config, core)
-            && self.state.processes().ready_on(self.number, core) != who
+        if self.state.processes().ready_on(self.number, core) != who
+            && self.is_in_window(config, core)
         {
             return Err(Cause::Choice);
         }
@@ -342,8 +342,8 @@ impl PartitionPiece {
         ensures { Judges (asked_by_partition config.now self.now core (body.Tick woken.now)) result }
     {
         let occupant = self.clock.on(core);
-        if self.is_in_window(config, core)
-            && self.state.processes().ready_on(self.number, core) != occupant
+        if self.state.processes().ready_on(self.number, core) != occupant
+            && self.is_in_window(config, core)
         {
             return Err(Cause::Choice);
         }
@@ -362,7 +362,7 @@ impl PartitionPiece {
     fn judge_foreign_call(&self, config: &Config, core: CoreId, call: &Call) -> Result<(), Cause>
         ensures { Judges (foreign_call_demands config.now self.now.number self.now.clock.cores self.now.state core call.now) result }
     {
-        if self.is_in_window(config, core) && !self.is_running(core, call.who) {
+        if !self.is_running(core, call.who) && self.is_in_window(config, core) {
             return Err(Cause::Choice);
         }
         if !self.wakes_here(call) {

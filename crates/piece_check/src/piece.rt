@@ -1,12 +1,14 @@
 // A piece: its start and its step.
 
-ghost use Rattle.std.specs.Prelude.{◌≡◌, ◌<◌, ◌+◌, ◌↔◌, ◌⊎◌, Err, IsTrue, IfOk, OnOk, OnErr, IfErr, false, length};
+ghost use Rattle.std.specs.Prelude.{◌≡◌, ◌<◌, ◌+◌, ◌↔◌, ◌⊎◌, Err, IsTrue, IfOk, OnOk, OnErr, IfErr, None, false, true, length};
+ghost use Rattle.apex_machine.specs.Configuration.{Configuration};
 ghost use Rattle.apex_machine.specs.State.{cold_state};
 ghost use Rattle.apex_machine.specs.Demands.{AllHold, LocalStep, demands};
 ghost use Rattle.apex_machine.specs.Pieces.{part, pieces};
 ghost use Rattle.apex_machine.specs.Views.{view_in};
 ghost use Rattle.apex_laws.specs.PartBounds.{PeriodFits};
-ghost use Rattle.piece_check.specs.Parts.{CallerFits, HoldsBefore, IsCall, IsOf, IsPartOf, holder, piece_at};
+ghost use Rattle.piece_check.specs.Parts.{CallerFits, HoldsBefore, IsCall, IsOf, IsPartOf, cores_of, holder, piece_at};
+ghost use Rattle.piece_check.specs.Quiet.{passes_by};
 ghost use Rattle.piece_check.specs.Refused.{IsRefused};
 
 use crate::fault::PieceFault;
@@ -83,6 +85,25 @@ impl Piece {
                 .map_err(|cause| PieceFault::Rejected { pos, cause });
         }
         Err(PieceFault::Memory)
+    }
+
+    /// Lets a channel pass by a tick that ends no wait: the time of the tick's core rises, and nothing else changes. Says whether it
+    /// did. Takes no memory.
+    ///
+    /// Every other record, and every other piece, is left as it was: `step` judges the record.
+    pub fn pass_by(&mut self, ordered: &Ordered) -> bool
+        requires core { ordered.now.core < length (cores_of self.old.part) }
+        requires holds_before { HoldsBefore ordered.now.pos self.old.part }
+        ensures value { result ≡ passes_by self.old.part ordered.now }
+        ensures passed { result ≡ true → (configuration : Configuration) → LocalStep configuration self.old.part ordered.now self.new.part }
+        ensures silent { result ≡ true → view_in self.old.part ordered.now ≡ None }
+        ensures unchanged { result ≡ false → self.new ≡ self.old }
+        ensures of_module { (configuration : Configuration) → IsOf configuration self.old → IsOf configuration self.new }
+        ensures whose { holder self.new.part ≡ holder self.old.part }
+        ensures holds_before { result ≡ true → HoldsBefore (ordered.now.pos + 1) self.new.part }
+    {
+        let _place = ordered.pos.number();
+        self.held.pass_by(ordered)
     }
 
     /// Judges a record that touches the piece, and makes the part what the record makes of it.

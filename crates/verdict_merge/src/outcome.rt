@@ -110,6 +110,7 @@ pub fn go_over(
 
 // Lets the piece of this number judge a record that touches it. Returns its refusal if it rejects the record. Else the breach so far
 // is kept, or that of the record's view. Memory if the piece was refused memory.
+#[tactic(auto, using(crate::proofs::Untested::untested, crate::proofs::Untested::unruled))]
 fn judge_one(
     lent: &Lent,
     rules: &[Rule],
@@ -128,12 +129,64 @@ fn judge_one(
     ensures whose { holder piece.new.part ≡ holder piece.old.part }
     ensures memory { OnErr result (IsTrue piece.new.exhausted) }
 {
+    if piece.pass_by(ordered) {
+        return Ok(None);
+    }
+    if rules.is_empty() {
+        return step_over(lent, number, piece, ordered);
+    }
+    judge_and_test(lent, rules, number, piece, index, ordered, breach)
+}
+
+// The same for a record that is not passed by, and tests its view. It is a function of its own, so that a record costs no room for a
+// view where there are no rules.
+fn judge_and_test(
+    lent: &Lent,
+    rules: &[Rule],
+    number: usize,
+    piece: &mut Piece,
+    index: usize,
+    ordered: &Ordered,
+    breach: &mut Option<Breach>,
+) -> Result<Option<Refused>, Memory>
+    requires core { ordered.now.core < lent.now.config.now.cores }
+    requires of_module { IsOf lent.now.config.now piece.old }
+    requires holds_before { HoldsBefore ordered.now.pos piece.old.part }
+    ensures judged { IfOk result (λ refused. HasJudged lent.now.config.now number ordered.now piece.old refused piece.new) }
+    ensures tested { IfOk result (λ refused. HasTested (relations_of rules.now) (view_in piece.old.part ordered.now) index refused breach.old breach.new) }
+    ensures of_module { IfOk result (λ _. IsOf lent.now.config.now piece.new) }
+    ensures whose { holder piece.new.part ≡ holder piece.old.part }
+    ensures memory { OnErr result (IsTrue piece.new.exhausted) }
+{
     let next = breach_of(rules, piece, index, ordered);
-    match piece.step(lent.config, ordered) {
-        Ok(()) => {
+    match step_over(lent, number, piece, ordered) {
+        Ok(None) => {
             keep_first(breach, next);
             Ok(None)
         }
+        Ok(Some(refused)) => Ok(Some(refused)),
+        Err(memory) => Err(memory),
+    }
+}
+
+// Lets the piece of this number make its step over a record that touches it. Returns its refusal if it rejects the record. Memory if
+// the piece was refused memory.
+fn step_over(
+    lent: &Lent,
+    number: usize,
+    piece: &mut Piece,
+    ordered: &Ordered,
+) -> Result<Option<Refused>, Memory>
+    requires core { ordered.now.core < lent.now.config.now.cores }
+    requires of_module { IsOf lent.now.config.now piece.old }
+    requires holds_before { HoldsBefore ordered.now.pos piece.old.part }
+    ensures judged { IfOk result (λ refused. HasJudged lent.now.config.now number ordered.now piece.old refused piece.new) }
+    ensures of_module { IfOk result (λ _. IsOf lent.now.config.now piece.new) }
+    ensures whose { holder piece.new.part ≡ holder piece.old.part }
+    ensures memory { OnErr result (IsTrue piece.new.exhausted) }
+{
+    match piece.step(lent.config, ordered) {
+        Ok(()) => Ok(None),
         Err(fault) => refused(fault, number),
     }
 }
@@ -154,9 +207,6 @@ fn breach_of(rules: &[Rule], piece: &Piece, index: usize, ordered: &Ordered) -> 
     requires { HoldsBefore ordered.now.pos piece.now.part }
     ensures { IsFirstBreach (relations_of rules.now) (seen_of (view_in piece.now.part ordered.now) index) result }
 {
-    if rules.is_empty() {
-        return None;
-    }
     let view = piece.view(ordered)?;
     let rule = first_rule_broken(rules, &view)?;
     Some(Breach {
