@@ -1,4 +1,4 @@
-// The runs that the tests read: a wait of three ticks on one core, one that asks for the time so often, and a message from one
+// The runs that the tests read: a wait of three ticks on one core, a run that requests the time many times, and a message from one
 // partition to another.
 
 use std::alloc::{AllocError, Global};
@@ -26,7 +26,7 @@ macro_rules! started {
     };
 }
 
-// Process 1 is created and started, waits for three ticks, of which the third wakes these processes, and returns.
+// Process 1 is created and started, waits for three ticks, the third of which wakes these processes, and returns.
 macro_rules! waited {
     ($woken:literal) => {
         started!(
@@ -51,7 +51,7 @@ macro_rules! waited {
 /// Process 1 waits for three ticks, and goes on after them.
 pub const RECORDING: &str = waited!("0:1");
 
-/// The same, but its third tick wakes nobody.
+/// The same, but its third tick wakes no process.
 pub const MISSED: &str = waited!("");
 
 /// The records of either in their own order.
@@ -118,7 +118,7 @@ pub const RECEIVER: &str = started!(
 pub const BOTH: &[u8] =
     b"0,0\n0,1\n0,2\n0,3\n0,4\n0,5\n0,6\n0,7\n1,0\n1,1\n1,2\n1,3\n1,4\n1,5\n1,6\n1,7\n1,8\n1,9\n1,10\n0,8\n0,9\n1,11\n1,12\n";
 
-/// The recording of a partition that begins as `RECORDING` does up to its wait, and then asks for the time so often.
+/// The recording of a partition that begins as `RECORDING` does up to its wait, and then requests the time this many times.
 pub fn asking(alloc: Global, times: u16) -> Result<Vec<u8>, AllocError> {
     let mut text = Vec::new(alloc);
     for line in RECORDING.lines().take(7) {
@@ -136,7 +136,7 @@ pub fn asking(alloc: Global, times: u16) -> Result<Vec<u8>, AllocError> {
     Ok(text)
 }
 
-/// The certificate of so many records of core 0.
+/// The certificate of this many records of core 0.
 pub fn in_turn(alloc: Global, records: u32) -> Result<Vec<u8>, AllocError> {
     let mut text = Vec::new(alloc);
     for seq in 0..records {
