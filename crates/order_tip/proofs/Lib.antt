@@ -1,0 +1,4 @@
+mod Agreed
+pub mod Opened
+mod Outcomes
+mod Tip
