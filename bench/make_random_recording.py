@@ -1,9 +1,14 @@
 #!/usr/bin/env python3
-"""Small lawful recordings of a random module with partitions on several cores, ties, messages and queues.
+"""Makes lawful recordings of a random module with partitions on several cores, ties, messages and queues.
 
-    make_small.py SEED RECORDS FOLDER
+    make_random_recording.py SEED RECORDS FOLDER
+
+writes config.toml, a recording for each core (core0.csv and on) and order.csv to FOLDER. A seed gives the same module and the same
+recordings each time. The recordings have at most RECORDS records together.
 """
-import os, random, sys
+import os
+import random
+import sys
 
 
 class Proc:
