@@ -130,6 +130,10 @@ impl<R: TextSource, C: TextSource> Placer<R, C> {
         ensures place { result ≡ Filled.Full → place_of self.new.kept ≡ place_of self.old.kept + length round.new.items }
         ensures lanes { length self.new.lanes ≡ length self.old.lanes }
     {
+        // Room for all records at once. A push that may lack room returns its record with the fault, and so moves each record twice.
+        if round.try_reserve(size).is_err() {
+            return Filled::Memory;
+        }
         'records: while round.len() < size {
             let ordered = match self.next(rt) {
                 Ok(Some(ordered)) => ordered,
@@ -137,9 +141,7 @@ impl<R: TextSource, C: TextSource> Placer<R, C> {
                 Err(PlacingFault::Input(fault)) => return Filled::Ended(Err(fault)),
                 Err(PlacingFault::Memory) => return Filled::Memory,
             };
-            if round.push(ordered).is_err() {
-                return Filled::Memory;
-            }
+            round.push_reserved(ordered);
         }
         Filled::Full
     }

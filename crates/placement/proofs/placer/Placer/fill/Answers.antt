@@ -12,13 +12,16 @@ use Rattle.placement.proofs.placer.Placer.fill.Goals as goal
 pub records-init : goal.records-init
 records-init g c =
     let can : CanFail = record { recordings = g.R.TextSource.can_fail; certificate = g.C.TextSource.can_fail } in
+    let empty : c.try_reserve.new.self.items ≡ [] = c.try_reserve.ensures.items ∙ c.requires.empty in
+    let some : is_ok c.try_reserve.result ≡ true = search rules in
     record {
-      lead = λ honest. subst (λ items. Lead can c.args.self.now items c.args.self.now) (sym c.requires.empty) (λ scanned ahead. ahead);
+      lead = λ honest. subst (λ items. Lead can c.args.self.now items c.args.self.now) (sym empty) (λ scanned ahead. ahead);
       honest = λ honest. honest;
-      placed = rw c.requires.empty tt;
-      of_cores = rw c.requires.empty tt;
-      place = rw c.requires.empty (omega arith);
-      few = rw c.requires.empty (omega arith);
+      placed = rw empty tt;
+      of_cores = rw empty tt;
+      place = rw empty (omega arith);
+      few = rw empty (omega arith);
+      room = search rules;
       going = c.requires.going;
       lanes = refl;
     }
@@ -36,11 +39,10 @@ returns-in-Err-Input-clause-filled g c =
 pub records-preserved : goal.records-preserved
 records-preserved g c =
     let can : CanFail = record { recordings = g.R.TextSource.can_fail; certificate = g.C.TextSource.can_fail } in
-    let good : is_ok c.push.result ≡ true = search rules in
     let front = c.records.round.items in
     let one = c.in-Ok-Some.ordered in
     let before = c.records.invariant in
-    let grown : c.push.new.self.items ≡ front ++ one ∷ [] = rw (c.push.ensures.items, good) refl in
+    let grown : c.push_reserved.new.self.items ≡ front ++ one ∷ [] = c.push_reserved.ensures.items in
     let at = rw c.in-Ok-Some.field-0-is at c.in-Ok-Some.ensures.place in
     let long : length (front ++ one ∷ []) ≡ length front + 1 = length-append front (one ∷ []) in
     record {
@@ -52,6 +54,7 @@ records-preserved g c =
           (of_cores_more (length c.args.self.now.lanes) front one before.of_cores (subst (λ n. one.core < n) before.lanes (rw c.in-Ok-Some.field-0-is at c.in-Ok-Some.ensures.core)));
       place = at.1 ∙ omega (arith, before.place, ap length grown, long);
       few = omega (arith, c.records-test.true, c.len.ensures, ap length grown, long);
+      room = rw c.push_reserved.ensures.capacity before.room;
       going = rw c.in-Ok-Some.field-0-is at c.in-Ok-Some.ensures.going;
       lanes = c.next.ensures.lanes ∙ before.lanes;
     }
