@@ -1,5 +1,4 @@
 use Rattle.std.proofs.Common.{◌≡◌, ◌≤◌, ◌+◌, ◌-◌, length, false}
-use Rattle.std.specs.Vec.{vec_capacity}
 use Rattle.apex_machine.specs.Runs.{ArePlaced, AreOfCores}
 use Rattle.order_cert.specs.Kept.{place_of}
 use Rattle.placement.specs.Lanes.{AreHonest, Lead}
@@ -13,7 +12,6 @@ invariant-records g l = record {
   of_cores : AreOfCores (length l.fn.self.lanes) l.round.items;
   place : place_of l.self.kept ≡ place_of l.fn.self.kept + length l.round.items;
   few : length l.round.items ≤ l.size;
-  room : l.size ≤ vec_capacity l.round;
   going : l.self.ended ≡ false;
   lanes : length l.self.lanes ≡ length l.fn.self.lanes;
 }
