@@ -94,7 +94,7 @@ pub enum UsageFault {
 /// Reads the words that were given to the program.
 pub fn from_words(rt: &(impl Env + AllocGlobal), alloc: Global) -> Result<Asked, UsageFault> {
     let words: Vec<String> = match env::args(rt) {
-        Ok(words) => words.collect(alloc)?,
+        Ok(words) => words.collect(alloc).map_err(|_| UsageFault::Memory)?,
         Err(e) if e.kind() == io::ErrorKind::OutOfMemory => return Err(UsageFault::Memory),
         Err(_) => return Err(UsageFault::Usage),
     };
@@ -346,10 +346,4 @@ fn flag<'a>(alloc: Global, name: &'static str) -> Arg<'a>
     ensures local { result.global ≡ false }
 {
     Arg::new(alloc, name).long(name).action(ArgAction::SetTrue)
-}
-
-impl From<AllocError> for UsageFault {
-    fn from(_: AllocError) -> UsageFault {
-        UsageFault::Memory
-    }
 }

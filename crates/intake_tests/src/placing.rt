@@ -62,11 +62,11 @@ fn has_next<T: Wait>(
 #[test]
 fn records_come_one_by_one(rt: HostRuntime) -> Result<(), Fail> {
     let alloc = rt.alloc();
+    let mut records = Vec::with_capacity(alloc, 1)?;
     let mut placer = placer_of(rt, alloc)?;
     assert!(rt; has_next(&rt, alloc, &mut placer, 0, 1, 0));
     assert!(rt; has_next(&rt, alloc, &mut placer, 1, 0, 0));
     assert!(rt; has_next(&rt, alloc, &mut placer, 2, 0, 1));
-    let mut records = Vec::with_capacity(alloc, 1)?;
     assert!(rt; matches!(placer.next_into(&rt, &mut records), Ok(false)));
     assert!(rt; records.is_empty());
     placer.close(&rt);
