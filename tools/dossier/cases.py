@@ -43,7 +43,7 @@ class CaseFile:
 
 
 def sections_of(text: str) -> list[tuple[str, list[str]]]:
-    """The heading of each section with its lines, without what stands before the first one."""
+    """The heading of each section with its lines, without the text before the first one."""
     found: list[tuple[str, list[str]]] = []
     for line in text.splitlines():
         heading = HEADING.match(line)

@@ -6,12 +6,12 @@ use Rattle.std.proofs.lemmas.Bool.{eq-eqb, eqb-true}
 pub is_itself : (number : ℕ) → nat_eq number number ≡ true
 is_itself number = eq-eqb number number refl
 
--- where neither test holds the first doesn't
+-- if neither test holds, the first does not
 pub neither_first : (one other : Bool) → (one || other) ≡ false → one ≡ false
 neither_first true other neither = neither
 neither_first false other neither = refl
 
--- where the first of two tests holds one of them does
+-- if the first of two tests holds, one of them does
 pub first_holds : (one other : Bool) → one ≡ true → (one || other) ≡ true
 first_holds true other holds = refl
 first_holds false other holds = absurd (true≢false (sym holds))
@@ -26,30 +26,30 @@ pub holds_if : (test : Bool) → (test ≡ false → ⊥) → test ≡ true
 holds_if true cannot = refl
 holds_if false cannot = absurd (cannot refl)
 
--- where neither test holds the second doesn't
+-- if neither test holds, the second does not
 pub neither_later : (one other : Bool) → (one || other) ≡ false → other ≡ false
 neither_later true other neither = absurd (true≢false neither)
 neither_later false other neither = neither
 
--- where the second of two tests holds one of them does
+-- if the second of two tests holds, one of them does
 pub later_holds : (one other : Bool) → other ≡ true → (one || other) ≡ true
 later_holds true other holds = refl
 later_holds false other holds = holds
 
--- where one of two tests holds and it isn't the first, the second does
+-- if one of two tests holds and it is not the first, the second does
 pub other_holds : (one other : Bool) → (one || other) ≡ true → one ≡ false → other ≡ true
 other_holds true other some not_first = absurd (true≢false not_first)
 other_holds false other some not_first = some
 
--- where neither of two tests holds, none does
+-- if neither of two tests holds, none does
 pub neither : (one other : Bool) → one ≡ false → other ≡ false → (one || other) ≡ false
 neither one other first second = rw first second
 
--- where the first of two tests fails both don't hold
+-- if the first of two tests fails, the two do not both hold
 pub not_first : (one other : Bool) → one ≡ false → (one && other) ≡ false
 not_first one other fails = rw fails refl
 
--- where the second of two tests fails both don't hold
+-- if the second of two tests fails, the two do not both hold
 pub not_second : (one other : Bool) → other ≡ false → (one && other) ≡ false
 not_second true other fails = fails
 not_second false other fails = refl

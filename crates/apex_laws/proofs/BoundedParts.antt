@@ -40,7 +40,7 @@ use Rattle.apex_laws.specs.PartLaws.{IsSoundPart}
 use Rattle.apex_laws.proofs.Codes.{no_error_is_done, not_done}
 use Rattle.apex_laws.proofs.Keeps.{set_by_wait}
 use Rattle.apex_laws.proofs.Restarts.{call_case, done_case, return_case}
-use Rattle.apex_laws.proofs.SoundParts.{Stands, named_across, own_holds}
+use Rattle.apex_laws.proofs.SoundParts.{WaitsInSet, named_across, own_holds}
 use Rattle.apex_laws.proofs.Tables.{at_each}
 use Rattle.apex_laws.proofs.Waiters.{all_weaker}
 use Rattle.apex_laws.proofs.Wakes.{answer_wakes, nobody}
@@ -78,7 +78,7 @@ joined_has : {Item : Type 0} (Fact : Item → Type 0) (items more : List (ℕ ×
 joined_has Fact items more first second number item at =
     elim (found_either items more number item at) [
       | inl here ↦ first number item here
-      | inr behind ↦ second number item behind
+      | inr those_after ↦ second number item those_after
     ]
 
 -- what is created is the new one
@@ -247,7 +247,7 @@ woken_if_named_keeps place call who x ends =
       | false ↦ λ not_named. (refl, refl)
     ] refl
 
--- where a service wakes somebody it starts nobody and lets nobody enter NORMAL
+-- if a service wakes a process, it starts none and lets none enter NORMAL
 waking_keeps_wait : (place period : ℕ) (cores : List CoreState) (partition : Partition) (now : ℕ) (caller : Who) (asked : Request) (number : ℕ) (x : Process) (one : Who)
     → is_named one (answer_of now caller partition asked).woken ≡ true → waits_for_normal x.wait ≡ false → (set_by place period cores partition caller.proc asked number x).wait ≡ x.wait
 waking_keeps_wait place period cores partition now caller (request.Process process ProcessOperation.Start) number x one named normal = nobody one [] refl named
@@ -265,11 +265,11 @@ own_ends number place now period cores partition caller asked claim sound [] Non
     let Ends : Who → Type 0 = λ one. (y : Process) → item_at partition.table one.proc ≡ Some y → EndsNoRelease y.wait in
     let answered = sym (hold.1.1.1.1.0 who) ∙ named in
     let ends : EndsNoRelease x.wait = answer_wakes Ends now caller partition asked
-    (λ wanted used. all_weaker (Stands number wanted partition) (λ entry. Ends entry.who)
-    (λ entry stands y at. waiter_ends partition.table wanted entry.who.proc y stands.1 at) (entries_at partition wanted) (sound.stands wanted))
+    (λ wanted used. all_weaker (WaitsInSet number wanted partition) (λ entry. Ends entry.who)
+    (λ entry is_member y at. waiter_ends partition.table wanted entry.who.proc y is_member.1 at) (entries_at partition wanted) (sound.is_member wanted))
     (λ process target is suspends y at.
-    (let stands = created_is partition.table process target is in
-    let both : ◌≡◌ {A = Option Process} (Some target) (Some y) = sym stands.2 ∙ ap (λ one. item_at partition.table (natural_of one)) (sym stands.1) ∙ at in
+    (let is_member = created_is partition.table process target is in
+    let both : ◌≡◌ {A = Option Process} (Some target) (Some y) = sym is_member.2 ∙ ap (λ one. item_at partition.table (natural_of one)) (sym is_member.1) ∙ at in
     let same : target ≡ y = cc in
     subst (λ one. EndsNoRelease one.wait) same (suspension_ends target.wait suspends)))
     who answered x at in
@@ -380,7 +380,7 @@ created_bounded most core call _ fits = λ number item at. (let no : ◌≡◌ {
 
 -- a call of another partition
 
--- whom it names here waits in a channel's set
+-- a process that it names here waits in a channel's set
 foreign_ends : (asked : Request) (chan : Option ℕ) (number : ℕ) (table : Table) (others : List Who) → WakesHere asked chan number table others → (who : Who) → who.part ≡ number
     → is_named who others ≡ true → (x : Process) → item_at table who.proc ≡ Some x → EndsNoRelease x.wait
 foreign_ends asked chan number table others wakes who here named x at =

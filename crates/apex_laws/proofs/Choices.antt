@@ -6,7 +6,7 @@ use Rattle.apex_machine.specs.Choice.{choice_in, choice_of, foremost, ready_entr
 use Rattle.apex_machine.specs.Demands.{InNoWindow, InWindowOf}
 use Rattle.apex_machine.specs.State.{Partition}
 
--- where the module finds the idle core idle, and the partition of the window finds its choice, the core has its choice
+-- if the module finds the idle core idle, and the partition of the window finds its choice, the core has its choice
 pub joined_choice : (window : Option ℕ) (partitions : ℕ → Partition) (core : ℕ) (who : Option Who) → InNoWindow window (who ≡ None)
     → ((number : ℕ) → window ≡ Some number → InWindowOf number window (choice_in number core (partitions number).table ≡ who))
     → choice_of window partitions core ≡ who
@@ -52,7 +52,7 @@ pub choice_from : (window : Option ℕ) (partitions : ℕ → Partition) (core :
     → choice_in who.part core (partitions who.part).table ≡ Some who → choice_of window partitions core ≡ Some who
 choice_from window partitions core who of chosen = rw of chosen
 
--- where some process is the choice there is a window
+-- if some process is the choice, there is a window
 pub not_idle : (window : Option ℕ) (partitions : ℕ → Partition) (core : ℕ) (who : Who) → IsChoice window partitions core who → InNoWindow window ⊥
 not_idle None partitions core who is = let none : ◌≡◌ {A = Option ℕ} None (Some who.part) = is.of in cc
 not_idle (Some number) partitions core who is = tt

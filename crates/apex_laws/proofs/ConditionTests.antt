@@ -1,4 +1,4 @@
--- Which facts the tests of the error conditions tell.
+-- Which facts the tests of the error conditions decide.
 use Rattle.std.proofs.Common.{◌≡◌, ◌⊎◌, ℕ, zero, suc, ◌+◌, ◌*◌, ◌/◌, ◌%◌, ◌<◌, ◌≤◌, ℤ, pos, negsuc, List, [], ◌∷◌, Option, Some, None, Bool, true, false, not, ◌&&◌, ◌||◌, nat_eq, nat_lt, nat_le, is_none, is_some, refl, sym, ap, subst, ◌∙◌, inl, inr, arith, true≢false, length}
 use Rattle.std.specs.Prelude.{◌≤ℤ◌, ◌<ℤ◌, Contains, T, IsTrue}
 use Rattle.std.specs.List.{list_any}
@@ -36,7 +36,7 @@ use Rattle.apex_laws.specs.ConditionSentences.{KindIsFull, IsCalledByPeriodic, I
 use Rattle.apex_laws.proofs.Booleans.{is_itself}
 use Rattle.apex_machine.specs.CreationConditions.{is_full}
 
--- a test tells a fact: it holds exactly where the fact does
+-- a test decides a fact: it holds exactly if the fact does
 abbrev pub Tells : Bool → Type 0 → Type 0
 Tells test Fact = (test ≡ true → Fact) × (Fact → test ≡ true)
 
@@ -204,21 +204,21 @@ value_tells (negsuc greatest) (negsuc n) = (λ holds. absurd (true≢false (sym 
 -- lists
 
 -- an element is the head of a list or comes after it
-pub stands_cases : {X : Type 0} → (x y : X) (xs : List X) → Contains (x ∷ xs) y → (y ≡ x) ⊎ Contains xs y
-stands_cases x y xs stands =
+pub member_cases : {X : Type 0} → (x y : X) (xs : List X) → Contains (x ∷ xs) y → (y ≡ x) ⊎ Contains xs y
+member_cases x y xs is_member =
     All-contains (λ one. (one ≡ x) ⊎ Contains xs one) (x ∷ xs) y
     (All-cons (λ one. (one ≡ x) ⊎ Contains xs one) x xs (inl refl)
-    (All-weaker (Contains xs) (λ one. (one ≡ x) ⊎ Contains xs one) (λ one there. inr there) xs (All-contains_itself xs))) stands
+    (All-weaker (Contains xs) (λ one. (one ≡ x) ⊎ Contains xs one) (λ one there. inr there) xs (All-contains_itself xs))) is_member
 
--- nothing stands in an empty list
-pub stands_nowhere : {X : Type 0} → (x : X) → Contains [] x → ⊥
-stands_nowhere x stands = let none : stands.0 < 0 = stands.1 in omega arith
+-- nothing is in an empty list
+pub member_nowhere : {X : Type 0} → (x : X) → Contains [] x → ⊥
+member_nowhere x is_member = let none : is_member.0 < 0 = is_member.1 in omega arith
 
--- a walk over a list that tests its elements tells whether one of them has what the test tells
+-- a walk over a list that tests its elements decides whether one of them has what the test decides
 module _ {X : Type 0} (test : X → Bool) (Fact : X → Type 0) (tells : (x : X) → Tells (test x) (Fact x)) where
   pub any_tells : (walk : List X → Bool) → walk [] ≡ false → ((x : X) (xs : List X) → walk (x ∷ xs) ≡ (test x || walk xs))
       → (xs : List X) → Tells (walk xs) ((x : X) × Contains xs x × Fact x)
-  any_tells walk none more [] = (λ holds. absurd (true≢false (sym holds ∙ none)), λ found. absurd (stands_nowhere found.0 found.1))
+  any_tells walk none more [] = (λ holds. absurd (true≢false (sym holds ∙ none)), λ found. absurd (member_nowhere found.0 found.1))
   any_tells walk none more (x ∷ xs) =
       let rest = any_tells walk none more xs in (
         λ holds. elim (cases_Bool (test x)) [
@@ -230,7 +230,7 @@ module _ {X : Type 0} (test : X → Bool) (Fact : X → Type 0) (tells : (x : X)
               ] fails (sym (more x xs) ∙ holds)) in
               (found.0, Contains-append_right (x ∷ []) xs found.0 found.1, found.2)
         ],
-        λ found. more x xs ∙ elim (stands_cases x found.0 xs found.1) [
+        λ found. more x xs ∙ elim (member_cases x found.0 xs found.1) [
           | inl here ↦ ap (λ one. one || walk xs) ((tells x).1 (subst Fact here found.2))
           | inr there ↦ ap (λ one. test x || one) (rest.1 (found.0, there, found.2)) ∙ or_true (test x)
         ],
@@ -247,7 +247,7 @@ absent x same = cc
 
 pub created_is : (partition : Partition) (given : ℤ) (found : Process) → created partition.table given ≡ Some found → IsProcess partition given found
 created_is partition (pos zero) found at = absurd (absent found at)
-created_is partition (pos (suc n)) found at = record { number = suc n; is = refl; created = omega arith; stands = at }
+created_is partition (pos (suc n)) found at = record { number = suc n; is = refl; created = omega arith; is_member = at }
 created_is partition (negsuc n) found at = absurd (absent found at)
 
 at_positive : (table : Table) (number : ℕ) → 0 < number → created table (pos number) ≡ item_at table number
@@ -255,9 +255,9 @@ at_positive table zero above = absurd (let none : 0 < 0 = above in omega arith)
 at_positive table (suc n) above = refl
 
 pub created_by : (partition : Partition) (given : ℤ) (found : Process) → IsProcess partition given found → created partition.table given ≡ Some found
-created_by partition given found is = ap (created partition.table) is.is ∙ at_positive partition.table is.number is.created ∙ is.stands
+created_by partition given found is = ap (created partition.table) is.is ∙ at_positive partition.table is.number is.created ∙ is.is_member
 
--- nobody, by what is found
+-- no process, by what is found
 pub nobody : {X : Type 0} → (found : Option X) → ((x : X) → found ≡ Some x → ⊥) → found ≡ None
 nobody None none = refl
 nobody (Some x) none = absurd (none x refl)
@@ -269,11 +269,11 @@ pub no_process_by : (partition : Partition) (given : ℤ) → NamesNoProcess par
 no_process_by partition given none = nobody (created partition.table given) (λ process at. none process (created_is partition given process at))
 
 pub object_is : {Object : Type 0} → (objects : List (ℕ × Object)) (given : ℤ) (found : Object) → given_object objects given ≡ Some found → IsObject objects given found
-object_is objects (pos number) found at = record { number = number; is = refl; stands = at }
+object_is objects (pos number) found at = record { number = number; is = refl; is_member = at }
 object_is objects (negsuc n) found at = absurd (absent found at)
 
 pub object_by : {Object : Type 0} → (objects : List (ℕ × Object)) (given : ℤ) (found : Object) → IsObject objects given found → given_object objects given ≡ Some found
-object_by objects given found is = ap (given_object objects) is.is ∙ is.stands
+object_by objects given found is = ap (given_object objects) is.is ∙ is.is_member
 
 pub no_object_is : {Object : Type 0} → (objects : List (ℕ × Object)) (given : ℤ) → given_object objects given ≡ None → NamesNone objects given
 no_object_is objects given none object is = absent object (sym none ∙ object_by objects given object is)
@@ -288,7 +288,7 @@ named_tells {Object} name_of name objects =
     (λ entry. (λ holds. sym ((bytes_eq-Decides name (name_of entry.1)).0 holds), λ fact. (bytes_eq-Decides name (name_of entry.1)).1 (sym fact)))
     (is_taken name_of name) refl (λ entry entries. refl) objects
 
--- what is found under a name is found where one has the name
+-- what is found under a name is found if one has the name
 found_where_taken : {Object : Type 0} → (name_of : Object → List ℕ) (name : List ℕ) (objects : List (ℕ × Object))
     → is_none (number_named name_of name objects) ≡ not (is_taken name_of name objects)
 found_where_taken name_of name [] = refl
@@ -323,8 +323,8 @@ pub owns_tells : (partition : Partition) (number : ℕ) → Tells (owns_mutex pa
 owns_tells partition number =
     let any = any_tells {X = ℕ × Mutex} (λ entry. is_owner entry.1.owner number) (λ entry. entry.1.owner ≡ Some number) (λ entry. owner_tells entry.1.owner number)
     (λ mutexes. owns_mutex mutexes number) refl (λ entry entries. refl) partition.mutexes in (
-      λ holds. let found = any.0 holds in (found.0.0, record { mutex = found.0.1; stands = found.1; owner = found.2 }),
-      λ fact. any.1 ((fact.0, fact.1.mutex), fact.1.stands, fact.1.owner),
+      λ holds. let found = any.0 holds in (found.0.0, record { mutex = found.0.1; is_member = found.1; owner = found.2 }),
+      λ fact. any.1 ((fact.0, fact.1.mutex), fact.1.is_member, fact.1.owner),
     )
 
 pub may_not_wait_tells : (who : Who) (partition : Partition) → Tells (may_not_wait who partition) (MayNotWait who partition)
@@ -340,8 +340,8 @@ second_tells partition mutex number =
     (λ entry. tells_both (is_owner entry.1.owner number) (not (is_number mutex entry.0)) (entry.1.owner ≡ Some number) (¬ (mutex ≡ pos entry.0))
     (owner_tells entry.1.owner number) (tells_not (is_number mutex entry.0) (mutex ≡ pos entry.0) (number_tells mutex entry.0)))
     (λ mutexes. owns_another mutexes mutex number) refl (λ entry entries. refl) partition.mutexes in (
-      λ holds. let found = any.0 holds in (found.0.0, record { mutex = found.0.1; stands = found.1; owner = found.2.0 }, found.2.1),
-      λ fact. any.1 ((fact.0, fact.1.mutex), fact.1.stands, (fact.1.owner, fact.2)),
+      λ holds. let found = any.0 holds in (found.0.0, record { mutex = found.0.1; is_member = found.1; owner = found.2.0 }, found.2.1),
+      λ fact. any.1 ((fact.0, fact.1.mutex), fact.1.is_member, (fact.1.owner, fact.2)),
     )
 
 -- the state of a process

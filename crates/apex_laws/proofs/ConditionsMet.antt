@@ -355,7 +355,7 @@ module _ (configuration : Configuration) (who : Who) (partition : Partition) whe
   met (HasCondition.get_id_unnamed {of = of} {name = name} other) =
       in_when (is_none (number_of partition of name)) _ ((tests.unnamed_tells partition of name).1 other)
 
--- so a condition is among those of a call exactly where it holds
+-- so a condition is among those of a call exactly if it holds
 pub conditions_are_the_sentences : ConditionsAreTheSentences
 conditions_are_the_sentences configuration who partition asked one =
     (λ listed. each _ _ one (says configuration who partition asked) listed, λ holds. (met configuration who partition holds).among)
@@ -368,11 +368,11 @@ code_listed (first ∷ others) given (inr later) =
     let found = code_listed others given later in (found.0, Contains-append_right (first ∷ []) others found.0 found.1, found.2)
 
 listed_code : (conditions : List Condition) (one : Condition) (given : Code) → Contains conditions one → given ≡ code_of one → IsCodeOf conditions given
-listed_code [] one given listed same = absurd (tests.stands_nowhere one listed)
+listed_code [] one given listed same = absurd (tests.member_nowhere one listed)
 listed_code (first ∷ others) one given listed same =
-    elim (tests.stands_cases first one others listed) [ inl here ↦ inl (same ∙ ap code_of here) | inr there ↦ inr (listed_code others one given there same) ]
+    elim (tests.member_cases first one others listed) [ inl here ↦ inl (same ∙ ap code_of here) | inr there ↦ inr (listed_code others one given there same) ]
 
--- so a code is one of a call exactly where a condition with it holds
+-- so a code is one of a call exactly if a condition with it holds
 pub codes_are_the_sentences : CodesAreTheSentences
 codes_are_the_sentences configuration who partition asked given = (
   λ is. let found = code_listed (conditions_of configuration who partition asked) given is in

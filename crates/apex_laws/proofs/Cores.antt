@@ -23,7 +23,7 @@ module _ {Found : Type 0} {walk : List CoreState → ℕ → Found} {has : CoreS
   core_changes new (suc core) (state ∷ states) within by =
       gives.rest state (at_core change core states) core ∙ core_changes new core states (omega arith) by ∙ ap new (sym (gives.rest state states core))
 
-  -- of any core, where the change leaves it if that is the one
+  -- for any core, if the change leaves it unchanged when it is that one
   pub core_stays : (core : ℕ) (cores : List CoreState) (other : ℕ) → (other ≡ core → (state : CoreState) → has (change state) ≡ has state)
       → walk (at_core change core cores) other ≡ walk cores other
   core_stays core [] other leaves = refl

@@ -19,7 +19,7 @@ use Rattle.apex_machine.specs.declared.state.WaitingSet.TheVariants as set
 use Rattle.apex_machine.specs.After.{is_channel}
 use Rattle.apex_machine.specs.Channels.{EndsAreApart, is_receiver, is_sender}
 use Rattle.apex_machine.specs.Configuration.{Configuration, has_partition}
-use Rattle.apex_machine.specs.Demands.{AllHold, AllWaitAt, InWindowOf, IsRunning, ReturnsValues, WakesHere, call_demands, channel_demands, demands, module_demands, outcome_demands, own_call_demands, partition_demands, stands_in, used_demands, window_now}
+use Rattle.apex_machine.specs.Demands.{AllHold, AllWaitAt, InWindowOf, IsRunning, ReturnsValues, WakesHere, call_demands, channel_demands, demands, module_demands, outcome_demands, own_call_demands, partition_demands, has_entry_in, used_demands, window_now}
 use Rattle.apex_machine.specs.Pieces.{Module, OfChannel, OfPartition, Piece, is_configured, part, touched_by, touches}
 use Rattle.apex_machine.specs.Ports.{Ask, Read, Receive, Send, Write, channel_of, suits_use, use_of}
 use Rattle.apex_machine.specs.ServiceConditions.{conditions_of}
@@ -29,12 +29,12 @@ use Rattle.apex_machine.specs.Step.{HasOutcome, IsLawful, IsLawfulBody, IsLawful
 use Rattle.apex_machine.specs.Waiting.{waits_at}
 use Rattle.apex_laws.specs.Laws.{AllEntries, AreTied, IsTied}
 use Rattle.apex_laws.proofs.Booleans.{cannot_hold, first_holds, later_holds, neither}
-use Rattle.apex_laws.proofs.Callers.{chosen_stands, ready_waits_not}
+use Rattle.apex_laws.proofs.Callers.{chosen_exists, ready_waits_not}
 use Rattle.apex_laws.proofs.Choices.{IsChoice, choice_is, idle_choice, not_idle, own_choice}
-use Rattle.apex_laws.proofs.Ends.{StandsAtEnd, port_is_at_end}
+use Rattle.apex_laws.proofs.Ends.{WaitsAtEnd, port_is_at_end}
 use Rattle.apex_laws.proofs.Outcomes.{channel_can, if_due, outcome_holds, through_claimed}
 use Rattle.apex_laws.proofs.Parts.{same_time}
-use Rattle.apex_laws.proofs.Waiters.{all_weaker, stands_not}
+use Rattle.apex_laws.proofs.Waiters.{all_weaker, member_not}
 use Rattle.apex_laws.proofs.Wakes.{use_wakes}
 use Rattle.apex_laws.proofs.WaitersOf.{same_itself, some_named}
 use Rattle.apex_laws.proofs.Woken.{found, woken}
@@ -55,7 +55,7 @@ module_demanded configuration state core (Ret ret) law =
     let chosen = choice_is (window_now configuration state.cores core) state.partitions core ret.who law.choice in
     (law.names, (not_idle (window_now configuration state.cores core) state.partitions core ret.who chosen, tt))
 
--- whom a call through a channel wakes
+-- the processes that a call through a channel wakes
 
 -- who is woken through a channel: a send those who wait to receive, a receive those who wait to send
 abbrev pub WaitsAcross : Request → (ℕ → Partition) → Configuration → ℕ → Who → Type 0
@@ -85,14 +85,14 @@ across configuration state now channel partition _ tied suited who named = absur
 
 -- the two ends of a channel are of two partitions
 other_end : (configuration : Configuration) (partitions : ℕ → Partition) (channel number : ℕ) (asked : Request) (who : Who) → EndsAreApart configuration
-    → StandsAtEnd asked configuration channel number → WaitsAcross asked partitions configuration channel who → who.part ≡ number → ⊥
-other_end configuration partitions channel number (request.QueuingPort port (QueuingOperation.Send length time_out message)) who ends stands waits same =
-    ends channel number stands (subst (λ part. IsTrue (is_receiver configuration channel part)) same waits.0)
-other_end configuration partitions channel number (request.QueuingPort port (QueuingOperation.Receive time_out)) who ends stands waits same =
-    ends channel number (subst (λ part. IsTrue (is_sender configuration channel part)) same waits.0) stands
-other_end configuration partitions channel number _ who ends stands waits same = waits
+    → WaitsAtEnd asked configuration channel number → WaitsAcross asked partitions configuration channel who → who.part ≡ number → ⊥
+other_end configuration partitions channel number (request.QueuingPort port (QueuingOperation.Send length time_out message)) who ends is_member waits same =
+    ends channel number is_member (subst (λ part. IsTrue (is_receiver configuration channel part)) same waits.0)
+other_end configuration partitions channel number (request.QueuingPort port (QueuingOperation.Receive time_out)) who ends is_member waits same =
+    ends channel number (subst (λ part. IsTrue (is_sender configuration channel part)) same waits.0) is_member
+other_end configuration partitions channel number _ who ends is_member waits same = waits
 
--- so a call through a channel wakes nobody of its own partition
+-- so a call through a channel wakes no process of its own partition
 wakes_no_peer : (configuration : Configuration) (state : State) (now : ℕ) (who : Who) (asked : Request) (claim : Claim) (channel : ℕ) → EndsAreApart configuration
     → AreTied configuration state → conditions_of configuration who (state.partitions who.part) asked ≡ [] → channel_of (state.partitions who.part) asked ≡ Some channel
     → IsThrough channel (suits_use configuration channel who.part (use_of asked) (state.channels channel)) (channel_answer configuration now who.part asked state.channels channel) claim
@@ -254,12 +254,12 @@ partition_demanded configuration state core (Ret ret) ends tied law number is to
 -- the channels
 
 -- the caller of a lawful call waits in no set
-pub caller_stands_not : (configuration : Configuration) (state : State) (core : ℕ) (call : CallRecord) → AreTied configuration state
+pub caller_in_no_set : (configuration : Configuration) (state : State) (core : ℕ) (call : CallRecord) → AreTied configuration state
     → IsLawfulCall configuration state core call → (Home : ℕ → Type 0) (wanted : WaitingSet) (entries : List Entry) → AllEntries (IsTied Home wanted state.partitions) entries
-    → stands_in call.who entries ≡ false
-caller_stands_not configuration state core call tied law Home wanted entries all =
-    let ready = chosen_stands (window_now configuration state.cores core) state.partitions core call.who (tied.distinct call.who.part) law.choice in
-    stands_not (λ who. Home who.part × IsTrue (waits_at wanted (found state.partitions who))) call.who
+    → has_entry_in call.who entries ≡ false
+caller_in_no_set configuration state core call tied law Home wanted entries all =
+    let ready = chosen_exists (window_now configuration state.cores core) state.partitions core call.who (tied.distinct call.who.part) law.choice in
+    member_not (λ who. Home who.part × IsTrue (waits_at wanted (found state.partitions who))) call.who
     (λ waits. ready_waits_not core (found state.partitions call.who) wanted ready waits.1) entries all
 
 -- the channel of a test that holds
@@ -277,9 +277,9 @@ used_demanded configuration state core call tied law number true is =
     (channel_of (state.partitions call.who.part) call.request) (answer_of (time_of state.cores core) call.who (state.partitions call.who.part) call.request)
     (λ number. suits_use configuration number call.who.part (use_of call.request) (state.channels number))
     (channel_answer configuration (time_of state.cores core) call.who.part call.request state.channels) call.claim number (goes_to number call.claim.chan is) law.outcome in (
-      neither (stands_in call.who (state.channels number).senders) (stands_in call.who (state.channels number).receivers)
-          (caller_stands_not configuration state core call tied law (λ home. IsTrue (is_sender configuration number home)) (set.ChannelSenders number) (state.channels number).senders (tied.senders number))
-          (caller_stands_not configuration state core call tied law (λ home. IsTrue (is_receiver configuration number home)) (set.ChannelReceivers number) (state.channels number).receivers (tied.receivers number)),
+      neither (has_entry_in call.who (state.channels number).senders) (has_entry_in call.who (state.channels number).receivers)
+          (caller_in_no_set configuration state core call tied law (λ home. IsTrue (is_sender configuration number home)) (set.ChannelSenders number) (state.channels number).senders (tied.senders number))
+          (caller_in_no_set configuration state core call tied law (λ home. IsTrue (is_receiver configuration number home)) (set.ChannelReceivers number) (state.channels number).receivers (tied.receivers number)),
       (through.kind, (through.out, (through.values, (through.bytes, (through.woken, tt))))),
     )
 

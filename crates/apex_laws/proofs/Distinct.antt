@@ -65,7 +65,7 @@ distinct_numbered change table claimed process distinct new =
     (distinct_push (each_item change table) is.number process (distinct_each change table ∙ distinct)
     (some_at_each change table is.number ∙ ap (λ found. is_some found) is.none))
 
--- a table with each process changed, and nobody created
+-- a table with each process changed, and none created
 distinct_alone : (change : ℕ → Process → Process) (table : Table) → are_distinct table ≡ true → are_distinct (each_item change table ++ []) ≡ true
 distinct_alone change table distinct = ap are_distinct (append-nil (each_item change table)) ∙ distinct_each change table ∙ distinct
 
@@ -103,7 +103,7 @@ distinct_by configuration cores place core number (Call call) partition claims d
     (λ own mode is. start_distinct mode (first_core configuration call.who.part) place)
     (λ elsewhere. distinct_each _ partition.table ∙ distinct)
 
--- where no condition holds and no channel is used, the outcome is the service's
+-- if no condition holds and no channel is used, the outcome is the service's
 answered : (conditions : List Condition) (channel : Option ℕ) (answer : Answer) (suited : ℕ → Bool) (through : ℕ → Answer) (claim : Claim) → conditions ≡ [] → channel ≡ None
     → HasOutcome conditions channel answer suited through claim → IsAnswered answer claim
 answered [] None answer suited through claim none off has = has

@@ -72,7 +72,7 @@ all_stay_with change objects claimed new stays all = each_joined change objects 
     by (Some (pos number)) = ap (λ one. (number, one) ∷ []) (stays number)
     by (Some (negsuc n)) = refl
 
--- the change of one object, where the second change leaves the others
+-- the change of one object, if the second change leaves the others unchanged
 pub one_changes : {Object : Type 0} (done : Bool) (rule new : Object → Object) (change : ℕ → Object → Object) (number : ℕ) (objects : List (ℕ × Object)) → are_distinct objects ≡ true
     → ((object : Object) → item_at objects number ≡ Some object → change number (cond done (rule object) object) ≡ new object)
     → ((other : ℕ) (object : Object) → nat_eq other number ≡ false → item_at objects other ≡ Some object → change other object ≡ object)
@@ -98,7 +98,7 @@ one_changes {Object} done rule new change number objects distinct becomes stays 
           | inr differs ↦ rw differs (stays other object differs at)
         ]
 
--- what is put into an object where the call is done
+-- what is put into an object if the call is done
 pub put_if : {Object Value : Type 0} (done : Bool) (put : Value → Object) (new old : Value) (object : Object) → put old ≡ object → cond done (put new) object ≡ put (cond done new old)
 put_if true put new old object is = refl
 put_if false put new old object is = sym is
@@ -138,7 +138,7 @@ weaker_on kind.Event number Fact Weaker by is = by (set.EventWaiters number) is
 weaker_on kind.Mutex number Fact Weaker by is = by (set.MutexWaiters number) is
 weaker_on _ number Fact Weaker by is = tt
 
--- it holds where it holds of every set that is no channel's
+-- it holds if it holds for every set that is not a channel's
 pub on_sets : (kind : ObjectKind) (number : ℕ) (Fact : WaitingSet → Type 0) → ((wanted : WaitingSet) → is_of_channel wanted ≡ false → Fact wanted) → OnSets kind number Fact
 on_sets kind.Buffer number Fact all = (all (set.BufferSenders number) refl, all (set.BufferReceivers number) refl)
 on_sets kind.Blackboard number Fact all = all (set.BlackboardReaders number) refl

@@ -20,7 +20,7 @@ use Rattle.apex_laws.specs.Laws.{AllPorts, IsAtEnd}
 
 -- conditions of which there is none
 
--- where a joined list is empty its first part is
+-- if a joined list is empty, its first part is
 pub first_empty : (one other : List Condition) → one ++ other ≡ [] → one ≡ []
 first_empty [] other none = refl
 first_empty (condition ∷ conditions) other none = cc
@@ -53,11 +53,11 @@ given_found : (Fact : Port → Type 0) (ports : List (ℕ × Port)) (number : �
 given_found Fact ports (pos number) port all is = port_found Fact ports number port all is
 given_found Fact ports (negsuc n) port all is = cc
 
--- the end at which a caller stands
-abbrev pub StandsAtEnd : Request → Configuration → ℕ → ℕ → Type 0
-StandsAtEnd (request.QueuingPort port (QueuingOperation.Send length time_out message)) configuration channel partition = IsTrue (is_sender configuration channel partition)
-StandsAtEnd (request.QueuingPort port (QueuingOperation.Receive time_out)) configuration channel partition = IsTrue (is_receiver configuration channel partition)
-StandsAtEnd _ configuration channel partition = Unit {0}
+-- the end at which a caller waits
+abbrev pub WaitsAtEnd : Request → Configuration → ℕ → ℕ → Type 0
+WaitsAtEnd (request.QueuingPort port (QueuingOperation.Send length time_out message)) configuration channel partition = IsTrue (is_sender configuration channel partition)
+WaitsAtEnd (request.QueuingPort port (QueuingOperation.Receive time_out)) configuration channel partition = IsTrue (is_receiver configuration channel partition)
+WaitsAtEnd _ configuration channel partition = Unit {0}
 
 -- a port is the source of its channel, or the destination
 source_end : (configuration : Configuration) (partition : ℕ) (which : Direction) (channel : ℕ) → not (is_source which) ≡ false → IsAtEnd configuration partition which channel
@@ -77,7 +77,7 @@ channel_is found port channel is by =
 
 pub port_is_at_end : (configuration : Configuration) (who : Who) (partition : Partition) (asked : Request) (channel : ℕ)
     → AllPorts (λ port. IsAtEnd configuration who.part port.direction port.channel) partition.queuing_ports
-    → channel_of partition asked ≡ Some channel → conditions_of configuration who partition asked ≡ [] → StandsAtEnd asked configuration channel who.part
+    → channel_of partition asked ≡ Some channel → conditions_of configuration who partition asked ≡ [] → WaitsAtEnd asked configuration channel who.part
 port_is_at_end configuration who partition (request.QueuingPort port (QueuingOperation.Send length time_out message)) channel all by none =
     let found = given_object partition.queuing_ports port in
     let conditions : Port → List Condition = λ one. when (is_longer one.size length) condition.LongerThanPort ++ when (not (is_source one.direction)) condition.NotSource in

@@ -1,4 +1,5 @@
--- Whose waits an own call ends, by its outcome: nobody's where it doesn't answer NO_ERROR, else those whom its service's answer names.
+-- Whose waits an own call ends, by its outcome: no process's if it does not answer NO_ERROR, else those of the processes that its service's
+-- answer names.
 use Rattle.std.proofs.Common.{◌≡◌, ℕ, List, [], ◌∷◌, ◌++◌, length, Bool, true, false, cond, nat_eq, nat_lt, ℤ, Option, Some, None, is_some, refl, sym, ap, subst, ◌∙◌, true≢false, ◌&&◌, ◌||◌}
 use Rattle.apex_types.specs.declared.record.Body.TheVariants.{Call}
 use Rattle.apex_types.specs.declared.record.Claim.{Claim}
@@ -32,14 +33,14 @@ use Rattle.apex_laws.proofs.Restarts.{done_goes_on, goes_on, not_done_goes_on, r
 use Rattle.apex_laws.proofs.Codes.{no_error_is_done}
 use Rattle.apex_laws.proofs.EachSet.{Leaves, sets_stay}
 use Rattle.apex_laws.proofs.OtherSets.{stops_nobody}
-use Rattle.apex_laws.proofs.SoundParts.{Stands, demands_none}
+use Rattle.apex_laws.proofs.SoundParts.{WaitsInSet, demands_none}
 use Rattle.apex_laws.proofs.Waiters.{none_leaves, without_same}
 use Rattle.apex_laws.proofs.Wakes.{acquire_wakes, board_wakes, done_or_waiting, event_wakes, unmet_wakes, wait_wakes}
 use Rattle.apex_laws.proofs.WaitersOf.{not_named}
 
 -- answers
 
--- an answer that isn't NO_ERROR names nobody
+-- an answer that is not NO_ERROR names no process
 abbrev IsQuiet : Answer → Type 0
 IsQuiet answer = is_no_error answer.out ≡ false → answer.woken ≡ []
 
@@ -117,7 +118,7 @@ quiet_answer now who partition _ = λ off. refl
 
 -- claims
 
--- a claim that isn't NO_ERROR names nobody of the caller's partition
+-- a claim that is not NO_ERROR names no process of the caller's partition
 names_nobody : (number now : ℕ) (partition : Partition) (caller : Who) (asked : Request) (claim : Claim) (conditions : List Condition) (channel : Option ℕ)
     → AllHold (outcome_demands conditions channel number asked (answer_of now caller partition asked) claim) → is_no_error claim.out ≡ false
     → (who : Who) → who.part ≡ number → is_named who claim.woken ≡ false
@@ -127,7 +128,7 @@ names_nobody number now partition caller asked claim [] (Some channel) hold not_
 names_nobody number now partition caller asked claim [] None hold not_done who here =
     hold.1.1.1.1.0 who ∙ ap (is_named who) (quiet_answer now caller partition asked (ap is_no_error (sym hold.1.0) ∙ not_done))
 
--- one that goes through no channel names whom the service's answer names
+-- a claim of a call through no channel names the processes that the service's answer names
 names_as_answered : (number : ℕ) (asked : Request) (answer : Answer) (claim : Claim) (conditions : List Condition) (channel : Option ℕ) → conditions ≡ [] → channel ≡ None
     → AllHold (outcome_demands conditions channel number asked answer claim) → (who : Who) → is_named who claim.woken ≡ is_named who answer.woken
 names_as_answered number asked answer claim [] None none off hold who = hold.1.1.1.1.0 who
@@ -139,12 +140,12 @@ names_as_answered number asked answer claim (condition ∷ conditions) channel n
 pub only_done_lets_go : OnlyDoneLetsGo
 only_done_lets_go configuration number place core cores partition call is not_done no_restart wanted =
     let stays : without (ends_wait call) (entries_at partition wanted) ≡ entries_at partition wanted =
-    none_leaves (Stands number wanted partition) (ends_wait call)
-    (λ entry stands. goes_on call entry.who (restarts_none call entry.who.part no_restart)
+    none_leaves (WaitsInSet number wanted partition) (ends_wait call)
+    (λ entry is_member. goes_on call entry.who (restarts_none call entry.who.part no_restart)
     (names_nobody number (time_of cores core) partition call.who call.request call.claim (conditions_of configuration call.who partition call.request) (channel_of partition call.request)
-    is.demands.1.1.1.1.1 not_done entry.who stands.0)
+    is.demands.1.1.1.1.1 not_done entry.who is_member.0)
     (not_first (is_no_error call.claim.out) (nat_eq entry.who.part call.who.part && is_target (stop_of call.request) entry.who.proc) not_done))
-    (entries_at partition wanted) (is.sound.stands wanted) in
+    (entries_at partition wanted) (is.sound.is_member wanted) in
     λ i. cond (enters call wanted) (stays i ++ entry_of place call ∷ []) (stays i)
 
 -- an answer doesn't wait

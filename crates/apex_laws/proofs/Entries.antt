@@ -10,19 +10,19 @@ use Rattle.apex_laws.proofs.Booleans.{is_itself}
 
 -- a first and a later entry
 
--- an entry stands at the head of its list
-pub stands_first : (entry : ℕ × Process) (entries : Table) → Contains (entry ∷ entries) entry
-stands_first entry entries = Contains-append_left (entry ∷ []) entries entry (Contains-push [] entry)
+-- an entry is at the head of its list
+pub member_first : (entry : ℕ × Process) (entries : Table) → Contains (entry ∷ entries) entry
+member_first entry entries = Contains-append_left (entry ∷ []) entries entry (Contains-push [] entry)
 
--- an entry of the rest stands in the list
-pub stands_later : (entry other : ℕ × Process) (entries : Table) → Contains entries other → Contains (entry ∷ entries) other
-stands_later entry other entries stands = Contains-append_right (entry ∷ []) entries other stands
+-- an entry of the rest is in the list
+pub member_later : (entry other : ℕ × Process) (entries : Table) → Contains entries other → Contains (entry ∷ entries) other
+member_later entry other entries is_member = Contains-append_right (entry ∷ []) entries other is_member
 
 -- what a filter keeps
 
--- what is kept stands in the list
-pub kept_stands : (test : ℕ × Process → Bool) (entries : Table) (entry : ℕ × Process) → Contains (filter test entries) entry → Contains entries entry
-kept_stands test entries entry kept =
+-- what is kept is in the list
+pub kept_is_there : (test : ℕ × Process → Bool) (entries : Table) (entry : ℕ × Process) → Contains (filter test entries) entry → Contains entries entry
+kept_is_there test entries entry kept =
     All-contains (Contains entries) (filter test entries) entry (All-filter test (Contains entries) entries (All-contains_itself entries)) kept
 
 -- what is kept passes the test
@@ -34,18 +34,18 @@ all_kept : (test : ℕ × Process → Bool) (entries : Table) → All (λ entry.
 all_kept test [] = All-nil _
 all_kept test (entry ∷ entries) =
     All-cons (λ one. test one ≡ true → Contains (filter test (entry ∷ entries)) one) entry entries
-    (λ passes. rw passes (stands_first entry (filter test entries)))
+    (λ passes. rw passes (member_first entry (filter test entries)))
     (All-weaker (λ one. test one ≡ true → Contains (filter test entries) one) (λ one. test one ≡ true → Contains (filter test (entry ∷ entries)) one)
     (λ one keeps passes. elim (test entry) as (λ holds. Contains (cond holds (entry ∷ filter test entries) (filter test entries)) one) [
-      | true ↦ stands_later entry one (filter test entries) (keeps passes)
+      | true ↦ member_later entry one (filter test entries) (keeps passes)
       | false ↦ keeps passes
     ])
     entries (all_kept test entries))
 
 -- an entry of the list that passes is kept
 pub kept : (test : ℕ × Process → Bool) (entries : Table) (entry : ℕ × Process) → Contains entries entry → test entry ≡ true → Contains (filter test entries) entry
-kept test entries entry stands passes =
-    All-contains (λ one. test one ≡ true → Contains (filter test entries) one) entries entry (all_kept test entries) stands passes
+kept test entries entry is_member passes =
+    All-contains (λ one. test one ≡ true → Contains (filter test entries) one) entries entry (all_kept test entries) is_member passes
 
 -- the entry of a number
 
@@ -67,9 +67,9 @@ at_its_number (entry ∷ entries) distinct =
 
 -- two entries of one number in a table of distinct numbers are one
 pub one_entry : (table : Table) → are_distinct table ≡ true → (one other : ℕ × Process) → Contains table one → Contains table other → one.0 ≡ other.0 → one ≡ other
-one_entry table distinct one other stands also number =
+one_entry table distinct one other is_member also number =
     let all = at_its_number table distinct in
-    let first : item_at table one.0 ≡ Some one.1 = All-contains (λ entry. item_at table entry.0 ≡ Some entry.1) table one all stands in
+    let first : item_at table one.0 ≡ Some one.1 = All-contains (λ entry. item_at table entry.0 ≡ Some entry.1) table one all is_member in
     let second : item_at table other.0 ≡ Some other.1 = All-contains (λ entry. item_at table entry.0 ≡ Some entry.1) table other all also in
     let found : ◌≡◌ {A = Option Process} (Some one.1) (Some other.1) = sym first ∙ ap (item_at table) number ∙ second in
     let process : one.1 ≡ other.1 = cc in

@@ -12,42 +12,42 @@ use Rattle.apex_laws.proofs.Booleans.{cannot_hold}
 
 -- standing in a set
 
-stands_first : (entry : Entry) (entries : List Entry) → Contains (entry ∷ entries) entry
-stands_first entry entries = Contains-append_left (entry ∷ []) entries entry (Contains-push [] entry)
+member_first : (entry : Entry) (entries : List Entry) → Contains (entry ∷ entries) entry
+member_first entry entries = Contains-append_left (entry ∷ []) entries entry (Contains-push [] entry)
 
-stands_later : (entry other : Entry) (entries : List Entry) → Contains entries other → Contains (entry ∷ entries) other
-stands_later entry other entries stands = Contains-append_right (entry ∷ []) entries other stands
+member_later : (entry other : Entry) (entries : List Entry) → Contains entries other → Contains (entry ∷ entries) other
+member_later entry other entries is_member = Contains-append_right (entry ∷ []) entries other is_member
 
 -- an entry is the first of a list or one of the rest
-stands_cases : (entry other : Entry) (entries : List Entry) → Contains (entry ∷ entries) other → (other ≡ entry) ⊎ Contains entries other
-stands_cases entry other entries stands =
+member_cases : (entry other : Entry) (entries : List Entry) → Contains (entry ∷ entries) other → (other ≡ entry) ⊎ Contains entries other
+member_cases entry other entries is_member =
     All-contains (λ one. (one ≡ entry) ⊎ Contains entries one) (entry ∷ entries) other
     (All-cons (λ one. (one ≡ entry) ⊎ Contains entries one) entry entries (inl refl)
-    (All-weaker (Contains entries) (λ one. (one ≡ entry) ⊎ Contains entries one) (λ one there. inr there) entries (All-contains_itself entries))) stands
+    (All-weaker (Contains entries) (λ one. (one ≡ entry) ⊎ Contains entries one) (λ one there. inr there) entries (All-contains_itself entries))) is_member
 
--- nobody stands in an empty set
-stands_nowhere : (entry : Entry) → Contains [] entry → ⊥
-stands_nowhere entry stands = All-contains (λ one. ⊥) [] entry (All-nil (λ one. ⊥)) stands
+-- no entry is in an empty set
+member_nowhere : (entry : Entry) → Contains [] entry → ⊥
+member_nowhere entry is_member = All-contains (λ one. ⊥) [] entry (All-nil (λ one. ⊥)) is_member
 
--- what all entries have, one has that stands there
+-- what holds for all entries holds for one of them
 has_it : (Fact : Entry → Type 0) (entries : List Entry) (entry : Entry) → AllEntries Fact entries → Contains entries entry → Fact entry
-has_it Fact [] entry all stands = absurd (stands_nowhere entry stands)
-has_it Fact (other ∷ entries) entry all stands =
-    elim (stands_cases other entry entries stands) [
+has_it Fact [] entry all is_member = absurd (member_nowhere entry is_member)
+has_it Fact (other ∷ entries) entry all is_member =
+    elim (member_cases other entry entries is_member) [
       | inl same ↦ subst Fact (sym same) all.0
       | inr later ↦ has_it Fact entries entry all.1 later
     ]
 
 -- two entries of one place are one
 one_place : (entries : List Entry) → AreApart entries → (one other : Entry) → Contains entries one → Contains entries other → one.place ≡ other.place → one ≡ other
-one_place [] apart one other stands also same = absurd (stands_nowhere one stands)
-one_place (entry ∷ entries) apart one other stands also same =
-    elim (stands_cases entry one entries stands) [
-      | inl first ↦ elim (stands_cases entry other entries also) [
+one_place [] apart one other is_member also same = absurd (member_nowhere one is_member)
+one_place (entry ∷ entries) apart one other is_member also same =
+    elim (member_cases entry one entries is_member) [
+      | inl first ↦ elim (member_cases entry other entries also) [
         | inl second ↦ first ∙ sym second
         | inr later ↦ absurd (has_it (λ next. ¬ (entry.place ≡ next.place)) entries other apart.0 later (ap (λ next. next.place) (sym first) ∙ same))
       ]
-      | inr later ↦ elim (stands_cases entry other entries also) [
+      | inr later ↦ elim (member_cases entry other entries also) [
         | inl second ↦ absurd (has_it (λ next. ¬ (entry.place ≡ next.place)) entries one apart.0 later (ap (λ next. next.place) (sym second) ∙ sym same))
         | inr there ↦ one_place entries apart.1 one other later there same
       ]
@@ -82,9 +82,9 @@ same_place discipline.Priority one other first second = grind arith
 
 -- the walk
 
--- the entry stands in the set, and none of the set passes the test against it
+-- the entry is in the set, and none of the set passes the test against it
 record IsFound (which : Discipline) (entries : List Entry) (entry : Entry) : Type 0 where
-  stands : Contains entries entry
+  is_member : Contains entries entry
   first : AllEntries (λ other. precedes which other entry ≡ false) entries
 
 -- what all of a set have against one, they have against one that isn't preceded by it
@@ -111,7 +111,7 @@ found_first which (other ∷ entries) entry is = by (first_waiter which entries)
     here : AllEntries (λ next. precedes which next other ≡ false) entries → Some other ≡ Some entry → IsFound which (other ∷ entries) entry
     here all some =
         let same : other ≡ entry = cc in
-        subst (IsFound which (other ∷ entries)) same (record { stands = stands_first other entries; first = (not_itself which other, all) })
+        subst (IsFound which (other ∷ entries)) same (record { is_member = member_first other entries; first = (not_itself which other, all) })
 
     by : (found : Option Entry) → first_waiter which entries ≡ found → ((next : Entry) → first_waiter which entries ≡ Some next → IsFound which entries next)
         → sooner_entry which other found ≡ Some entry → IsFound which (other ∷ entries) entry
@@ -121,7 +121,7 @@ found_first which (other ∷ entries) entry is = by (first_waiter which entries)
         elim (precedes which next other) as (λ before. precedes which next other ≡ before → cond before (Some next) (Some other) ≡ Some entry → IsFound which (other ∷ entries) entry) [
           | true ↦ λ before is.
               let same : next ≡ entry = cc in
-              subst (IsFound which (other ∷ entries)) same (record { stands = stands_later other next entries rest.stands; first = (not_both which next other before, rest.first) })
+              subst (IsFound which (other ∷ entries)) same (record { is_member = member_later other next entries rest.is_member; first = (not_both which next other before, rest.first) })
           | false ↦ λ not_before is. here (none_before which next other entries not_before rest.first) is
         ] refl is
 
@@ -131,20 +131,20 @@ pub first_is : (which : Discipline) (entries : List Entry) (entry : Entry) → f
 first_is which entries entry is =
     let found = found_first which entries entry is in
     record {
-      stands = found.stands;
-      first = λ other stands before. true≢false (sym (precedes_by which other entry before) ∙ has_it (λ next. precedes which next entry ≡ false) entries other found.first stands);
+      is_member = found.is_member;
+      first = λ other is_member before. true≢false (sym (precedes_by which other entry before) ∙ has_it (λ next. precedes which next entry ≡ false) entries other found.first is_member);
     }
 
 is_the_first : (which : Discipline) (entries : List Entry) → AreApart entries → (entry : Entry) → IsFirst which entries entry → first_waiter which entries ≡ Some entry
 is_the_first which entries apart entry first = by (first_waiter which entries) refl
   where
     by : (found : Option Entry) → first_waiter which entries ≡ found → found ≡ Some entry
-    by None none = absurd (stands_nowhere entry (subst (λ one. Contains one entry) (empty_set which entries none) first.stands))
+    by None none = absurd (member_nowhere entry (subst (λ one. Contains one entry) (empty_set which entries none) first.is_member))
     by (Some other) some =
         let found = found_first which entries other some in
-        let not_other : precedes which other entry ≡ false = cannot_hold (precedes which other entry) (λ before. first.first other found.stands (precedes_is which other entry before)) in
-        let not_entry : precedes which entry other ≡ false = has_it (λ next. precedes which next other ≡ false) entries entry found.first first.stands in
-        ap Some (one_place entries apart other entry found.stands first.stands (same_place which other entry not_other not_entry))
+        let not_other : precedes which other entry ≡ false = cannot_hold (precedes which other entry) (λ before. first.first other found.is_member (precedes_is which other entry before)) in
+        let not_entry : precedes which entry other ≡ false = has_it (λ next. precedes which next other ≡ false) entries entry found.first first.is_member in
+        ap Some (one_place entries apart other entry found.is_member first.is_member (same_place which other entry not_other not_entry))
 
 pub nobody_first : (which : Discipline) (entries : List Entry) → entries ≡ [] → first_waiter which entries ≡ None
 nobody_first which entries none = ap (first_waiter which) none

@@ -7,7 +7,7 @@ use Rattle.apex_machine.specs.Choice.{GoesBefore, IsChosen, IsReady, foremost, g
 use Rattle.apex_machine.specs.State.{Table}
 use Rattle.apex_laws.specs.Laws.{ChoiceIsTheSentence, are_distinct}
 use Rattle.apex_laws.proofs.Booleans.{cannot_hold}
-use Rattle.apex_laws.proofs.Entries.{kept, kept_passes, kept_stands, one_entry, stands_first, stands_later}
+use Rattle.apex_laws.proofs.Entries.{kept, kept_passes, kept_is_there, one_entry, member_first, member_later}
 use Rattle.apex_laws.proofs.Ready.{is_ready_by, ready_is}
 use Rattle.apex_laws.proofs.Order.{goes_before_by, is_before, not_before-chain, not_before_itself, not_both_before, one_number}
 
@@ -19,7 +19,7 @@ NoneBefore entries found = All (λ other. goes_before other found ≡ false) ent
 
 -- the entry is among these, and none of them goes before it
 record IsForemost (entries : Table) (found : ℕ × Process) : Type 0 where
-  stands : Contains entries found
+  is_member : Contains entries found
   first : NoneBefore entries found
 
 -- a list without a foremost entry has none
@@ -37,7 +37,7 @@ new_foremost : (entry : ℕ × Process) (entries : Table) (found : ℕ × Proces
 new_foremost entry entries found is none =
     let same : entry ≡ found = cc in
     subst (IsForemost (entry ∷ entries)) same
-    (record { stands = stands_first entry entries; first = All-cons (λ other. goes_before other entry ≡ false) entry entries (not_before_itself entry) none })
+    (record { is_member = member_first entry entries; first = All-cons (λ other. goes_before other entry ≡ false) entry entries (not_before_itself entry) none })
 
 -- the foremost of the others stays
 old_foremost : (entry other : ℕ × Process) (entries : Table) (found : ℕ × Process) → Some other ≡ Some found → IsForemost entries other
@@ -45,7 +45,7 @@ old_foremost : (entry other : ℕ × Process) (entries : Table) (found : ℕ × 
 old_foremost entry other entries found is old before =
     let same : other ≡ found = cc in
     subst (IsForemost (entry ∷ entries)) same (record {
-      stands = stands_later entry other entries old.stands;
+      is_member = member_later entry other entries old.is_member;
       first = All-cons (λ one. goes_before one other ≡ false) entry entries (not_both_before other entry before) old.first;
     })
 
@@ -60,7 +60,7 @@ sooner_of entry entries found (Some other) some rest is =
       | true ↦ λ before is. old_foremost entry other entries found is old before
       | false ↦ λ not_before is. new_foremost entry entries found is
           (All-weaker (λ one. goes_before one other ≡ false) (λ one. goes_before one entry ≡ false)
-          (λ one behind. not_before-chain one other entry behind not_before) entries old.first)
+          (λ one those_after. not_before-chain one other entry those_after not_before) entries old.first)
     ] refl is
 
 -- what the fold finds is the foremost
@@ -77,20 +77,20 @@ foremost_is_chosen core table entry is =
     let test : ℕ × Process → Bool = λ one. is_ready core one.1 in
     let found = foremost_is (ready_entries core table) entry is in
     record {
-      stands = kept_stands test table entry found.stands;
-      ready = ready_is core entry.1 (kept_passes test table entry found.stands);
-      first = λ other stands ready before.
+      is_member = kept_is_there test table entry found.is_member;
+      ready = ready_is core entry.1 (kept_passes test table entry found.is_member);
+      first = λ other is_member ready before.
           true≢false (sym (goes_before_by other entry before)
           ∙ All-contains (λ one. goes_before one entry ≡ false) (ready_entries core table) other found.first
-          (kept test table other stands (is_ready_by core other.1 ready)));
+          (kept test table other is_member (is_ready_by core other.1 ready)));
     }
 
--- where it finds none nobody is ready
+-- if it finds none, no process is ready
 nobody_is_ready : (core : ℕ) (table : Table) → foremost (ready_entries core table) ≡ None → (entry : ℕ × Process) → Contains table entry → ¬ IsReady core entry.1
-nobody_is_ready core table none entry stands ready =
-    All-contains (λ one. ⊥) (ready_entries core table) entry (empty (λ one. ⊥) (ready_entries core table) none) (kept (λ one. is_ready core one.1) table entry stands (is_ready_by core entry.1 ready))
+nobody_is_ready core table none entry is_member ready =
+    All-contains (λ one. ⊥) (ready_entries core table) entry (empty (λ one. ⊥) (ready_entries core table) none) (kept (λ one. is_ready core one.1) table entry is_member (is_ready_by core entry.1 ready))
 
--- the test fails where the sentence does
+-- the test fails if the sentence does
 goes_not : (one other : ℕ × Process) → ¬ GoesBefore one other → goes_before one other ≡ false
 goes_not one other not_before = cannot_hold (goes_before one other) (λ passes. not_before (is_before one other passes))
 
@@ -99,13 +99,13 @@ chosen_is_foremost : (core : ℕ) (table : Table) → are_distinct table ≡ tru
 chosen_is_foremost core table distinct entry chosen = by (foremost (ready_entries core table)) refl
   where
     by : (first : Option (ℕ × Process)) → foremost (ready_entries core table) ≡ first → first ≡ Some entry
-    by None none = absurd (nobody_is_ready core table none entry chosen.stands chosen.ready)
+    by None none = absurd (nobody_is_ready core table none entry chosen.is_member chosen.ready)
     by (Some other) some =
         let also = foremost_is_chosen core table other some in
-        let number : other.0 ≡ entry.0 = one_number other entry (goes_not other entry (chosen.first other also.stands also.ready)) (goes_not entry other (also.first entry chosen.stands chosen.ready)) in
-        ap Some (one_entry table distinct other entry also.stands chosen.stands number)
+        let number : other.0 ≡ entry.0 = one_number other entry (goes_not other entry (chosen.first other also.is_member also.ready)) (goes_not entry other (also.first entry chosen.is_member chosen.ready)) in
+        ap Some (one_entry table distinct other entry also.is_member chosen.is_member number)
 
--- where nobody is ready it finds none
+-- if no process is ready, it finds none
 none_is_foremost : (core : ℕ) (table : Table) → ((entry : ℕ × Process) → Contains table entry → ¬ IsReady core entry.1) → foremost (ready_entries core table) ≡ None
 none_is_foremost core table nobody = by (foremost (ready_entries core table)) refl
   where
@@ -113,7 +113,7 @@ none_is_foremost core table nobody = by (foremost (ready_entries core table)) re
     by None none = refl
     by (Some other) some =
         let chosen = foremost_is_chosen core table other some in
-        absurd (nobody other chosen.stands chosen.ready)
+        absurd (nobody other chosen.is_member chosen.ready)
 
 pub choice_is_the_sentence : ChoiceIsTheSentence
 choice_is_the_sentence core table distinct = (

@@ -12,14 +12,14 @@ use Rattle.apex_machine.specs.declared.state.WaitingSet.TheVariants as set
 use Rattle.apex_machine.specs.After.{partition_by}
 use Rattle.apex_machine.specs.Channels.{is_receiver, is_sender}
 use Rattle.apex_machine.specs.Configuration.{Configuration}
-use Rattle.apex_machine.specs.Demands.{stands_in}
+use Rattle.apex_machine.specs.Demands.{has_entry_in}
 use Rattle.apex_machine.specs.State.{Partition, State, cold_state, is_named, is_same}
 use Rattle.apex_machine.specs.Step.{IsLawfulBody, Run, Step}
 use Rattle.apex_machine.specs.Waiting.{ends_wait, enters, entry_of, set_after, without}
 use Rattle.apex_laws.specs.Laws.{AllEntries, AllPairs, SetsAreInOrder, AreTied, IsEarlier, IsInOrder, IsTied, StaysInOrder, entries_at}
 use Rattle.apex_laws.specs.ObjectLaws.{AreApart, OrderIsApart}
 use Rattle.apex_laws.proofs.Booleans.{neither_first, neither_later}
-use Rattle.apex_laws.proofs.Demanded.{caller_stands_not}
+use Rattle.apex_laws.proofs.Demanded.{caller_in_no_set}
 use Rattle.apex_laws.proofs.SetsAfter.{IsElsewhere, one_set_after}
 use Rattle.apex_laws.proofs.Stays.{step_tied}
 use Rattle.apex_laws.proofs.Waiters.{all_push, all_weaker, all_without}
@@ -42,14 +42,14 @@ pairs_push : (Fact : Entry → Entry → Type 0) (entries : List Entry) (entry :
 pairs_push Fact [] entry all last = (tt, tt)
 pairs_push Fact (other ∷ entries) entry all last = (all_push (Fact other) entries entry all.0 last.0, pairs_push Fact entries entry all.1 last.1)
 
--- a process that stands in no entry is another than that of each entry
+-- a process that has no entry is different from that of each entry
 is_other : (who : Who) (other : Who) → is_same who other ≡ false → is_same other who ≡ false
 is_other who other differs = elim (cases_Bool (is_same other who)) [
   | inl same ↦ absurd (true≢false (sym (subst (λ one. is_same who one ≡ true) (sym (same_is other who same)) (same_itself who)) ∙ differs))
   | inr apart ↦ apart
 ]
 
-others : (who : Who) (entries : List Entry) → stands_in who entries ≡ false → AllEntries (λ other. is_same other.who who ≡ false) entries
+others : (who : Who) (entries : List Entry) → has_entry_in who entries ≡ false → AllEntries (λ other. is_same other.who who ≡ false) entries
 others who [] none = tt
 others who (entry ∷ entries) none = (is_other who entry.who (neither_first _ _ none), others who entries (neither_later _ _ none))
 
@@ -83,9 +83,9 @@ order_push count entry entries at order differ = record {
   below = all_push (λ other. other.place < suc count) entries entry (order_later count entries order).below (omega (arith, at));
 }
 
--- a caller that enters stands there not yet
+-- a caller that enters has no entry there yet
 abbrev pub EntersNew : Body → List Entry → Type 0
-EntersNew (Call call) entries = stands_in call.who entries ≡ false
+EntersNew (Call call) entries = has_entry_in call.who entries ≡ false
 EntersNew _ entries = Unit {0}
 
 -- a set after a record
@@ -109,15 +109,15 @@ none_in_order count = record { pairs = tt; below = tt }
 
 -- every set
 
--- the caller of a lawful call stands in no set of a partition
+-- the caller of a lawful call has an entry in no set of a partition
 new_here : (configuration : Configuration) (state : State) (core : ℕ) (body : Body) → AreTied configuration state
     → IsLawfulBody configuration state core body → (Home : ℕ → Type 0) (wanted : WaitingSet) (entries : List Entry)
     → AllEntries (IsTied Home wanted state.partitions) entries → EntersNew body entries
-new_here configuration state core (Call call) tied law Home wanted entries all = caller_stands_not configuration state core call tied law Home wanted entries all
+new_here configuration state core (Call call) tied law Home wanted entries all = caller_in_no_set configuration state core call tied law Home wanted entries all
 new_here configuration state core (Disp who) tied law Home wanted entries all = tt
 new_here configuration state core _ tied law Home wanted entries all = tt
 
--- a set of a partition after a record, if its own caller stands in it not yet
+-- a set of a partition after a record, if its own caller has no entry in it yet
 pub set_stays_in_order : (configuration : Configuration) (cores : List CoreState) (count place core number : ℕ) (body : Body) (partition : Partition) (wanted : WaitingSet) → place ≡ count
     → ((IsElsewhere number body → ⊥) → EntersNew body (entries_at partition wanted)) → IsInOrder count (entries_at partition wanted)
     → IsInOrder (suc count) (entries_at (partition_by configuration cores place core number body partition) wanted)

@@ -69,9 +69,9 @@ refused_found configuration piece old (first ∷ others) ordered after refusal p
     goes_finding (touches configuration piece first) configuration old first next (λ part. Finds configuration piece part (others ++ ordered ∷ after) (Some refusal)) (Some refusal) goes
     (refused_found configuration piece next others ordered after refusal place (reached, run, touched, fails))
 
--- where a refusal stands
-abbrev Stands : Configuration → Piece → Part → List Ordered → Refusal → Type 0
-Stands configuration piece old records refusal =
+-- the place of a refusal
+abbrev WaitsInSet : Configuration → Piece → Part → List Ordered → Refusal → Type 0
+WaitsInSet configuration piece old records refusal =
     (before : List Ordered) × (ordered : Ordered) × (after : List Ordered) × (records ≡ before ++ ordered ∷ after) × (refusal.pos ≡ ordered.pos)
     × Refuses configuration piece old before ordered refusal.cause
 
@@ -79,7 +79,7 @@ some_is : (one other : Refusal) → ◌≡◌ {A = Option Refusal} (Some one) (S
 some_is one other e = cc
 
 found_refused : (configuration : Configuration) (piece : Piece) (old : Part) (records : List Ordered) (refusal : Refusal)
-    → Finds configuration piece old records (Some refusal) → Stands configuration piece old records refusal
+    → Finds configuration piece old records (Some refusal) → WaitsInSet configuration piece old records refusal
 found_refused configuration piece old [] refusal finds = let some : ◌≡◌ {A = Option Refusal} (Some refusal) None = finds in cc
 found_refused configuration piece old (ordered ∷ others) refusal finds =
     elim (found_next (touches configuration piece ordered) configuration old ordered (λ next. Finds configuration piece next others (Some refusal)) (Some refusal) finds) [
@@ -100,8 +100,8 @@ found_refused configuration piece old (ordered ∷ others) refusal finds =
 pub found_is_refused : FoundIsRefused
 found_is_refused configuration piece old records refusal = (
   found_refused configuration piece old records refusal,
-  λ stands. subst (λ list. Finds configuration piece old list (Some refusal)) (sym stands.3)
-      (refused_found configuration piece old stands.0 stands.1 stands.2 refusal stands.4 stands.5),
+  λ is_member. subst (λ list. Finds configuration piece old list (Some refusal)) (sym is_member.3)
+      (refused_found configuration piece old is_member.0 is_member.1 is_member.2 refusal is_member.4 is_member.5),
 )
 
 -- nothing found

@@ -1,4 +1,4 @@
--- A process that a record doesn't wake or stop goes on waiting where it waits, if the record's own calls are of ready callers.
+-- A process that a record does not wake or stop keeps its wait, if the record's own calls are of ready callers.
 use Rattle.std.proofs.Common.{◌≡◌, ℕ, zero, suc, List, [], ◌∷◌, ◌++◌, Bool, true, false, cond, nat_eq, ℤ, pos, negsuc, Option, Some, None, option_map, refl, sym, ap, subst, ◌∙◌, inl, inr, true≢false}
 use Rattle.std.proofs.lemmas.Bool.{and_from, and_parts, cases_Bool, eqb-true}
 use Rattle.apex_types.specs.declared.record.Body.{Body}
@@ -32,7 +32,7 @@ use Rattle.apex_machine.specs.Waiting.{ends_wait, enters, is_in, is_the_set, is_
 use Rattle.apex_machine.specs.Demands.{window_now}
 use Rattle.apex_laws.specs.Laws.{AreTied}
 use Rattle.apex_laws.proofs.Booleans.{cannot_hold, is_itself}
-use Rattle.apex_laws.proofs.Callers.{StandsReady, chosen_stands, ready_waits_not}
+use Rattle.apex_laws.proofs.Callers.{FoundReady, chosen_exists, ready_waits_not}
 use Rattle.apex_laws.proofs.Codes.{done_is_lawful}
 use Rattle.apex_laws.proofs.Ends.{no_condition}
 use Rattle.apex_laws.proofs.Restarts.{not_named, not_restarted, not_stopped, return_case, waiting_goes_on}
@@ -43,18 +43,18 @@ use Rattle.apex_machine.specs.declared.state.Mode.{Mode}
 
 -- a process that waits
 
--- a process that waits in a set stands and is alive
-pub record StandsWaiting (wanted : WaitingSet) (found : Option Process) : Type 0 where
+-- a process that waits in a set exists and is alive
+pub record FoundWaiting (wanted : WaitingSet) (found : Option Process) : Type 0 where
   pub process : Process
-  pub stands : found ≡ Some process
+  pub is_member : found ≡ Some process
   pub alive : process.alive ≡ true
   pub waits : is_in wanted process.wait ≡ true
 
-pub waits_stands : (wanted : WaitingSet) (found : Option Process) → waits_at wanted found ≡ true → StandsWaiting wanted found
-waits_stands wanted None waits = absurd (true≢false (sym waits))
-waits_stands wanted (Some process) waits =
+pub waits_exists : (wanted : WaitingSet) (found : Option Process) → waits_at wanted found ≡ true → FoundWaiting wanted found
+waits_exists wanted None waits = absurd (true≢false (sym waits))
+waits_exists wanted (Some process) waits =
     let parts = and_parts process.alive (is_in wanted process.wait) waits in
-    record { process = process; stands = refl; alive = parts.0; waits = parts.1 }
+    record { process = process; is_member = refl; alive = parts.0; waits = parts.1 }
 
 -- a process that is found goes on waiting if it stays alive and keeps its wait
 goes_on : (wanted : WaitingSet) (found : Option Process) (new : Process) → found ≡ Some new → new.alive ≡ true → is_in wanted new.wait ≡ true → waits_at wanted found ≡ true
@@ -129,7 +129,7 @@ set_by_wait place period cores partition caller (request.SetPartitionMode next) 
 set_by_wait place period cores partition caller (request.Mutex mutex operation) number x starts normal = mutex_wait (given_object partition.mutexes mutex) _ number x
 set_by_wait place period cores partition caller _ number x starts normal = refl
 
--- START starts nobody that is alive
+-- START starts no process that is alive
 
 -- a number that isn't a process's
 not_number : (table : Table) (process : ℤ) (number : ℕ) (x : Process) → item_at table number ≡ Some x → x.alive ≡ true → start_conditions (created table process) ≡ [] → is_number process number ≡ false
@@ -150,12 +150,12 @@ not_started configuration who partition _ number x at alive none = tt
 
 -- after a call
 
--- a call of one of a partition's own processes: its caller is ready, and where it is done no error condition holds
+-- a call of one of a partition's own processes: its caller is ready, and if it is done, no error condition holds
 pub record IsReadyCall (configuration : Configuration) (partition : Partition) (core : ℕ) (call : CallRecord) : Type 0 where
-  pub ready : StandsReady core (item_at partition.table call.who.proc)
+  pub ready : FoundReady core (item_at partition.table call.who.proc)
   pub none : is_done call.claim.out ≡ true → conditions_of configuration call.who partition call.request ≡ []
 
--- a record is such a call, where it is a call of one of this partition's processes
+-- a record is such a call, if it is a call of one of this partition's processes
 abbrev pub CallsReady : Configuration → ℕ → ℕ → Body → Partition → Type 0
 CallsReady configuration core number (Call call) partition = nat_eq call.who.part number ≡ true → IsReadyCall configuration partition core call
 CallsReady configuration core number _ partition = Unit {0}
@@ -164,7 +164,7 @@ CallsReady configuration core number _ partition = Unit {0}
 pub ready_call : (configuration : Configuration) (state : State) (core : ℕ) (call : CallRecord) → AreTied configuration state
     → IsLawfulCall configuration state core call → IsReadyCall configuration (state.partitions call.who.part) core call
 ready_call configuration state core call tied law = record {
-  ready = chosen_stands (window_now configuration state.cores core) state.partitions core call.who (tied.distinct call.who.part) law.choice;
+  ready = chosen_exists (window_now configuration state.cores core) state.partitions core call.who (tied.distinct call.who.part) law.choice;
   none = λ done. done_is_lawful (conditions_of configuration call.who (state.partitions call.who.part) call.request) (channel_of (state.partitions call.who.part) call.request)
       (answer_of (time_of state.cores core) call.who (state.partitions call.who.part) call.request) (λ number. suits_use configuration number call.who.part (use_of call.request) (state.channels number))
       (channel_answer configuration (time_of state.cores core) call.who.part call.request state.channels) call.claim
@@ -193,7 +193,7 @@ adjusted_waits configuration cores partition place period core call ready number
       | false ↦ λ not_done. (alive, waits)
     ] refl
 
--- a process that stands is found in a longer table too
+-- a process that is found in a table is found in a longer table too
 pub found_in_front : (table more : Table) (number : ℕ) (x : Process) → item_at table number ≡ Some x → item_at (table ++ more) number ≡ Some x
 found_in_front [] more number x at = cc
 found_in_front (entry ∷ entries) more number x at =
@@ -239,21 +239,21 @@ pub keeps_waiting : (configuration : Configuration) (cores : List CoreState) (pl
     → waits_at wanted (item_at (partition_by configuration cores place core who.part body partition).table who.proc) ≡ true
 keeps_waiting configuration cores place core (Disp one) partition who wanted ready stays waits = waits
 keeps_waiting configuration cores place core (Tick woken) partition who wanted ready stays waits =
-    let old = waits_stands wanted (item_at partition.table who.proc) waits in
+    let old = waits_exists wanted (item_at partition.table who.proc) waits in
     let is : item_at (each_item (ticked place who.part woken) partition.table) who.proc ≡ Some (ticked place who.part woken who.proc old.process) =
-    at_each (ticked place who.part woken) partition.table who.proc ∙ ap (option_map (ticked place who.part woken who.proc)) old.stands in
+    at_each (ticked place who.part woken) partition.table who.proc ∙ ap (option_map (ticked place who.part woken who.proc)) old.is_member in
     let same : ticked place who.part woken who.proc old.process ≡ old.process = rw stays refl in
     goes_on wanted (item_at (each_item (ticked place who.part woken) partition.table) who.proc) old.process (is ∙ ap Some same) old.alive old.waits
 keeps_waiting configuration cores place core (Ret ret) partition who wanted ready stays waits =
-    let old = waits_stands wanted (item_at partition.table who.proc) waits in
+    let old = waits_exists wanted (item_at partition.table who.proc) waits in
     let table = each_item (returned ret.who.proc) partition.table in
     let is : item_at table who.proc ≡ Some (returned ret.who.proc who.proc old.process) =
-    at_each (returned ret.who.proc) partition.table who.proc ∙ ap (option_map (returned ret.who.proc who.proc)) old.stands in
+    at_each (returned ret.who.proc) partition.table who.proc ∙ ap (option_map (returned ret.who.proc who.proc)) old.is_member in
     let new = returned_waits wanted (nat_eq who.proc ret.who.proc) old.process old.alive old.waits in
     return_case (λ next. waits_at wanted (item_at next.table who.proc) ≡ true) configuration cores place core who.part ret partition
     (goes_on wanted (item_at table who.proc) (returned ret.who.proc who.proc old.process) is new.0 new.1) waits
 keeps_waiting configuration cores place core (Call call) partition who wanted ready stays waits =
-    let old = waits_stands wanted (item_at partition.table who.proc) waits in
+    let old = waits_exists wanted (item_at partition.table who.proc) waits in
     let table = partition.table in
     elim (cases_Bool (nat_eq call.who.part who.part)) [
       | inl own ↦
@@ -263,23 +263,23 @@ keeps_waiting configuration cores place core (Call call) partition who wanted re
           let other : nat_eq who.proc call.who.proc ≡ false = cannot_hold (nat_eq who.proc call.who.proc) (λ caller_waits.
           ready_waits_not core (item_at table call.who.proc) wanted caller.ready
           (subst (λ number. waits_at wanted (item_at table number) ≡ true) (eqb-true who.proc call.who.proc caller_waits) waits)) in
-          let new = called_waits configuration cores partition place (time_of cores core) core call caller who.proc old.process wanted old.stands old.alive old.waits other
+          let new = called_waits configuration cores partition place (time_of cores core) core call caller who.proc old.process wanted old.is_member old.alive old.waits other
           (subst (λ one. ends_wait call one ≡ false) same stays) in
           let change = called place (time_of cores core) (period_of configuration call.who.part) cores partition call in
-          let is = found_changed change table (created_by (first_core configuration call.who.part) call call.request) who.proc old.process old.stands in
+          let is = found_changed change table (created_by (first_core configuration call.who.part) call call.request) who.proc old.process old.is_member in
           rw (own, not_restarted call who (sym here) stays) (goes_on wanted (item_at (each_item change table ++ created_by (first_core configuration call.who.part) call call.request) who.proc)
           (change who.proc old.process) is new.0 new.1)
       | inr foreign ↦
           let change : ℕ → Process → Process = λ number process. woken_if_named place call (record { part = who.part; proc = number }) process in
           let named : is_named who call.claim.woken ≡ false = not_named call who stays in
-          let is : item_at (each_item change table) who.proc ≡ Some (change who.proc old.process) = at_each change table who.proc ∙ ap (option_map (change who.proc)) old.stands in
+          let is : item_at (each_item change table) who.proc ≡ Some (change who.proc old.process) = at_each change table who.proc ∙ ap (option_map (change who.proc)) old.is_member in
           let same : change who.proc old.process ≡ old.process = rw named refl in
           rw foreign (goes_on wanted (item_at (each_item change table) who.proc) old.process (is ∙ ap Some same) old.alive old.waits)
     ]
 
 -- a caller that waits
 
--- the wait of a call is in a set exactly where that is the set of the call
+-- the wait of a call is in a set exactly if that is the set of the call
 in_set : (wanted : WaitingSet) (set : Option WaitingSet) (due : Option ℕ) → is_in wanted (wait_in set due) ≡ is_the_set wanted set
 in_set wanted None due = refl
 in_set wanted (Some set) due = refl
@@ -310,7 +310,7 @@ entered_waits configuration cores place core call partition caller wanted enters
     ready.ready.alive (set_by_alive place period cores partition call.who.proc call.request call.who.proc ready.process ready.ready.alive) in
     let new = waiting_caller place (time_of cores core) call changed wanted call.claim.out refl parts.0 alive parts.1 in
     let change = called place (time_of cores core) period cores partition call in
-    let is = found_changed change partition.table (created_by (first_core configuration call.who.part) call call.request) call.who.proc ready.process ready.stands in
+    let is = found_changed change partition.table (created_by (first_core configuration call.who.part) call call.request) call.who.proc ready.process ready.is_member in
     let caller : change call.who.proc ready.process ≡ caller_after place (time_of cores core) call changed = rw (is_itself call.who.proc) refl in
     rw (is_itself call.who.part, waiting_goes_on call parts.0) (goes_on wanted (item_at (each_item change partition.table ++ created_by (first_core configuration call.who.part) call call.request) call.who.proc)
     (caller_after place (time_of cores core) call changed) (is ∙ ap Some caller) new.0 new.1)

@@ -10,7 +10,7 @@ use Rattle.apex_machine.specs.Waiting.{ends_wait, enters, entry_of, set_after, w
 use Rattle.apex_laws.specs.RecordLaws.{SetIsTheSentence}
 use Rattle.apex_laws.specs.RecordSentences.{IsSetAfterCall, KeepsOnly}
 
--- those who stay are those that don't leave, where the test says who leaves
+-- the processes that stay are those that do not leave, if the test says which ones leave
 pub keeps_only : (Leaves : Who → Type 0) (leaves : Who → Bool) → ((who : Who) → leaves who ≡ true → Leaves who) → ((who : Who) → leaves who ≡ false → ¬ Leaves who)
     → (entries : List Entry) → KeepsOnly Leaves entries (without leaves entries)
 keeps_only Leaves leaves goes stays [] = refl

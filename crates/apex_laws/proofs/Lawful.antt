@@ -34,7 +34,7 @@ ChannelsAgree configuration state core body =
     (number : ℕ) → IsTrue (has_channel configuration number) → IsTrue (touched_by configuration body (OfChannel number))
     → AllHold (channel_demands configuration (time_of state.cores core) number (state.channels number) body)
 
--- the choice, where the partition of the window has it and the window is of a configured partition
+-- the choice, if the partition of the window has it and the window is of a configured partition
 choice_of_all : (configuration : Configuration) (state : State) (core : ℕ) (who : Option Who) → WindowsAreConfigured configuration
     → InNoWindow (window_now configuration state.cores core) (who ≡ None)
     → ((number : ℕ) → IsTrue (has_partition configuration number)

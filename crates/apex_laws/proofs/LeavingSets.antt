@@ -1,4 +1,5 @@
--- Who leaves the waiting sets of a partition: the target of a STOP, those named at a tick, and nobody at another partition's record.
+-- Which processes leave the waiting sets of a partition: the target of a STOP, those named at a tick, and none at another partition's
+-- record.
 use Rattle.std.proofs.Common.{◌≡◌, ℕ, List, [], ◌∷◌, true, false, cond, nat_eq, ℤ, pos, Some, None, refl, sym, ap, subst, ◌∙◌, true≢false, ◌&&◌, ◌||◌}
 use Rattle.std.proofs.lemmas.Bool.{and_parts, eqb-true}
 use Rattle.apex_types.specs.declared.record.Body.TheVariants.{Call, Ret}
@@ -34,7 +35,7 @@ use Rattle.apex_laws.proofs.Restarts.{restarts_none, return_case}
 use Rattle.apex_laws.proofs.OtherSets.{enters_no_other}
 use Rattle.apex_laws.proofs.EachSet.{Leaves, becomes_found, leaves_found, sets_stay}
 use Rattle.apex_laws.proofs.PartObjects.{one_of_kind_changes}
-use Rattle.apex_laws.proofs.SoundParts.{Stands}
+use Rattle.apex_laws.proofs.SoundParts.{WaitsInSet}
 use Rattle.apex_laws.proofs.Waiters.{none_leaves, without_same}
 use Rattle.apex_laws.proofs.WaitSets.{set_itself}
 use Rattle.apex_laws.proofs.WaitersOf.{same_is}
@@ -44,10 +45,10 @@ use Rattle.apex_laws.proofs.Woken.{created_is}
 
 pub due_leave : DueLeave
 due_leave number place partition woken sound wanted none =
-    none_leaves (Stands number wanted partition) (λ who. is_named who woken)
-    (λ entry stands. cannot_hold (is_named entry.who woken) (λ named.
-    true≢false (sym stands.1 ∙ none entry.who.proc (subst (λ part. is_named (record { part = part; proc = entry.who.proc }) woken ≡ true) stands.0 named))))
-    (entries_at partition wanted) (sound.stands wanted)
+    none_leaves (WaitsInSet number wanted partition) (λ who. is_named who woken)
+    (λ entry is_member. cannot_hold (is_named entry.who woken) (λ named.
+    true≢false (sym is_member.1 ∙ none entry.who.proc (subst (λ part. is_named (record { part = part; proc = entry.who.proc }) woken ≡ true) is_member.0 named))))
+    (entries_at partition wanted) (sound.is_member wanted)
 
 -- other records
 
@@ -113,7 +114,7 @@ one_set_alone change through partition (set.ChannelReceivers channel) has become
 
 -- a STOP that is done
 
--- it names nobody
+-- it names no process
 stop_names : (conditions : List Condition) (number : ℕ) (asked : Request) (claim : Claim) → AllHold (outcome_demands conditions None number asked done claim) → (who : Who) → is_named who claim.woken ≡ false
 stop_names [] number asked claim hold who = hold.1.1.1.1.0 who
 stop_names (condition ∷ conditions) number asked claim hold who = ap (is_named who) hold.1.1.1.1.0
@@ -129,12 +130,12 @@ stop_ends call process number who at asked no_error not_named =
 
 -- who leaves by its wait alone
 pub stays_without : (number : ℕ) (partition : Partition) (wanted : WaitingSet) (who : Who) (process : Process) → item_at partition.table who.proc ≡ Some process → is_in wanted process.wait ≡ false
-    → (entries : List Entry) → AllEntries (Stands number wanted partition) entries → without_one who entries ≡ entries
+    → (entries : List Entry) → AllEntries (WaitsInSet number wanted partition) entries → without_one who entries ≡ entries
 stays_without number partition wanted who process at off entries all =
-    none_leaves (Stands number wanted partition) (λ other. is_same other who)
-    (λ entry stands. cannot_hold (is_same entry.who who) (λ same.
+    none_leaves (WaitsInSet number wanted partition) (λ other. is_same other who)
+    (λ entry is_member. cannot_hold (is_same entry.who who) (λ same.
     (let here : waits_at wanted (Some process) ≡ true =
-    subst (λ one. waits_at wanted one ≡ true) (ap (λ one. item_at partition.table one.proc) (same_is entry.who who same) ∙ at) stands.1 in
+    subst (λ one. waits_at wanted one ≡ true) (ap (λ one. item_at partition.table one.proc) (same_is entry.who who same) ∙ at) is_member.1 in
     true≢false (sym (and_parts process.alive (is_in wanted process.wait) here).1 ∙ off)))) entries all
 
 -- the partition after one process left
@@ -159,7 +160,7 @@ stopped_leaves configuration number place core cores partition call is process a
     rw off (without_same (ends_wait call) (λ other. is_same other who) ends (entries_at partition wanted))) in
     let there : item_at partition.table who.proc ≡ Some target = ap (λ one. item_at partition.table (natural_of one)) at.1 ∙ at.2 in
     let leaves : (wanted : WaitingSet) → is_in wanted target.wait ≡ false → Leaves change partition wanted =
-    λ wanted off. becomes wanted ∙ stays_without number partition wanted who target there off (entries_at partition wanted) (is.sound.stands wanted) in (
+    λ wanted off. becomes wanted ∙ stays_without number partition wanted who target there off (entries_at partition wanted) (is.sound.is_member wanted) in (
       becomes,
       leaves,
       ap (λ one. each_set change (cond (is_done call.claim.out) (objects_by configuration call.who call.claim.val one partition) partition)) asked

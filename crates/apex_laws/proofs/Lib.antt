@@ -42,7 +42,7 @@ pub mod Records
 pub mod RefusedCalls
 pub mod WholeCalls
 pub mod RestartedCalls
-pub mod Standing
+pub mod WaitersAfter
 pub mod ObjectCalls
 pub mod Exact
 pub mod Joins

@@ -43,7 +43,7 @@ none Goal = record { all = All-nil Goal }
 alone : (one : Condition) (Goal : Condition → Type 0) → Goal one → Each (one ∷ []) Goal
 alone one Goal goal = record { all = All-cons Goal one [] goal (All-nil Goal) }
 
--- one condition, where it holds
+-- one condition, if it holds
 each_when : (test : Bool) (one : Condition) (Goal : Condition → Type 0) → (test ≡ true → Goal one) → Each (when test one) Goal
 each_when true one Goal goal = alone one Goal (goal refl)
 each_when false one Goal goal = none Goal

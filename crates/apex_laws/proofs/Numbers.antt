@@ -11,10 +11,10 @@ use Rattle.apex_machine.specs.State.{Blackboard, Buffer, Event, Mutex, Port, Sem
 use Rattle.apex_machine.specs.Names.{number_named}
 use Rattle.apex_laws.specs.NumberLaws.{AreFound, AreFoundByName, AreNew, IsNewNumber, NamesAreFound, NewNumberIsTheSentence, ObjectsAreFound, ProcessesAreFound}
 use Rattle.apex_laws.proofs.Booleans.{is_itself}
-use Rattle.apex_laws.proofs.ConditionTests.{Tells, absent, at_most_tells, below_tells, nobody, nothing_named_tells, stands_cases, stands_nowhere, tells_both}
+use Rattle.apex_laws.proofs.ConditionTests.{Tells, absent, at_most_tells, below_tells, nobody, nothing_named_tells, member_cases, member_nowhere, tells_both}
 use Rattle.apex_laws.proofs.Entries.{at_its_number}
 
--- what is found stands under its number
+-- what is found is in the list under its number
 found_object : {Object : Type 0} → (objects : List (ℕ × Object)) (number : ℕ) (object : Object) → item_at objects number ≡ Some object → Contains objects (number, object)
 found_object [] number object at = absurd (absent object at)
 found_object {Object} (entry ∷ entries) number object at =
@@ -29,25 +29,25 @@ found_object {Object} (entry ∷ entries) number object at =
           Contains-append_right (entry ∷ []) entries (number, object) (found_object entries number object later)
     ]
 
--- where nothing is found nothing stands
-nothing_stands : {Object : Type 0} → (objects : List (ℕ × Object)) (number : ℕ) → item_at objects number ≡ None → (object : Object) → ¬ Contains objects (number, object)
-nothing_stands [] number none object stands = stands_nowhere (number, object) stands
-nothing_stands {Object} (entry ∷ entries) number none object stands =
+-- if nothing is found, there is nothing
+nothing_is_there : {Object : Type 0} → (objects : List (ℕ × Object)) (number : ℕ) → item_at objects number ≡ None → (object : Object) → ¬ Contains objects (number, object)
+nothing_is_there [] number none object is_member = member_nowhere (number, object) is_member
+nothing_is_there {Object} (entry ∷ entries) number none object is_member =
     elim (cases_Bool (nat_eq number entry.0)) [
       | inl here ↦ absent entry.1 (let one : item_at (entry ∷ entries) number ≡ Some entry.1 = rw here refl in sym none ∙ one)
       | inr other ↦
           let later : item_at entries number ≡ None = (let one : item_at (entry ∷ entries) number ≡ item_at entries number = rw other refl in sym one ∙ none) in
-          elim (stands_cases entry (number, object) entries stands) [
+          elim (member_cases entry (number, object) entries is_member) [
             | inl same ↦ true≢false (sym (ap (λ one. nat_eq number one.0) (sym same) ∙ is_itself number) ∙ other)
-            | inr there ↦ nothing_stands entries number later object there
+            | inr there ↦ nothing_is_there entries number later object there
           ]
     ]
 
-none_stands : {Object : Type 0} → (objects : List (ℕ × Object)) (number : ℕ) → ((object : Object) → ¬ Contains objects (number, object)) → item_at objects number ≡ None
-none_stands {Object} objects number none = nobody (item_at objects number) (λ object at. none object (found_object objects number object at))
+none_is_there : {Object : Type 0} → (objects : List (ℕ × Object)) (number : ℕ) → ((object : Object) → ¬ Contains objects (number, object)) → item_at objects number ≡ None
+none_is_there {Object} objects number none = nobody (item_at objects number) (λ object at. none object (found_object objects number object at))
 
 are_found : (Object : Type 0) → AreFound Object
-are_found Object objects number = (found_object objects number, (nothing_stands objects number, none_stands objects number))
+are_found Object objects number = (found_object objects number, (nothing_is_there objects number, none_is_there objects number))
 
 pub objects_are_found : ObjectsAreFound
 objects_are_found = record {
@@ -110,15 +110,15 @@ pub processes_are_found : ProcessesAreFound
 processes_are_found table number = (
   λ distinct process. (
     λ at. found_object table number process (sym (as_object table number) ∙ at),
-    λ stands. All-contains (λ entry. item_at table entry.0 ≡ Some entry.1) table (number, process) (at_its_number table distinct) stands,
+    λ is_member. All-contains (λ entry. item_at table entry.0 ≡ Some entry.1) table (number, process) (at_its_number table distinct) is_member,
   ),
   (
-    λ none. nothing_stands table number (sym (as_object table number) ∙ none),
-    λ none. as_object table number ∙ none_stands table number none,
+    λ none. nothing_is_there table number (sym (as_object table number) ∙ none),
+    λ none. as_object table number ∙ none_is_there table number none,
   ),
 )
 
--- a new number, where a test tells which numbers are free
+-- a new number, if a test decides which numbers are free
 new_tells : {Object : Type 0} → (objects : List (ℕ × Object)) (is_free : ℕ → Bool) → ((number : ℕ) → Tells (is_free number) ((object : Object) → ¬ Contains objects (number, object)))
     → (claimed : Option ℤ) → Tells (is_new is_free claimed) (IsNewNumber objects claimed)
 new_tells objects is_free tells None = (λ holds. absurd (true≢false (sym holds)), λ fact. absurd (absent (pos fact.number) fact.is))
@@ -142,8 +142,8 @@ are_new : (Object : Type 0) → AreNew Object
 are_new Object objects claimed =
     new_tells objects (is_free objects)
     (λ number. (
-      λ holds. nothing_stands objects number ((none_tells (item_at objects number)).0 holds),
-      λ fact. (none_tells (item_at objects number)).1 (none_stands objects number fact),
+      λ holds. nothing_is_there objects number ((none_tells (item_at objects number)).0 holds),
+      λ fact. (none_tells (item_at objects number)).1 (none_is_there objects number fact),
     )) claimed
 
 pub new_number_is_the_sentence : NewNumberIsTheSentence

@@ -55,7 +55,7 @@ acts {Object} {Value} objects (pos number) found at Rule put rule_of rule answer
   number = number;
   is = refl;
   found = found;
-  stands = at;
+  is_member = at;
   effect = rule_of found;
   rule = rule;
   gives = gives;
@@ -81,7 +81,7 @@ creates {Object} objects claimed new = record {
   });
 }
 
--- the object is there, where no condition holds
+-- the object is created, if no condition holds
 
 pub object_there : {Object : Type 0} (who : Who) (partition : Partition) (found : Option Object) (time_out : ℤ) → object_conditions who partition found time_out ≡ [] → (object : Object) × (found ≡ Some object)
 object_there who partition found time_out none =
@@ -103,7 +103,7 @@ message_there size_of found length none =
 lone_there : {Object : Type 0} (found : Option Object) → conditions_for found (λ object. []) ≡ [] → (object : Object) × (found ≡ Some object)
 lone_there found none = let is = is_created found (λ object. []) none in (is.0, is.1)
 
--- the mutex that is to be acquired is there, where no condition holds
+-- the mutex to be acquired is created, if no condition holds
 pub mutex_there : (who : Who) (partition : Partition) (mutex time_out : ℤ) → acquire_conditions who partition mutex time_out ≡ [] → (found : Mutex) × (given_object partition.mutexes mutex ≡ Some found)
 mutex_there who partition mutex time_out none =
     let conditions : Mutex → List Condition = λ found. when (of_caller (λ process. nat_lt found.priority process.current_priority) (item_at partition.table who.proc)) condition.AboveCeiling in

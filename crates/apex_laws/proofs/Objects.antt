@@ -34,19 +34,19 @@ entries_of_each Holds entries_of change through number is objects absent all =
     (changed_entries Holds entries_of change through number is (item_at objects number) absent all)
 
 -- whether the object of a waiting set of a partition is created; a channel's set is no partition's
-abbrev pub stands_at : Partition → WaitingSet → Bool
-stands_at partition (set.BufferSenders number) = is_some (item_at partition.buffers number)
-stands_at partition (set.BufferReceivers number) = is_some (item_at partition.buffers number)
-stands_at partition (set.BlackboardReaders number) = is_some (item_at partition.blackboards number)
-stands_at partition (set.SemaphoreWaiters number) = is_some (item_at partition.semaphores number)
-stands_at partition (set.EventWaiters number) = is_some (item_at partition.events number)
-stands_at partition (set.MutexWaiters number) = is_some (item_at partition.mutexes number)
-stands_at partition (set.ChannelSenders channel) = false
-stands_at partition (set.ChannelReceivers channel) = false
+abbrev pub is_created_at : Partition → WaitingSet → Bool
+is_created_at partition (set.BufferSenders number) = is_some (item_at partition.buffers number)
+is_created_at partition (set.BufferReceivers number) = is_some (item_at partition.buffers number)
+is_created_at partition (set.BlackboardReaders number) = is_some (item_at partition.blackboards number)
+is_created_at partition (set.SemaphoreWaiters number) = is_some (item_at partition.semaphores number)
+is_created_at partition (set.EventWaiters number) = is_some (item_at partition.events number)
+is_created_at partition (set.MutexWaiters number) = is_some (item_at partition.mutexes number)
+is_created_at partition (set.ChannelSenders channel) = false
+is_created_at partition (set.ChannelReceivers channel) = false
 
--- the entries of a set, where each set of the partition is changed
+-- the entries of a set, if each set of the partition is changed
 pub each_set_holds : (Holds : List Entry → Type 0) (change : WaitingSet → List Entry → List Entry) (partition : Partition) (wanted : WaitingSet)
-    → (stands_at partition wanted ≡ false → entries_at partition wanted ≡ [] → Holds [])
+    → (is_created_at partition wanted ≡ false → entries_at partition wanted ≡ [] → Holds [])
     → Holds (change wanted (entries_at partition wanted)) → Holds (entries_at (each_set change partition) wanted)
 each_set_holds Holds change partition (set.BufferSenders number) absent all =
     entries_of_each Holds (λ (one : Buffer). one.senders) (with_sets kind.Buffer change) (change (set.BufferSenders number)) number (λ one. refl) partition.buffers absent all
@@ -67,12 +67,12 @@ each_set_holds Holds change partition (set.MutexWaiters number) absent all =
 each_set_holds Holds change partition (set.ChannelSenders channel) absent all = absent refl refl
 each_set_holds Holds change partition (set.ChannelReceivers channel) absent all = absent refl refl
 
--- where it holds of the empty set
+-- if it holds for the empty set
 pub each_set_has : (Holds : List Entry → Type 0) (nobody : Holds []) (change : WaitingSet → List Entry → List Entry) (partition : Partition) (wanted : WaitingSet)
     → Holds (change wanted (entries_at partition wanted)) → Holds (entries_at (each_set change partition) wanted)
 each_set_has Holds nobody change partition wanted all = each_set_holds Holds change partition wanted (λ absent empty. nobody) all
 
--- what holds of each entry where a set isn't a channel's holds of each entry of a partition's set
+-- what holds for each entry if a set is not a channel's holds for each entry of a partition's set
 pub of_objects : (Fact : Entry → Type 0) (partition : Partition) (wanted : WaitingSet) → (is_of_channel wanted ≡ false → AllEntries Fact (entries_at partition wanted))
     → AllEntries Fact (entries_at partition wanted)
 of_objects Fact partition (set.ChannelSenders channel) all = tt

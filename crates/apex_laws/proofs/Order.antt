@@ -34,7 +34,7 @@ goes_not_before one other (inr (same, inr (also, above))) = grind arith
 pub not_before_itself : (one : ℕ × Process) → goes_before one one ≡ false
 not_before_itself one = grind arith
 
--- where one goes before the other, the other doesn't go before it
+-- if one goes before the other, the other does not go before it
 reversed : (one other : ℕ × Process) → GoesBefore one other → IsNotBefore other one
 reversed one other (inl more) = inl more
 reversed one other (inr (same, inl sooner)) = inr (omega arith, inl sooner)

@@ -19,7 +19,7 @@ use Rattle.apex_laws.specs.PartLaws.{IsSoundPart, OtherSetsStay, is_set_used}
 use Rattle.apex_laws.specs.WaitLaws.{WaitsIn}
 use Rattle.apex_laws.proofs.Booleans.{cannot_hold, first_holds, is_itself, neither_first, neither_later, not_first, not_second}
 use Rattle.apex_laws.proofs.Restarts.{goes_on}
-use Rattle.apex_laws.proofs.SoundParts.{Stands}
+use Rattle.apex_laws.proofs.SoundParts.{WaitsInSet}
 use Rattle.apex_laws.proofs.Untouched.{set_stays}
 use Rattle.apex_laws.proofs.Waiters.{all_weaker}
 use Rattle.apex_laws.proofs.Wakes.{answer_wakes, nobody}
@@ -43,7 +43,7 @@ enters_no_other call wanted unused =
 
 -- who leaves
 
--- a call that is no STOP, or not done, stops nobody
+-- a call that is no STOP, or not done, stops no process
 not_stopping : (stopping : Option ℤ) (no_error here : Bool) (number : ℕ) → (is_some stopping && no_error) ≡ false → (no_error && (here && is_target stopping number)) ≡ false
 not_stopping None no_error here number none = not_second no_error (here && false) (not_second here false refl)
 not_stopping (Some target) true here number none = absurd (true≢false none)
@@ -52,11 +52,11 @@ not_stopping (Some target) false here number none = refl
 pub stops_nobody : (call : CallRecord) (who : Who) → (is_some (stop_of call.request) && is_no_error call.claim.out) ≡ false → stops call who ≡ false
 stops_nobody call who none = not_stopping (stop_of call.request) (is_no_error call.claim.out) (nat_eq who.part call.who.part) who.proc none
 
--- a call that stops nobody restarts no partition
+-- a call that stops no process restarts no partition
 pub restarts_nobody : (call : CallRecord) (number : ℕ) → stops_some call ≡ false → restarts call number ≡ false
 restarts_nobody call number none = not_first (is_some (restart_of call)) (nat_eq number call.who.part) (neither_first _ _ none)
 
--- whom an own call names waits in no set that the request doesn't use
+-- a process that an own call names waits in no set that the request does not use
 named_uses : (number place now : ℕ) (partition : Partition) (caller : Who) (asked : Request) (claim : Claim) → IsSoundPart number place partition
     → (conditions : List Condition) (channel : Option ℕ) → AllHold (outcome_demands conditions channel number asked (answer_of now caller partition asked) claim)
     → (wanted : WaitingSet) → is_set_used asked wanted ≡ false → (who : Who) → who.part ≡ number → waits_at wanted (item_at partition.table who.proc) ≡ true → is_named who claim.woken ≡ true → ⊥
@@ -65,16 +65,16 @@ named_uses number place now partition caller asked claim sound [] (Some channel)
     true≢false (sym named ∙ not_named who claim.woken (subst (λ part. names_one_of part claim.woken ≡ false) (sym here) hold.1.1.0))
 named_uses number place now partition caller asked claim sound [] None hold wanted unused who here waits named =
     answer_wakes (λ one. waits_at wanted (item_at partition.table one.proc) ≡ true → ⊥) now caller partition asked
-    (λ other used. all_weaker (Stands number other partition) (λ entry. waits_at wanted (item_at partition.table entry.who.proc) ≡ true → ⊥)
+    (λ other used. all_weaker (WaitsInSet number other partition) (λ entry. waits_at wanted (item_at partition.table entry.who.proc) ≡ true → ⊥)
     (λ entry is also. true≢false (sym used ∙ ap (is_set_used asked) (one_set other wanted (item_at partition.table entry.who.proc) is.1 also) ∙ unused))
-    (entries_at partition other) (sound.stands other))
+    (entries_at partition other) (sound.is_member other))
     (λ process target is suspends waits. suspended_elsewhere partition process target wanted is suspends waits)
     who (sym (hold.1.1.1.1.0 who) ∙ named) waits
 
 pub other_sets_stay : OtherSetsStay
 other_sets_stay configuration number place core cores partition call is not_stop wanted unused =
-    set_stays (Stands number wanted partition) place call wanted (entries_at partition wanted) (is.sound.stands wanted) (enters_no_other call wanted unused)
-    (λ entry stands. goes_on call entry.who (restarts_nobody call entry.who.part not_stop)
+    set_stays (WaitsInSet number wanted partition) place call wanted (entries_at partition wanted) (is.sound.is_member wanted) (enters_no_other call wanted unused)
+    (λ entry is_member. goes_on call entry.who (restarts_nobody call entry.who.part not_stop)
     (cannot_hold (is_named entry.who call.claim.woken) (λ named. named_uses number place (time_of cores core) partition call.who call.request call.claim is.sound
-    (conditions_of configuration call.who partition call.request) (channel_of partition call.request) is.demands.1.1.1.1.1 wanted unused entry.who stands.0 stands.1 named))
+    (conditions_of configuration call.who partition call.request) (channel_of partition call.request) is.demands.1.1.1.1.1 wanted unused entry.who is_member.0 is_member.1 named))
     (stops_nobody call entry.who (neither_later _ _ not_stop)))

@@ -48,7 +48,7 @@ same_kind kind.SamplingPort kind.SamplingPort = true
 same_kind kind.QueuingPort kind.QueuingPort = true
 same_kind _ _ = false
 
--- where the objects of one kind become these, and those of the others stay, so does the partition
+-- if the objects of one kind become these, and those of the others stay, so does the partition
 kind_alone : (kind : ObjectKind) (change : WaitingSet → List Entry → List Entry) (partition : Partition) (done : Bool) (after new : List (ℕ × ObjectOf kind))
     → each_item (with_sets kind change) (cond done after (objects_of partition kind)) ≡ new
     → ((other : ObjectKind) → same_kind kind other ≡ false → each_item (with_sets other change) (objects_of partition other) ≡ objects_of partition other)
@@ -107,7 +107,7 @@ of_other kind.Mutex kind.Mutex number another differs = absurd (true≢false dif
 of_other _ kind.Mutex number another differs = refl
 of_other _ _ number another differs = tt
 
--- the change of one object, where every set but its own is left
+-- the change of one object, if every set but its own is left unchanged
 pub one_of_kind_changes : (kind : ObjectKind) (change : WaitingSet → List Entry → List Entry) (partition : Partition) (done : Bool) (number : ℕ) (rule new : ObjectOf kind → ObjectOf kind)
     → HasDistinctObjects partition
     → ((found : ObjectOf kind) → item_at (objects_of partition kind) number ≡ Some found → with_sets kind change number (cond done (rule found) found) ≡ new found)
@@ -132,7 +132,7 @@ event_unused event _ wanted off = off
 
 -- a creation
 
--- the objects of a kind, with what is created where the call is done
+-- the objects of a kind, with what is created if the call is done
 created_stay : {Object : Type 0} (change : ℕ → Object → Object) (done : Bool) (objects : List (ℕ × Object)) (claimed : Option ℤ) (new : Object) → ((number : ℕ) → change number new ≡ new)
     → each_item change objects ≡ objects → each_item change (cond done (objects ++ numbered claimed new) objects) ≡ cond done (objects ++ numbered claimed new) objects
 created_stay change true objects claimed new stays all = all_stay_with change objects claimed new stays all
@@ -150,7 +150,7 @@ one_of_kind_created kind change partition done claimed new has empty leaves =
     stay : (other : ObjectKind) → each_item (with_sets other change) (objects_of partition other) ≡ objects_of partition other
     stay other = objects_stay other change partition has (λ number. on_sets other number (Leaves change partition) (λ wanted off. leaves wanted))
 
--- other ports, where every set is left
+-- other ports, if every set is left unchanged
 ports_change : (kind : ObjectKind) (change : WaitingSet → List Entry → List Entry) (partition : Partition) (done : Bool) (after : List (ℕ × ObjectOf kind)) → HasDistinctObjects partition
     → each_item (with_sets kind change) (cond done after (objects_of partition kind)) ≡ cond done after (objects_of partition kind) → ((wanted : WaitingSet) → Leaves change partition wanted)
     → each_set change (cond done (with_objects kind after partition) partition) ≡ with_objects kind (cond done after (objects_of partition kind)) partition

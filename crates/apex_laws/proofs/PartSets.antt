@@ -39,9 +39,9 @@ named_leave place call wanted entries no_stop no_restart = (λ here. rw here (ap
 
 -- one process
 
--- who stands in a set waits there, by a table
-abbrev pub AllStand : ℕ → Table → Partition → Type 0
-AllStand number table partition =
+-- a process with an entry in a set waits there, by a table
+abbrev pub AllWaitThere : ℕ → Table → Partition → Type 0
+AllWaitThere number table partition =
     (wanted : WaitingSet) → AllEntries (λ entry. (entry.who.part ≡ number) × IsTrue (waits_at wanted (item_at table entry.who.proc))) (entries_at partition wanted)
 
 -- each set without this process
@@ -49,62 +49,62 @@ abbrev leave_all : Who → WaitingSet → List Entry → List Entry
 leave_all who wanted entries = without_one who entries
 
 -- a process that leaves the set that its wait names has left every set
-pub leaves_all : (number : ℕ) (table : Table) (partition : Partition) (who : Who) (process : Process) → HasDistinctObjects partition → AllStand number table partition
+pub leaves_all : (number : ℕ) (table : Table) (partition : Partition) (who : Who) (process : Process) → HasDistinctObjects partition → AllWaitThere number table partition
     → item_at table who.proc ≡ Some process → left_by who process.wait partition ≡ each_set (leave_all who) partition
-leaves_all number table partition who process has stand at =
+leaves_all number table partition who process has are_there at =
     sym (one_leaves (leave_all who) partition who process.wait has (λ wanted on. refl)
-    (λ wanted off. stays_without number (record partition { table = table }) wanted who process at off (entries_at partition wanted) (stand wanted)))
+    (λ wanted off. stays_without number (record partition { table = table }) wanted who process at off (entries_at partition wanted) (are_there wanted)))
 
--- where nobody stands whose name this is, each set stays
-nobody_leaves : (number : ℕ) (table : Table) (partition : Partition) (who : Who) → HasDistinctObjects partition → AllStand number table partition
+-- if there is no process of this name, each set stays
+nobody_leaves : (number : ℕ) (table : Table) (partition : Partition) (who : Who) → HasDistinctObjects partition → AllWaitThere number table partition
     → ((wanted : WaitingSet) → who.part ≡ number → waits_at wanted (item_at table who.proc) ≡ true → ⊥) → each_set (leave_all who) partition ≡ partition
-nobody_leaves number table partition who has stand absent =
+nobody_leaves number table partition who has are_there absent =
     sets_stay (leave_all who) partition has (λ wanted off.
     none_leaves (λ entry. (entry.who.part ≡ number) × IsTrue (waits_at wanted (item_at table entry.who.proc))) (λ other. is_same other who)
-    (λ entry stands. cannot_hold (is_same entry.who who) (λ same.
+    (λ entry is_member. cannot_hold (is_same entry.who who) (λ same.
     (let is = same_is entry.who who same in
-    absent wanted (subst (λ one. one.part ≡ number) is stands.0) (subst (λ one. waits_at wanted (item_at table one.proc) ≡ true) is stands.1))))
-    (entries_at partition wanted) (stand wanted))
+    absent wanted (subst (λ one. one.part ≡ number) is is_member.0) (subst (λ one. waits_at wanted (item_at table one.proc) ≡ true) is is_member.1))))
+    (entries_at partition wanted) (are_there wanted))
 
 pub leaves_every_set : LeavesEverySet
 leaves_every_set number place partition who process sound at =
-    let all = leaves_all number partition.table partition who process sound.objects sound.stands at in
+    let all = leaves_all number partition.table partition who process sound.objects sound.is_member at in
     (λ wanted. ap (λ (one : Partition). entries_at one wanted) all ∙ sets_changed (leave_all who) partition (λ one. refl) wanted, all)
 
 -- ticks
 
 -- one that is named
-there_leaves : (number : ℕ) (table : Table) (partition : Partition) (who : Who) (found : Option Process) → item_at table who.proc ≡ found → HasDistinctObjects partition → AllStand number table partition
+there_leaves : (number : ℕ) (table : Table) (partition : Partition) (who : Who) (found : Option Process) → item_at table who.proc ≡ found → HasDistinctObjects partition → AllWaitThere number table partition
     → left_if_there who found partition ≡ each_set (leave_all who) partition
-there_leaves number table partition who (Some process) at has stand = leaves_all number table partition who process has stand at
-there_leaves number table partition who None at has stand =
-    sym (nobody_leaves number table partition who has stand (λ wanted here waits. true≢false (sym (subst (λ one. waits_at wanted one ≡ true) at waits))))
+there_leaves number table partition who (Some process) at has are_there = leaves_all number table partition who process has are_there at
+there_leaves number table partition who None at has are_there =
+    sym (nobody_leaves number table partition who has are_there (λ wanted here waits. true≢false (sym (subst (λ one. waits_at wanted one ≡ true) at waits))))
 
-one_named_leaves : (number : ℕ) (table : Table) (partition : Partition) (who : Who) → HasDistinctObjects partition → AllStand number table partition
+one_named_leaves : (number : ℕ) (table : Table) (partition : Partition) (who : Who) → HasDistinctObjects partition → AllWaitThere number table partition
     → cond (nat_eq who.part number) (left_if_there who (item_at table who.proc) partition) partition ≡ each_set (leave_all who) partition
-one_named_leaves number table partition who has stand =
+one_named_leaves number table partition who has are_there =
     elim (cases_Bool (nat_eq who.part number)) [
-      | inl here ↦ rw here (there_leaves number table partition who (item_at table who.proc) refl has stand)
-      | inr elsewhere ↦ rw elsewhere (sym (nobody_leaves number table partition who has stand
+      | inl here ↦ rw here (there_leaves number table partition who (item_at table who.proc) refl has are_there)
+      | inr elsewhere ↦ rw elsewhere (sym (nobody_leaves number table partition who has are_there
           (λ wanted here waits. true≢false (sym (eq-eqb who.part number here) ∙ elsewhere))))
     ]
 
--- those who stand when one has left
-still_stand : (number : ℕ) (table : Table) (partition : Partition) (who : Who) → AllStand number table partition → AllStand number table (each_set (leave_all who) partition)
-still_stand number table partition who stand wanted =
+-- the entries that are left when one process has left
+still_wait_there : (number : ℕ) (table : Table) (partition : Partition) (who : Who) → AllWaitThere number table partition → AllWaitThere number table (each_set (leave_all who) partition)
+still_wait_there number table partition who are_there wanted =
     let Fact : Entry → Type 0 = λ entry. (entry.who.part ≡ number) × IsTrue (waits_at wanted (item_at table entry.who.proc)) in
     each_set_has (AllEntries Fact) tt (leave_all who) partition wanted
-    (all_without Fact Fact (λ other. is_same other who) (λ entry stays stands. stands) (entries_at partition wanted) (stand wanted))
+    (all_without Fact Fact (λ other. is_same other who) (λ entry stays is_member. is_member) (entries_at partition wanted) (are_there wanted))
 
--- all that are named, by who stands
-pub all_named_leave : (number : ℕ) (table : Table) (woken : List Who) (partition : Partition) → HasDistinctObjects partition → AllStand number table partition
+-- all that are named, by the entries that there are
+pub all_named_leave : (number : ℕ) (table : Table) (woken : List Who) (partition : Partition) → HasDistinctObjects partition → AllWaitThere number table partition
     → named_left number table woken partition ≡ each_set (λ wanted entries. without (λ who. is_named who woken) entries) partition
-all_named_leave number table [] partition has stand = sym (sets_stay (λ wanted entries. without (λ who. false) entries) partition has (λ wanted off. without_none (entries_at partition wanted)))
-all_named_leave number table (who ∷ others) partition has stand =
-    ap (named_left number table others) (one_named_leaves number table partition who has stand)
-    ∙ all_named_leave number table others (each_set (leave_all who) partition) (sets_distinct (leave_all who) partition has) (still_stand number table partition who stand)
+all_named_leave number table [] partition has are_there = sym (sets_stay (λ wanted entries. without (λ who. false) entries) partition has (λ wanted off. without_none (entries_at partition wanted)))
+all_named_leave number table (who ∷ others) partition has are_there =
+    ap (named_left number table others) (one_named_leaves number table partition who has are_there)
+    ∙ all_named_leave number table others (each_set (leave_all who) partition) (sets_distinct (leave_all who) partition has) (still_wait_there number table partition who are_there)
     ∙ each_set_each (leave_all who) (λ wanted entries. without (λ one. is_named one others) entries) partition
     ∙ (λ i. each_set (λ wanted entries. without_without (λ one. is_same one who) (λ one. is_named one others) entries i) partition)
 
 pub each_named_leaves : EachNamedLeaves
-each_named_leaves number place partition woken sound = all_named_leave number partition.table woken partition sound.objects sound.stands
+each_named_leaves number place partition woken sound = all_named_leave number partition.table woken partition sound.objects sound.is_member

@@ -1,4 +1,4 @@
--- A call is not in the profile exactly where a sentence puts it outside.
+-- A call is outside the profile exactly if a sentence puts it there.
 use Rattle.std.proofs.Common.{◌≡◌, ◌⊎◌, ℕ, Option, Bool, true, false, not, ◌&&◌, nat_eq, refl, sym, ap, inl, inr, true≢false}
 use Rattle.apex_types.specs.declared.record.Who.{Who}
 use Rattle.apex_types.specs.declared.operation.{CallerOperation.CallerOperation, ProcessOperation.ProcessOperation}
@@ -44,8 +44,8 @@ awaits_tells : (partition : Partition) (number : ℕ) → Tells (waits_for_mutex
 awaits_tells partition number =
     let found = caller_tells (λ process. is_for_mutex process.wait) (λ process. (mutex : ℕ) × (due : Option ℕ) × (process.wait ≡ wait.At (set.MutexWaiters mutex) due))
     (λ process. for_mutex_tells process.wait) (item_at partition.table number) in (
-      λ holds. let is = found.0 holds in record { process = is.0; stands = is.1; mutex = is.2.0; due = is.2.1; waits = is.2.2 },
-      λ fact. found.1 (fact.process, fact.stands, (fact.mutex, fact.due, fact.waits)),
+      λ holds. let is = found.0 holds in record { process = is.0; is_member = is.1; mutex = is.2.0; due = is.2.1; waits = is.2.2 },
+      λ fact. found.1 (fact.process, fact.is_member, (fact.mutex, fact.due, fact.waits)),
     )
 
 module _ (who : Who) (partition : Partition) where
@@ -68,18 +68,18 @@ module _ (who : Who) (partition : Partition) where
       ]
   outside _ is = absurd (true≢false is)
 
-  stands_out : {asked : Request} → IsOutsideProfile who partition asked → in_profile who partition asked ≡ false
-  stands_out (IsOutsideProfile.owner_is_stopped {process = process} owns) = ap not ((owns_tells partition (natural_of process)).1 owns)
-  stands_out (IsOutsideProfile.initialising_stops none) = first_fails (nat_eq who.proc 0) (owns_mutex partition.mutexes who.proc) ((equal_tells who.proc 0).1 none)
-  stands_out (IsOutsideProfile.owner_stops owns) = second_fails (nat_eq who.proc 0) (owns_mutex partition.mutexes who.proc) ((owns_tells partition who.proc).1 owns)
-  stands_out (IsOutsideProfile.owner_is_suspended {process = process} owns) =
+  lies_outside : {asked : Request} → IsOutsideProfile who partition asked → in_profile who partition asked ≡ false
+  lies_outside (IsOutsideProfile.owner_is_stopped {process = process} owns) = ap not ((owns_tells partition (natural_of process)).1 owns)
+  lies_outside (IsOutsideProfile.initialising_stops none) = first_fails (nat_eq who.proc 0) (owns_mutex partition.mutexes who.proc) ((equal_tells who.proc 0).1 none)
+  lies_outside (IsOutsideProfile.owner_stops owns) = second_fails (nat_eq who.proc 0) (owns_mutex partition.mutexes who.proc) ((owns_tells partition who.proc).1 owns)
+  lies_outside (IsOutsideProfile.owner_is_suspended {process = process} owns) =
       first_fails (owns_mutex partition.mutexes (natural_of process)) (waits_for_mutex partition.table (natural_of process)) ((owns_tells partition (natural_of process)).1 owns)
-  stands_out (IsOutsideProfile.waiter_is_suspended {process = process} awaits) =
+  lies_outside (IsOutsideProfile.waiter_is_suspended {process = process} awaits) =
       second_fails (owns_mutex partition.mutexes (natural_of process)) (waits_for_mutex partition.table (natural_of process)) ((awaits_tells partition (natural_of process)).1 awaits)
-  stands_out (IsOutsideProfile.owner_is_changed {process = process} owns) =
+  lies_outside (IsOutsideProfile.owner_is_changed {process = process} owns) =
       first_fails (owns_mutex partition.mutexes (natural_of process)) (waits_for_mutex partition.table (natural_of process)) ((owns_tells partition (natural_of process)).1 owns)
-  stands_out (IsOutsideProfile.waiter_is_changed {process = process} awaits) =
+  lies_outside (IsOutsideProfile.waiter_is_changed {process = process} awaits) =
       second_fails (owns_mutex partition.mutexes (natural_of process)) (waits_for_mutex partition.table (natural_of process)) ((awaits_tells partition (natural_of process)).1 awaits)
 
 pub profile_is_the_sentence : ProfileIsTheSentence
-profile_is_the_sentence who partition asked = (outside who partition asked, stands_out who partition)
+profile_is_the_sentence who partition asked = (outside who partition asked, lies_outside who partition)

@@ -26,7 +26,7 @@ use Rattle.apex_laws.proofs.ProcessRules.{due_is_the_sentence, release_is_the_se
 use Rattle.apex_laws.proofs.SetsAfter.{same_sets}
 use Rattle.apex_laws.proofs.Steps.{lawful_body, next_channel, next_cores, next_partition}
 use Rattle.apex_laws.proofs.Tables.{at_each}
-use Rattle.apex_laws.proofs.WaitersOf.{due_stands, same_is, same_who}
+use Rattle.apex_laws.proofs.WaitersOf.{due_exists, same_is, same_who}
 use Rattle.apex_laws.proofs.Restarts.{return_case}
 
 -- dispatches
@@ -52,7 +52,7 @@ pub turns_each : (change : ℕ → Process → Process) (table : Table) (number 
     → item_at (each_item change table) number ≡ Some (change number old)
 turns_each change table number old at = at_each change table number ∙ ap (option_map (change number)) at
 
--- where nothing of a process changes it stays
+-- if nothing of a process changes, it stays
 pub stays_each : (change : ℕ → Process → Process) (table : Table) (number : ℕ) → ((old : Process) → item_at table number ≡ Some old → change number old ≡ old)
     → item_at (each_item change table) number ≡ item_at table number
 stays_each change table number leaves = at_each change table number ∙ by (item_at table number) leaves
@@ -67,7 +67,7 @@ pub return_is_the_sentence : ReturnIsTheSentence
 return_is_the_sentence configuration state ordered ret next step is =
     let law = lawful_body configuration state ordered next (Ret ret) step is in
     let partitions = next_partition configuration state ordered next (Ret ret) step is in
-    let old = due_stands (process_in state ret.who) (outcome_returned ret) law.due in
+    let old = due_exists (process_in state ret.who) (outcome_returned ret) law.due in
     let table = (state.partitions ret.who.part).table in
     let own : next.partitions ret.who.part ≡ record (state.partitions ret.who.part) { table = each_item (returned ret.who.proc) table } =
     partitions ret.who.part ∙ ap (λ test. cond test (record (state.partitions ret.who.part) { table = each_item (returned ret.who.proc) table }) (state.partitions ret.who.part)) (is_itself ret.who.part) in
@@ -122,13 +122,13 @@ named_due configuration state core woken law who named =
     by : IsTrue (has_partition configuration who.part) → (found : Option Process) → process_in state who ≡ found → falls_due core (time_of state.cores core + 1) found ≡ true
         → FallsDue configuration state core (time_of state.cores core + 1) who
     by configured None at due = absurd (true≢false (sym due))
-    by configured (Some process) at due = record { configured = configured; process = process; stands = at; due = (due_is_the_sentence core (time_of state.cores core + 1) process).0 due }
+    by configured (Some process) at due = record { configured = configured; process = process; is_member = at; due = (due_is_the_sentence core (time_of state.cores core + 1) process).0 due }
 
 -- who falls due is named
 due_named : (configuration : Configuration) (state : State) (core : ℕ) (woken : List Who) → IsLawfulTick configuration state core woken → (who : Who)
     → FallsDue configuration state core (time_of state.cores core + 1) who → is_named who woken ≡ true
 due_named configuration state core woken law who falls =
-    law.due who.part falls.configured who.proc ∙ ap (falls_due core (time_of state.cores core + 1)) falls.stands
+    law.due who.part falls.configured who.proc ∙ ap (falls_due core (time_of state.cores core + 1)) falls.is_member
     ∙ (due_is_the_sentence core (time_of state.cores core + 1) falls.process).1 falls.due
 
 -- the entries of a set of a partition whose sets changed
@@ -167,9 +167,9 @@ tick_is_the_sentence configuration state ordered woken next step is within =
       over = λ who falls. record {
         old = falls.process;
         new = released place falls.process;
-        before = falls.stands;
+        before = falls.is_member;
         after = ap (λ (one : Partition). item_at one.table who.proc) (partitions who.part)
-            ∙ turns_each (ticked place who.part woken) (state.partitions who.part).table who.proc falls.process falls.stands
+            ∙ turns_each (ticked place who.part woken) (state.partitions who.part).table who.proc falls.process falls.is_member
             ∙ ap (λ test. Some (cond test (released place falls.process) falls.process)) (due_named configuration state core woken law who falls);
         change = (release_is_the_sentence place falls.due.time falls.process (released place falls.process) falls.due.due).0 refl;
       };

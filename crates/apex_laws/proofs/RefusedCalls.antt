@@ -35,7 +35,7 @@ use Rattle.apex_laws.proofs.Codes.{no_error_is_done, not_done}
 use Rattle.apex_laws.proofs.Emptied.{sets_same}
 use Rattle.apex_laws.proofs.Records.{stays_each, turns_each}
 use Rattle.apex_laws.proofs.Steps.{lawful_body, next_channel, next_cores, next_partition}
-use Rattle.apex_laws.proofs.WaitersOf.{free_stands, same_who}
+use Rattle.apex_laws.proofs.WaitersOf.{free_exists, same_who}
 
 -- what a refused call says
 
@@ -50,7 +50,7 @@ has_one_of conditions (out.Answer one) has = record { code = one; is = refl; has
 has_one_of conditions out.Waits has = absurd has
 has_one_of conditions out.Never has = absurd has
 
--- where conditions hold the call is refused
+-- if conditions hold, the call is refused
 refused : (conditions : List Condition) (channel : Option ℕ) (answer : Answer) (suited : ℕ → Bool) (through : ℕ → Answer) (claim : Claim) → ¬ (conditions ≡ [])
     → HasOutcome conditions channel answer suited through claim → IsRefused conditions claim
 refused [] channel answer suited through claim some has = absurd (some refl)
@@ -67,12 +67,12 @@ not_waiting (out.Answer one) not_so = refl
 not_no_error : (given : Out) → is_done given ≡ false → is_no_error given ≡ false
 not_no_error given not_so = cannot_hold (is_no_error given) (λ is. true≢false (sym (no_error_is_done given is) ∙ not_so))
 
--- a list without those who leave, where nobody does
+-- a list without the processes that leave, if none does
 nobody_leaves : (leaves : Who → Bool) → ((who : Who) → leaves who ≡ false) → (entries : List Entry) → without leaves entries ≡ entries
 nobody_leaves leaves none [] = refl
 nobody_leaves leaves none (entry ∷ entries) = rw (none entry.who) (ap (λ rest. entry ∷ rest) (nobody_leaves leaves none entries))
 
--- a call that isn't done and names nobody leaves every waiting set
+-- a call that is not done and names no process leaves every waiting set unchanged
 pub set_left : (place : ℕ) (call : CallRecord) → is_done call.claim.out ≡ false → call.claim.woken ≡ [] → (wanted : WaitingSet) (entries : List Entry)
     → set_after place (Call call) wanted entries ≡ entries
 set_left place call not_so nobody wanted entries =
@@ -83,7 +83,7 @@ set_left place call not_so nobody wanted entries =
     let waits : is_waiting call.claim.out ≡ false = not_waiting call.claim.out not_so in
     rw waits (nobody_leaves (ends_wait call) stays entries)
 
--- nobody is created
+-- no process is created
 none_created : (core : ℕ) (call : CallRecord) (asked : Request) → is_done call.claim.out ≡ false → created_by core call asked ≡ []
 none_created core call (request.CreateProcess name priority period) not_so = rw not_so refl
 none_created core call _ not_so = refl
@@ -131,7 +131,7 @@ caller_is : (place now period : ℕ) (cores : List CoreState) (partition : Parti
     → called place now period cores partition call call.who.proc process ≡ caller_after place now call process
 caller_is place now period cores partition call process not_so = rw (is_itself call.who.proc, not_so) refl
 
--- another partition, where the call names nobody
+-- another partition, if the call names no process
 
 foreign_stays : (configuration : Configuration) (place core : ℕ) (call : CallRecord) → call.claim.woken ≡ [] → (state next : State) (other : Who)
     → next.partitions other.part ≡ cond (nat_eq call.who.part other.part) (own_partition (restart_of call) configuration state.cores place core call (state.partitions other.part))
@@ -165,7 +165,7 @@ refusal_is_the_sentence configuration state ordered call next step is some =
     let one = has_one_of conditions call.claim.out refusal.out in
     let not_so : is_done call.claim.out ≡ false = not_done conditions call.claim.out refusal.out in
     let code_not_done : is_done (out.Answer one.code) ≡ false = ap is_done (sym one.is) ∙ not_so in
-    let old = free_stands (process_in state call.who) law.due in
+    let old = free_exists (process_in state call.who) law.due in
     let table = (state.partitions call.who.part).table in
     let period = period_of configuration call.who.part in
     let change : ℕ → Process → Process = called place now period state.cores (state.partitions call.who.part) call in

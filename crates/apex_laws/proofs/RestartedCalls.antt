@@ -70,7 +70,7 @@ is_restart call _ (Restarts.to_warm_start asks never) = λ i. restart_by (asks i
 
 -- what its call claims
 
--- nobody is named, and no channel
+-- no process is named, and no channel
 record IsSilent (claim : Claim) : Type 0 where
   nobody : (who : Who) → is_named who claim.woken ≡ false
   no_channel : claim.chan ≡ None

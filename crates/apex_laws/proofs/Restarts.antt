@@ -34,7 +34,7 @@ own_case Holds configuration cores place core call partition goes_on restarted =
     by None none = goes_on none
     by (Some mode) is = restarted mode is
 
--- what holds of the objects of the caller's partition that a call uses or creates, where it is done
+-- what holds for the objects of the caller's partition that a call uses or creates, if it is done
 pub done_case : (Holds : Partition → Type 0) (configuration : Configuration) (call : CallRecord) (partition : Partition)
     → (is_done call.claim.out ≡ true → Holds (objects_by configuration call.who call.claim.val call.request partition)) → Holds partition
     → Holds (cond (is_done call.claim.out) (objects_by configuration call.who call.claim.val call.request partition) partition)
@@ -112,7 +112,7 @@ not_named call who stays = neither_first (is_named who call.claim.woken) (stops 
 pub not_stopped : (call : CallRecord) (who : Who) → ends_wait call who ≡ false → stops call who ≡ false
 not_stopped call who stays = neither_later (is_named who call.claim.woken) (stops call who) (neither_later (restarts call who.part) (is_named who call.claim.woken || stops call who) stays)
 
--- where the wait of a process of the caller's partition goes on, the call doesn't restart it
+-- if the wait of a process of the caller's partition continues, the call does not restart it
 pub not_restarted : (call : CallRecord) (who : Who) → who.part ≡ call.who.part → ends_wait call who ≡ false → restart_of call ≡ None
 not_restarted call who here stays = by (restart_of call) refl
   where
@@ -148,7 +148,7 @@ pub start_set : (mode : Mode) (configuration : Configuration) (number place : �
 start_set mode configuration number place (set.BufferSenders object) = refl
 start_set mode configuration number place _ = refl
 
--- nobody waits in it
+-- no process waits in it
 first_waits_not : (core place process : ℕ) (wanted : WaitingSet) → waits_at wanted (item_at ((0, initialising_process core place) ∷ []) process) ≡ true → ⊥
 first_waits_not core place process wanted waits =
     elim (nat_eq process 0) as (λ first. waits_at wanted (cond first (Some (initialising_process core place)) None) ≡ true → ⊥) [

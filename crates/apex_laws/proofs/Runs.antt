@@ -58,7 +58,7 @@ goes_from false configuration old ordered new step stays = stays refl
 
 -- runs
 
--- one part for every piece, with a fact about it where the piece is configured
+-- one part for every piece, with a fact about it if the piece is configured
 part_or_spare : (configured : Bool) (Fact : Part → Type 0) (spare : Part)
     → (IsTrue configured → (next : Part) × Fact next) → (next : Part) × (IsTrue configured → Fact next)
 part_or_spare true Fact spare found = let one = found refl in (one.0, λ is. one.1)

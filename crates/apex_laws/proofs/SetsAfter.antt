@@ -24,7 +24,7 @@ abbrev pub EntersWith : ℕ → Body → WaitingSet → (Entry → Type 0) → T
 EntersWith place (Call call) wanted Then = enters call wanted ≡ true → Then (entry_of place call)
 EntersWith place _ wanted Then = Unit {0}
 
--- each entry of a set after a record: one that stood there and stays, or the caller that enters
+-- each entry of a set after a record: one that was in it and stays, or the caller's that enters
 pub each_entry : (Fact Then : Entry → Type 0) (place : ℕ) (body : Body) (wanted : WaitingSet) → ((entry : Entry) → leaves body entry.who ≡ false → Fact entry → Then entry)
     → EntersWith place body wanted Then → (entries : List Entry) → AllEntries Fact entries → AllEntries Then (set_after place body wanted entries)
 each_entry Fact Then place (Disp who) wanted stays entering entries all = all_weaker Fact Then (λ entry is. stays entry refl is) entries all

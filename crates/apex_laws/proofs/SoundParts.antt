@@ -22,27 +22,27 @@ use Rattle.apex_machine.specs.After.{each_set, is_done, new_blackboard, new_buff
 use Rattle.apex_machine.specs.Answer.{Answer, HasValue, is_new}
 use Rattle.apex_machine.specs.Channels.{queuing_port, sampling_port}
 use Rattle.apex_machine.specs.Configuration.{Configuration, first_core}
-use Rattle.apex_machine.specs.Demands.{AllHold, AllWaitAt, WakesHere, call_demands, outcome_demands, own_call_demands, partition_demands, stands_in}
+use Rattle.apex_machine.specs.Demands.{AllHold, AllWaitAt, WakesHere, call_demands, outcome_demands, own_call_demands, partition_demands, has_entry_in}
 use Rattle.apex_machine.specs.Ports.{channel_of}
 use Rattle.apex_machine.specs.ServiceConditions.{conditions_of}
 use Rattle.apex_machine.specs.Services.{answer_of}
 use Rattle.apex_machine.specs.State.{Partition, Port, Table, cold_partition, each_item, is_free, is_named, is_same, item_at, objects_of, started_partition, time_of}
 use Rattle.apex_machine.specs.Waiting.{ends_wait, set_after, waits_at}
 use Rattle.apex_laws.specs.Laws.{AllEntries, IsInOrder, are_distinct, entries_at}
-use Rattle.apex_laws.specs.PartLaws.{HasDistinctObjects, IsSoundPart, PartStaysSound, RunningStandsNowhere, is_of_channel}
+use Rattle.apex_laws.specs.PartLaws.{HasDistinctObjects, IsSoundPart, PartStaysSound, RunningIsInNoSet, is_of_channel}
 use Rattle.apex_laws.proofs.Booleans.{cannot_hold, differs_back, holds_if, other_holds}
-use Rattle.apex_laws.proofs.Callers.{StandsReady, choice_stands, ready_waits_not}
+use Rattle.apex_laws.proofs.Callers.{FoundReady, choice_exists, ready_waits_not}
 use Rattle.apex_laws.proofs.Codes.{not_done}
 use Rattle.apex_laws.proofs.Distinct.{CallsClaimValues, distinct_by, distinct_new}
-use Rattle.apex_laws.proofs.Exact.{object_stands}
+use Rattle.apex_laws.proofs.Exact.{object_has_entry}
 use Rattle.apex_laws.proofs.InOrder.{EntersNew, none_in_order, set_stays_in_order}
 use Rattle.apex_laws.proofs.Keeps.{CallsReady, IsReadyCall, entered_waits, keeps_waiting, leaves}
 use Rattle.apex_laws.proofs.Restarts.{call_case, done_case, goes_on, restarts_other, return_case, start_set, start_waits_not, woken_if_named_table}
 use Rattle.apex_laws.proofs.Objects.{of_objects}
 use Rattle.apex_laws.proofs.SetsAfter.{EntersWith, IsElsewhere, each_entry, one_set_after}
-use Rattle.apex_laws.proofs.Standing.{not_stopped}
+use Rattle.apex_laws.proofs.WaitersAfter.{not_stopped}
 use Rattle.apex_laws.proofs.Tables.{distinct_each}
-use Rattle.apex_laws.proofs.Waiters.{all_weaker, stands_not}
+use Rattle.apex_laws.proofs.Waiters.{all_weaker, member_not}
 use Rattle.apex_laws.proofs.WaitSets.{off_channel}
 use Rattle.apex_laws.proofs.WaitersOf.{same_is}
 
@@ -54,18 +54,18 @@ pub demands_none : (conditions : List Condition) (channel : Option ℕ) (number 
 demands_none [] channel number asked answer claim hold done = refl
 demands_none (condition ∷ conditions) channel number asked answer claim hold done = absurd (true≢false (sym done ∙ not_done (condition ∷ conditions) claim.out hold.1.0))
 
--- where it goes through no channel, it claims the value of its service
+-- if it goes through no channel, it claims the value of its service
 demands_value : (conditions : List Condition) (channel : Option ℕ) (number : ℕ) (asked : Request) (answer : Answer) (claim : Claim) → conditions ≡ [] → channel ≡ None
     → AllHold (outcome_demands conditions channel number asked answer claim) → HasValue answer.val claim.val
 demands_value [] None number asked answer claim none off hold = hold.1.1.0.val
 demands_value [] (Some channel) number asked answer claim none off hold = let no : ◌≡◌ {A = Option ℕ} (Some channel) None = off in cc
 demands_value (condition ∷ conditions) channel number asked answer claim none off hold = cc
 
--- so the caller is ready, and where the call is done no error condition holds
+-- so the caller is ready, and if the call is done, no error condition holds
 pub own_ready : (configuration : Configuration) (number core : ℕ) (cores : List CoreState) (partition : Partition) (call : CallRecord)
     → are_distinct partition.table ≡ true → AllHold (own_call_demands configuration number cores partition core call) → IsReadyCall configuration partition core call
 own_ready configuration number core cores partition call distinct hold = record {
-  ready = choice_stands number core partition.table call.who distinct hold.1.0.1;
+  ready = choice_exists number core partition.table call.who distinct hold.1.0.1;
   none = λ done. demands_none (conditions_of configuration call.who partition call.request) (channel_of partition call.request) number call.request
       (answer_of (time_of cores core) call.who partition call.request) call.claim hold.1.1.1.1.1 done;
 }
@@ -107,7 +107,7 @@ named_wait wanted number table (other ∷ others) all who here named =
       | inr differs ↦ named_wait wanted number table others all.1 who here (other_holds _ _ named differs)
     ]
 
--- so whom such a call names here waits in a channel's set
+-- so a process that such a call names here waits in a channel's set
 pub named_across : (asked : Request) (chan : Option ℕ) (number : ℕ) (table : Table) (others : List Who) → WakesHere asked chan number table others → (who : Who) → who.part ≡ number
     → is_named who others ≡ true → (wanted : WaitingSet) × (is_of_channel wanted ≡ true) × (waits_at wanted (item_at table who.proc) ≡ true)
 named_across (request.QueuingPort port (QueuingOperation.Send length time_out message)) (Some channel) number table others wakes who here named =
@@ -198,24 +198,24 @@ objects_distinct configuration cores place core number (Call call) partition cla
 
 -- the sets
 
--- who stands in a set of a partition
-abbrev pub Stands : ℕ → WaitingSet → Partition → Entry → Type 0
-Stands number wanted partition entry = (entry.who.part ≡ number) × IsTrue (waits_at wanted (item_at partition.table entry.who.proc))
+-- which processes have an entry in a set of a partition
+abbrev pub WaitsInSet : ℕ → WaitingSet → Partition → Entry → Type 0
+WaitsInSet number wanted partition entry = (entry.who.part ≡ number) × IsTrue (waits_at wanted (item_at partition.table entry.who.proc))
 
 -- an entry whose wait goes on
-stays_standing : (configuration : Configuration) (cores : List CoreState) (place core number : ℕ) (body : Body) (partition : Partition) (wanted : WaitingSet) → CallsReady configuration core number body partition
-    → (entry : Entry) → leaves body entry.who ≡ false → Stands number wanted partition entry
-    → Stands number wanted (partition_by configuration cores place core number body partition) entry
-stays_standing configuration cores place core number body partition wanted ready entry stays is = (
+stays_waiting : (configuration : Configuration) (cores : List CoreState) (place core number : ℕ) (body : Body) (partition : Partition) (wanted : WaitingSet) → CallsReady configuration core number body partition
+    → (entry : Entry) → leaves body entry.who ≡ false → WaitsInSet number wanted partition entry
+    → WaitsInSet number wanted (partition_by configuration cores place core number body partition) entry
+stays_waiting configuration cores place core number body partition wanted ready entry stays is = (
   is.0,
   subst (λ part. waits_at wanted (item_at (partition_by configuration cores place core part body partition).table entry.who.proc) ≡ true) is.0
       (keeps_waiting configuration cores place core body partition entry.who wanted (subst (λ part. CallsReady configuration core part body partition) (sym is.0) ready) stays is.1),
 )
 
 -- a caller that enters
-enters_standing : (configuration : Configuration) (cores : List CoreState) (place core number : ℕ) (body : Body) (partition : Partition) (wanted : WaitingSet) → CallsReady configuration core number body partition
-    → (IsElsewhere number body → ⊥) → EntersWith place body wanted (Stands number wanted (partition_by configuration cores place core number body partition))
-enters_standing configuration cores place core number (Call call) partition wanted ready own =
+enters_waiting : (configuration : Configuration) (cores : List CoreState) (place core number : ℕ) (body : Body) (partition : Partition) (wanted : WaitingSet) → CallsReady configuration core number body partition
+    → (IsElsewhere number body → ⊥) → EntersWith place body wanted (WaitsInSet number wanted (partition_by configuration cores place core number body partition))
+enters_waiting configuration cores place core number (Call call) partition wanted ready own =
     let here = holds_if (nat_eq call.who.part number) own in
     let same : call.who.part ≡ number = eqb-true call.who.part number here in
     λ enters. (
@@ -223,31 +223,31 @@ enters_standing configuration cores place core number (Call call) partition want
       subst (λ part. waits_at wanted (item_at (partition_by configuration cores place core part (Call call) partition).table call.who.proc) ≡ true) same
           (entered_waits configuration cores place core call partition (ready here) wanted enters),
     )
-enters_standing configuration cores place core number _ partition wanted ready own = tt
+enters_waiting configuration cores place core number _ partition wanted ready own = tt
 
 -- an entry at a call of another partition
-foreign_standing : (configuration : Configuration) (cores : List CoreState) (place core number : ℕ) (body : Body) (partition : Partition) (wanted : WaitingSet)
+foreign_waiting : (configuration : Configuration) (cores : List CoreState) (place core number : ℕ) (body : Body) (partition : Partition) (wanted : WaitingSet)
     → CallsReady configuration core number body partition → AllHold (partition_demands configuration number cores partition core body) → IsElsewhere number body
-    → AllEntries (Stands number wanted partition) (entries_at partition wanted)
-    → AllEntries (Stands number wanted (partition_by configuration cores place core number body partition)) (entries_at partition wanted)
-foreign_standing configuration cores place core number (Call call) partition wanted ready hold elsewhere all =
-    let Then : Entry → Type 0 = Stands number wanted (partition_by configuration cores place core number (Call call) partition) in
-    of_objects Then partition wanted (λ off. all_weaker (Stands number wanted partition) Then
-    (λ entry is. stays_standing configuration cores place core number (Call call) partition wanted ready entry
+    → AllEntries (WaitsInSet number wanted partition) (entries_at partition wanted)
+    → AllEntries (WaitsInSet number wanted (partition_by configuration cores place core number body partition)) (entries_at partition wanted)
+foreign_waiting configuration cores place core number (Call call) partition wanted ready hold elsewhere all =
+    let Then : Entry → Type 0 = WaitsInSet number wanted (partition_by configuration cores place core number (Call call) partition) in
+    of_objects Then partition wanted (λ off. all_weaker (WaitsInSet number wanted partition) Then
+    (λ entry is. stays_waiting configuration cores place core number (Call call) partition wanted ready entry
     (foreign_stays configuration number core cores partition call elsewhere hold wanted off entry.who is.0 is.1) is) (entries_at partition wanted) all)
-foreign_standing configuration cores place core number _ partition wanted ready hold elsewhere all = absurd elsewhere
+foreign_waiting configuration cores place core number _ partition wanted ready hold elsewhere all = absurd elsewhere
 
--- who is ready stands in no set
-pub stands_nowhere : (number place core : ℕ) (partition : Partition) (who : Who) → IsSoundPart number place partition → StandsReady core (item_at partition.table who.proc)
-    → (wanted : WaitingSet) → stands_in who (entries_at partition wanted) ≡ false
-stands_nowhere number place core partition who sound ready wanted =
-    stands_not (λ one. (one.part ≡ number) × IsTrue (waits_at wanted (item_at partition.table one.proc))) who
-    (λ is. ready_waits_not core (item_at partition.table who.proc) wanted ready is.1) (entries_at partition wanted) (sound.stands wanted)
+-- a process that is ready has an entry in no set
+pub member_nowhere : (number place core : ℕ) (partition : Partition) (who : Who) → IsSoundPart number place partition → FoundReady core (item_at partition.table who.proc)
+    → (wanted : WaitingSet) → has_entry_in who (entries_at partition wanted) ≡ false
+member_nowhere number place core partition who sound ready wanted =
+    member_not (λ one. (one.part ≡ number) × IsTrue (waits_at wanted (item_at partition.table one.proc))) who
+    (λ is. ready_waits_not core (item_at partition.table who.proc) wanted ready is.1) (entries_at partition wanted) (sound.is_member wanted)
 
 own_caller_new : (configuration : Configuration) (number place core : ℕ) (body : Body) (partition : Partition) → IsSoundPart number place partition → CallsReady configuration core number body partition
     → (wanted : WaitingSet) → (IsElsewhere number body → ⊥) → EntersNew body (entries_at partition wanted)
 own_caller_new configuration number place core (Call call) partition sound ready wanted own =
-    stands_nowhere number place core partition call.who sound (ready (holds_if (nat_eq call.who.part number) own)).ready wanted
+    member_nowhere number place core partition call.who sound (ready (holds_if (nat_eq call.who.part number) own)).ready wanted
 own_caller_new configuration number place core _ partition sound ready wanted own = tt
 
 -- the whole partition
@@ -272,15 +272,15 @@ sound_after configuration number cores partition place core body sound hold =
     let next = partition_by configuration cores place core number body partition in record {
       distinct = distinct_by configuration cores place core number body partition claims sound.distinct;
       objects = objects_distinct configuration cores place core number body partition claims sound.objects;
-      stands = λ wanted. one_set_after (AllEntries (Stands number wanted partition)) (AllEntries (Stands number wanted next)) configuration cores place core number body partition wanted tt
-          (λ own entries all. each_entry (Stands number wanted partition) (Stands number wanted next) place body wanted
-          (stays_standing configuration cores place core number body partition wanted ready)
-          (enters_standing configuration cores place core number body partition wanted ready own) entries all)
-          (λ elsewhere all. foreign_standing configuration cores place core number body partition wanted ready hold elsewhere all) (sound.stands wanted);
+      is_member = λ wanted. one_set_after (AllEntries (WaitsInSet number wanted partition)) (AllEntries (WaitsInSet number wanted next)) configuration cores place core number body partition wanted tt
+          (λ own entries all. each_entry (WaitsInSet number wanted partition) (WaitsInSet number wanted next) place body wanted
+          (stays_waiting configuration cores place core number body partition wanted ready)
+          (enters_waiting configuration cores place core number body partition wanted ready own) entries all)
+          (λ elsewhere all. foreign_waiting configuration cores place core number body partition wanted ready hold elsewhere all) (sound.is_member wanted);
       order = λ wanted. subst (λ count. IsInOrder count (entries_at next wanted)) (next_place place)
           (set_stays_in_order configuration cores place place core number body partition wanted refl
           (own_caller_new configuration number place core body partition sound ready wanted) (sound.order wanted));
-      waiters = λ wanted process off waits. object_stands configuration cores place core body partition (record { part = number; proc = process }) wanted ready off
+      waiters = λ wanted process off waits. object_has_entry configuration cores place core body partition (record { part = number; proc = process }) wanted ready off
           (λ before. sound.waiters wanted process off before) waits;
     }
 
@@ -295,7 +295,7 @@ sound_later : (number place later : ℕ) (partition : Partition) → place ≤ l
 sound_later number place later partition most sound = record {
   distinct = sound.distinct;
   objects = sound.objects;
-  stands = sound.stands;
+  is_member = sound.is_member;
   order = λ wanted. order_before place later (entries_at partition wanted) most (sound.order wanted);
   waiters = sound.waiters;
 }
@@ -305,7 +305,7 @@ cold_sound configuration number place =
     let empty : (wanted : WaitingSet) → entries_at (cold_partition configuration number) wanted ≡ [] = start_set mode.ColdStart configuration number 0 in record {
       distinct = refl;
       objects = start_has_distinct mode.ColdStart configuration number 0;
-      stands = λ wanted. subst (AllEntries (Stands number wanted (cold_partition configuration number))) (sym (empty wanted)) tt;
+      is_member = λ wanted. subst (AllEntries (WaitsInSet number wanted (cold_partition configuration number))) (sym (empty wanted)) tt;
       order = λ wanted. subst (IsInOrder place) (sym (empty wanted)) (none_in_order place);
       waiters = λ wanted process off waits. absurd (start_waits_not mode.ColdStart (first_core configuration number) 0 process wanted waits);
     }
@@ -319,8 +319,8 @@ part_stays_sound = (
 
 -- who runs
 
-pub running_stands_nowhere : RunningStandsNowhere
-running_stands_nowhere number place core cores partition who sound running wanted = (
-  stands_nowhere number place core partition who sound (choice_stands number core partition.table who sound.distinct running.1) wanted,
+pub running_is_in_no_set : RunningIsInNoSet
+running_is_in_no_set number place core cores partition who sound running wanted = (
+  member_nowhere number place core partition who sound (choice_exists number core partition.table who sound.distinct running.1) wanted,
   (sound.order wanted).below,
 )

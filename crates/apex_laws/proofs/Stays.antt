@@ -28,7 +28,7 @@ use Rattle.apex_laws.specs.WaitLaws.{WaitsIn}
 use Rattle.apex_laws.proofs.Booleans.{cannot_hold, holds_if, not_first, not_second}
 use Rattle.apex_laws.proofs.Demanded.{WaitsAcross, across}
 use Rattle.apex_laws.proofs.Distinct.{distinct_by, lawful_values}
-use Rattle.apex_laws.proofs.Ends.{StandsAtEnd, port_is_at_end}
+use Rattle.apex_laws.proofs.Ends.{WaitsAtEnd, port_is_at_end}
 use Rattle.apex_laws.proofs.Keeps.{calls_ready, entered_waits, keeps_waiting, leaves, ready_call}
 use Rattle.apex_laws.proofs.PortEnds.{ports_after}
 use Rattle.apex_laws.proofs.Restarts.{call_case, done_case, goes_on, restarts_other, return_case}
@@ -69,7 +69,7 @@ enters_tied configuration state place core (Call call) tied law Home wanted home
     λ here. (home here, entered_waits configuration state.cores place core call (state.partitions call.who.part) (ready_call configuration state core call tied law) wanted here)
 enters_tied configuration state place core _ tied law Home wanted home = tt
 
--- those who stand in a set after a record are tied
+-- the entries in a set after a record are tied
 set_tied : (configuration : Configuration) (state : State) (place core : ℕ) (body : Body) → AreTied configuration state
     → IsLawfulBody configuration state core body → (Home : ℕ → Type 0) (wanted : WaitingSet) → EntersAtHome body Home wanted
     → (entries : List Entry) → AllEntries (IsTied Home wanted state.partitions) entries
@@ -136,7 +136,7 @@ at_home : (body : Body) (number : ℕ) (wanted : WaitingSet) → (IsElsewhere nu
 at_home (Call call) number wanted own = λ here. eqb-true call.who.part number (holds_if (nat_eq call.who.part number) own)
 at_home _ number wanted own = tt
 
--- who stands in a set of a partition after a record
+-- which processes have an entry in a set of a partition after a record
 own_set : (configuration : Configuration) (state : State) (place core : ℕ) (body : Body) → AreTied configuration state
     → IsLawfulBody configuration state core body → (number : ℕ) (wanted : WaitingSet)
     → AllEntries (IsTied (λ home. home ≡ number) wanted (Next configuration state place core body)) (entries_at (Next configuration state place core body number) wanted)
@@ -150,7 +150,7 @@ own_set configuration state place core body tied law number wanted =
 
 -- the end at which a caller enters a channel's set
 home_of : (configuration : Configuration) (state : State) (core : ℕ) (call : CallRecord) → AreTied configuration state
-    → IsLawfulCall configuration state core call → (channel : ℕ) → call.claim.chan ≡ Some channel → StandsAtEnd call.request configuration channel call.who.part
+    → IsLawfulCall configuration state core call → (channel : ℕ) → call.claim.chan ≡ Some channel → WaitsAtEnd call.request configuration channel call.who.part
 home_of configuration state core call tied law channel is =
     by (conditions_of configuration call.who (state.partitions call.who.part) call.request) refl (channel_of (state.partitions call.who.part) call.request) refl law.outcome
   where
@@ -158,13 +158,13 @@ home_of configuration state core call tied law channel is =
         → (of : Option ℕ) → channel_of (state.partitions call.who.part) call.request ≡ of
         → HasOutcome conditions of (answer_of (time_of state.cores core) call.who (state.partitions call.who.part) call.request)
         (λ number. suits_use configuration number call.who.part (use_of call.request) (state.channels number)) (channel_answer configuration (time_of state.cores core) call.who.part call.request state.channels) call.claim
-        → StandsAtEnd call.request configuration channel call.who.part
+        → WaitsAtEnd call.request configuration channel call.who.part
     by (condition ∷ conditions) none of at has = let no : ◌≡◌ {A = Option ℕ} None (Some channel) = sym has.chan ∙ is in cc
     by [] none None at has = let no : ◌≡◌ {A = Option ℕ} None (Some channel) = sym has.chan ∙ is in cc
     by [] none (Some other) at has =
         port_is_at_end configuration call.who (state.partitions call.who.part) call.request channel (tied.ports call.who.part) (at ∙ sym has.chan ∙ is) none
 
--- where a caller is at home that enters a set: at the channel's end, if it is a channel's
+-- the partition of a caller that enters a set: that at the channel's end, if it is a channel's
 abbrev IsHomeOf : Configuration → WaitingSet → ℕ → Type 0
 IsHomeOf configuration (set.ChannelSenders number) partition = IsTrue (is_sender configuration number partition)
 IsHomeOf configuration (set.ChannelReceivers number) partition = IsTrue (is_receiver configuration number partition)
@@ -172,10 +172,10 @@ IsHomeOf configuration _ partition = Unit {0}
 
 -- who enters a channel's set does so by its service, through that channel
 home_by : {asked : Request} {chan : Option ℕ} {wanted : WaitingSet} → WaitsIn asked chan wanted → (configuration : Configuration) (partition : ℕ)
-    → ((channel : ℕ) → chan ≡ Some channel → StandsAtEnd asked configuration channel partition) → IsHomeOf configuration wanted partition
-home_by (WaitsIn.sends_through {channel = channel}) configuration partition stands = stands channel refl
-home_by (WaitsIn.receives_through {channel = channel}) configuration partition stands = stands channel refl
-home_by _ configuration partition stands = tt
+    → ((channel : ℕ) → chan ≡ Some channel → WaitsAtEnd asked configuration channel partition) → IsHomeOf configuration wanted partition
+home_by (WaitsIn.sends_through {channel = channel}) configuration partition is_member = is_member channel refl
+home_by (WaitsIn.receives_through {channel = channel}) configuration partition is_member = is_member channel refl
+home_by _ configuration partition is_member = tt
 
 enters_at_end : (configuration : Configuration) (state : State) (core : ℕ) (body : Body) → AreTied configuration state → IsLawfulBody configuration state core body
     → (wanted : WaitingSet) → EntersAtHome body (IsHomeOf configuration wanted) wanted
@@ -232,7 +232,7 @@ run_tied configuration [] state final tied run = subst (AreTied configuration) (
 run_tied configuration (ordered ∷ others) state final tied run =
     run_tied configuration others run.0 final (step_tied configuration state ordered run.0 tied run.1) run.2
 
--- no entry stands in a set of a cold partition
+-- no entry is in a set of a cold partition
 cold_sets : (configuration : Configuration) (number : ℕ) (wanted : WaitingSet) (Fact : Entry → Type 0) → AllEntries Fact (entries_at ((cold_state configuration).partitions number) wanted)
 cold_sets configuration number (set.BufferSenders object) Fact = tt
 cold_sets configuration number _ Fact = tt

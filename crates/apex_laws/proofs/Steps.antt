@@ -1,4 +1,4 @@
--- What a step says, where the record's body is known.
+-- What a step says, if the record's body is known.
 use Rattle.std.proofs.Common.{◌≡◌, ℕ, ap, subst, ◌∙◌}
 use Rattle.apex_types.specs.declared.record.Body.{Body}
 use Rattle.apex_types.specs.declared.record.Ordered.{Ordered}

@@ -1,4 +1,4 @@
--- The process or object of a number, where those of its kind were changed.
+-- The process or object of a number, if those of its kind were changed.
 use Rattle.std.proofs.Common.{◌≡◌, ℕ, List, [], ◌∷◌, ◌++◌, true, false, cond, not, nat_eq, Option, Some, None, is_some, option_map, refl, sym, ap, ◌∙◌, inl, inr, true≢false, ◌&&◌}
 use Rattle.std.proofs.lemmas.Bool.{and_from, and_parts, cases_Bool, eqb-true, ne_eqb, eqb-false}
 use Rattle.apex_machine.specs.declared.state.Process.{Process}
@@ -6,7 +6,7 @@ use Rattle.apex_machine.specs.State.{each_item, item_at}
 use Rattle.apex_laws.specs.Laws.{are_distinct}
 use Rattle.apex_laws.proofs.Booleans.{is_itself}
 
--- where each is changed, the one of a number is
+-- if each is changed, the one of a number is
 pub at_each : {Item : Type 0} (change : ℕ → Item → Item) (items : List (ℕ × Item)) (number : ℕ)
     → item_at (each_item change items) number ≡ option_map (change number) (item_at items number)
 at_each change [] number = refl

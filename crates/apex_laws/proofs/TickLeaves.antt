@@ -15,12 +15,12 @@ use Rattle.apex_laws.specs.PartObjects.{EachLeavesItsSet, all_left, left_by}
 use Rattle.apex_laws.proofs.Booleans.{cannot_hold, first_holds, later_holds, other_holds}
 use Rattle.apex_laws.proofs.EachSet.{each_set_as, each_set_each, sets_stay}
 use Rattle.apex_laws.proofs.LeavingSets.{one_leaves}
-use Rattle.apex_laws.proofs.SoundParts.{Stands, sets_distinct}
+use Rattle.apex_laws.proofs.SoundParts.{WaitsInSet, sets_distinct}
 use Rattle.apex_laws.proofs.WaitersOf.{same_is, same_itself, same_who}
 
 -- leaving one after another
 
--- where nobody leaves all stay
+-- if none leaves, all stay
 pub without_none : (entries : List Entry) → without (λ who. false) entries ≡ entries
 without_none [] = refl
 without_none (entry ∷ entries) = ap (λ others. entry ∷ others) (without_none entries)
@@ -35,7 +35,7 @@ without_without first second (entry ∷ entries) =
       | false ↦ ap (λ others. cond (second entry.who) others (entry ∷ others)) (without_without first second entries)
     ]
 
--- where each entry leaves or stays alike
+-- if each entry leaves or stays alike
 without_alike : (Fact : Entry → Type 0) (leaves other : Who → Bool) → ((entry : Entry) → Fact entry → leaves entry.who ≡ other entry.who) → (entries : List Entry) → AllEntries Fact entries
     → without leaves entries ≡ without other entries
 without_alike Fact leaves other alike [] all = refl
@@ -63,7 +63,7 @@ left_is who one partition has =
     (λ wanted on i. without (λ other. on i && is_same other who) (entries_at partition wanted))
     (λ wanted off. (λ i. without (λ other. off i && is_same other who) (entries_at partition wanted)) ∙ without_none (entries_at partition wanted)))
 
--- and does so only where it is named
+-- and does so only if it is named
 left_if : (who : Who) (named : Bool) (one : Wait) (partition : Partition) → HasDistinctObjects partition
     → cond named (left_by who one partition) partition ≡ each_set (set_without (λ wanted other. named && (is_in wanted one && is_same other who))) partition
 left_if who true one partition has = left_is who one partition has
@@ -109,8 +109,8 @@ leaves_found number woken (entry ∷ entries) wanted process named waits =
           (and_from (is_in wanted entry.1.wait) (is_same who (record { part = number; proc = entry.0 }))
           (and_parts entry.1.alive (is_in wanted entry.1.wait) here).1 (subst (λ one. is_same who one ≡ true) is (same_itself who))))
       | inr differs ↦
-          let behind : waits_at wanted (item_at entries process) ≡ true = subst (λ test. waits_at wanted (cond test (Some entry.1) (item_at entries process)) ≡ true) differs waits in
-          later_holds (leaves_as number woken entry.0 entry.1.wait wanted who) (leaves_among number woken entries wanted who) (leaves_found number woken entries wanted process named behind)
+          let those_after : waits_at wanted (item_at entries process) ≡ true = subst (λ test. waits_at wanted (cond test (Some entry.1) (item_at entries process)) ≡ true) differs waits in
+          later_holds (leaves_as number woken entry.0 entry.1.wait wanted who) (leaves_among number woken entries wanted who) (leaves_found number woken entries wanted process named those_after)
     ]
 
 -- who leaves is named
@@ -127,14 +127,14 @@ leaves_named number woken (entry ∷ entries) wanted who leaves =
     ]
 
 -- so of those who wait in a set exactly those leave it who are named
-leaves_alike : (number : ℕ) (woken : List Who) (partition : Partition) (wanted : WaitingSet) (entry : Entry) → Stands number wanted partition entry
+leaves_alike : (number : ℕ) (woken : List Who) (partition : Partition) (wanted : WaitingSet) (entry : Entry) → WaitsInSet number wanted partition entry
     → is_named entry.who woken ≡ leaves_among number woken partition.table wanted entry.who
-leaves_alike number woken partition wanted entry stands =
+leaves_alike number woken partition wanted entry is_member =
     let who : Who = record { part = number; proc = entry.who.proc } in
-    let same : entry.who ≡ who = same_who entry.who who stands.0 refl in
+    let same : entry.who ≡ who = same_who entry.who who is_member.0 refl in
     elim (cases_Bool (is_named entry.who woken)) [
       | inl named ↦
-          let leaves = leaves_found number woken partition.table wanted entry.who.proc (subst (λ one. is_named one woken ≡ true) same named) stands.1 in
+          let leaves = leaves_found number woken partition.table wanted entry.who.proc (subst (λ one. is_named one woken ≡ true) same named) is_member.1 in
           named ∙ sym (subst (λ one. leaves_among number woken partition.table wanted one ≡ true) (sym same) leaves)
       | inr not_named ↦
           not_named ∙ sym (cannot_hold (leaves_among number woken partition.table wanted entry.who)
@@ -144,6 +144,6 @@ leaves_alike number woken partition wanted entry stands =
 pub each_leaves_its_set : EachLeavesItsSet
 each_leaves_its_set number place partition woken sound =
     each_set_as (set_after place (Tick woken)) (set_without (leaves_among number woken partition.table)) partition sound.objects
-    (λ wanted off. without_alike (Stands number wanted partition) (λ who. is_named who woken) (leaves_among number woken partition.table wanted)
-    (leaves_alike number woken partition wanted) (entries_at partition wanted) (sound.stands wanted))
+    (λ wanted off. without_alike (WaitsInSet number wanted partition) (λ who. is_named who woken) (leaves_among number woken partition.table wanted)
+    (leaves_alike number woken partition wanted) (entries_at partition wanted) (sound.is_member wanted))
     ∙ sym (all_leave number woken partition.table partition sound.objects)

@@ -68,7 +68,7 @@ goes_through (WaitsIn.sends_through {channel = channel}) = is_itself channel
 goes_through (WaitsIn.receives_through {channel = channel}) = is_itself channel
 goes_through _ = tt
 
--- a call that doesn't stop anybody at an end of a channel, but comes from there, restarts nobody
+-- a call from an end of a channel restarts no process there if it stops none
 not_restarted_at : (restarted stopping end here : Bool) → (here ≡ true → end ≡ true) → ((restarted || stopping) && end) ≡ false → (restarted && here) ≡ false
 not_restarted_at false stopping end here at off = refl
 not_restarted_at true stopping end true at off = absurd (true≢false (sym (at refl) ∙ off))
@@ -82,7 +82,7 @@ not_stopped_at end true true (Some target) number at off = absurd (true≢false 
 not_stopped_at end true false (Some target) number at off = refl
 not_stopped_at end false here (Some target) number at off = refl
 
--- where one of two tests and a third don't hold together, the second and the third don't
+-- if one of two tests and a third do not both hold, the second and the third do not
 later_fails : (one other third : Bool) → ((one || other) && third) ≡ false → (other && third) ≡ false
 later_fails false other third off = off
 later_fails true other third off = not_second other third off
@@ -119,7 +119,7 @@ not_woken configuration state core call tied law number off who through =
     (conditions_of configuration call.who (state.partitions call.who.part) call.request) (channel_of (state.partitions call.who.part) call.request) law.outcome who named in
     true≢false (sym (ap (is_channel number) (through by) ∙ is_itself number) ∙ off)))
 
--- a set that a call doesn't enter and nobody of which it ends stays
+-- a set stays if a call does not enter it and ends no wait in it
 pub set_stays : (Fact : Entry → Type 0) (place : ℕ) (call : CallRecord) (wanted : WaitingSet) (entries : List Entry) → AllEntries Fact entries
     → enters call wanted ≡ false → ((entry : Entry) → Fact entry → ends_wait call entry.who ≡ false) → set_after place (Call call) wanted entries ≡ entries
 set_stays Fact place call wanted entries all off stays = rw off (none_leaves Fact (ends_wait call) stays entries all)

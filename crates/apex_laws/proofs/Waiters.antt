@@ -5,7 +5,7 @@ use Rattle.apex_types.specs.declared.discipline.Discipline.{Discipline}
 use Rattle.apex_types.specs.declared.record.Who.{Who}
 use Rattle.apex_machine.specs.declared.state.Entry.{Entry}
 use Rattle.apex_machine.specs.Answer.{waiters_of}
-use Rattle.apex_machine.specs.Demands.{stands_in}
+use Rattle.apex_machine.specs.Demands.{has_entry_in}
 use Rattle.apex_machine.specs.State.{is_named, is_same}
 use Rattle.apex_machine.specs.Waiting.{first_waiter, precedes, sooner_entry, without}
 use Rattle.apex_laws.specs.Laws.{AllEntries}
@@ -34,14 +34,14 @@ pub all_push : (Fact : Entry → Type 0) (entries : List Entry) (entry : Entry) 
 all_push Fact [] entry all one = (one, tt)
 all_push Fact (other ∷ entries) entry all one = (all.0, all_push Fact entries entry all.1 one)
 
--- where nobody leaves the set stays
+-- if none leaves, the set stays
 pub none_leaves : (Fact : Entry → Type 0) (leaves : Who → Bool) → ((entry : Entry) → Fact entry → leaves entry.who ≡ false)
     → (entries : List Entry) → AllEntries Fact entries → without leaves entries ≡ entries
 none_leaves Fact leaves stays [] all = refl
 none_leaves Fact leaves stays (entry ∷ entries) all =
     rw (stays entry all.0) (ap (λ others. entry ∷ others) (none_leaves Fact leaves stays entries all.1))
 
--- where the same leave, the same stay
+-- if the same processes leave, the same stay
 pub without_same : (leaves other : Who → Bool) → ((who : Who) → leaves who ≡ other who) → (entries : List Entry) → without leaves entries ≡ without other entries
 without_same leaves other same [] = refl
 without_same leaves other same (entry ∷ entries) =
@@ -80,12 +80,12 @@ all_named Fact (entry ∷ entries) all who named =
       | inr differs ↦ all_named Fact entries all.1 who (other_holds _ _ named differs)
     ]
 
--- a process that lacks what each entry has stands in no entry
-pub stands_not : (Fact : Who → Type 0) (who : Who) → (Fact who → ⊥) → (entries : List Entry) → AllEntries (λ entry. Fact entry.who) entries
-    → stands_in who entries ≡ false
-stands_not Fact who lacks [] all = refl
-stands_not Fact who lacks (entry ∷ entries) all =
+-- a process that lacks what each entry has is that of no entry
+pub member_not : (Fact : Who → Type 0) (who : Who) → (Fact who → ⊥) → (entries : List Entry) → AllEntries (λ entry. Fact entry.who) entries
+    → has_entry_in who entries ≡ false
+member_not Fact who lacks [] all = refl
+member_not Fact who lacks (entry ∷ entries) all =
     elim (cases_Bool (is_same who entry.who)) [
       | inl same ↦ absurd (lacks (subst Fact (sym (same_is who entry.who same)) all.0))
-      | inr differs ↦ rw differs (stands_not Fact who lacks entries all.1)
+      | inr differs ↦ rw differs (member_not Fact who lacks entries all.1)
     ]

@@ -30,7 +30,7 @@ other_partition one other apart =
       | inr differs ↦ differs
     ]
 
--- a list that names nobody of a partition doesn't name its processes
+-- a list that names no process of a partition does not name its processes
 pub not_named : (who : Who) (others : List Who) → names_one_of who.part others ≡ false → is_named who others ≡ false
 not_named who [] none = refl
 not_named who (other ∷ others) none =
@@ -48,12 +48,12 @@ some_named number (other ∷ others) names =
           (rest.0, later_holds (is_same rest.0 other) _ rest.1, rest.2)
     ]
 
--- where an outcome is due to a process it stands
-pub due_stands : (found : Option Process) (outcome : Outcome) → due_of found ≡ Some outcome → (old : Process) × (found ≡ Some old)
-due_stands None outcome due = cc
-due_stands (Some process) outcome due = (process, refl)
+-- if an outcome is due to a process, the process exists
+pub due_exists : (found : Option Process) (outcome : Outcome) → due_of found ≡ Some outcome → (old : Process) × (found ≡ Some old)
+due_exists None outcome due = cc
+due_exists (Some process) outcome due = (process, refl)
 
--- so it does where none is due to it
-pub free_stands : (found : Option Process) → HasNoneDue found → (old : Process) × (found ≡ Some old)
-free_stands None free = absurd free
-free_stands (Some process) free = (process, refl)
+-- so it does if none is due to it
+pub free_exists : (found : Option Process) → HasNoneDue found → (old : Process) × (found ≡ Some old)
+free_exists None free = absurd free
+free_exists (Some process) free = (process, refl)

@@ -1,4 +1,4 @@
--- Whom a call wakes: those who stand in a waiting set, or suspended themselves.
+-- Which processes a call wakes: those in a waiting set, or those that suspended themselves.
 use Rattle.std.proofs.Common.{◌≡◌, ℕ, zero, suc, List, [], ◌∷◌, length, Bool, true, false, cond, nat_eq, nat_lt, ℤ, pos, negsuc, Option, Some, None, refl, sym, ap, subst, ◌∙◌, true≢false}
 use Rattle.apex_types.specs.declared.code.Code.TheVariants as code
 use Rattle.apex_types.specs.declared.record.Who.{Who}
@@ -25,11 +25,11 @@ use Rattle.apex_laws.specs.PartLaws.{is_set_used}
 use Rattle.apex_laws.proofs.Booleans.{first_holds, is_itself}
 use Rattle.apex_laws.proofs.Waiters.{all_named, first_has, only_named}
 
--- nobody is named by the empty list
+-- the empty list names no process
 pub nobody : {Fact : Type 0} (one : Who) (woken : List Who) → woken ≡ [] → is_named one woken ≡ true → Fact
 nobody {Fact} one woken none named = absurd (true≢false (sym named ∙ ap (is_named one) none))
 
--- who cannot have at once what it wants wakes nobody
+-- a call that is unmet wakes no process
 pub unmet_wakes : (time_out : ℤ) → (unmet time_out).woken ≡ []
 unmet_wakes time_out = elim (is_over time_out) as (λ over. (cond over (answering code.NotAvailable) waiting).woken ≡ []) [ true ↦ refl | false ↦ refl ]
 
@@ -61,7 +61,7 @@ entries_found : {Object : Type 0} (Fact : Entry → Type 0) (entries_of : Object
     → AllEntries Fact (entries_in entries_of found) → AllEntries Fact (entries_of object)
 entries_found Fact entries_of found object is all = subst (λ one. AllEntries Fact (entries_in entries_of one)) is all
 
--- an answer of an object names whom the object that is found wakes
+-- an answer of an object names the processes that the object found wakes
 by_object : {Object : Type 0} (Fact : Type 0) (one : Who) (found : Option Object) (gives : Object → Answer)
     → ((object : Object) → found ≡ Some object → is_named one (gives object).woken ≡ true → Fact) → is_named one (answer_by found gives).woken ≡ true → Fact
 by_object Fact one None gives has named = nobody one [] refl named
@@ -89,7 +89,7 @@ release_wakes Fact first mutex has one named =
       | false ↦ λ named. hand_on_wakes Fact first mutex has one named
     ] named
 
--- these wake nobody
+-- these wake no process
 pub wait_wakes : (time_out : ℤ) (value : ℕ) → (semaphore_waited time_out value).answer.woken ≡ []
 wait_wakes time_out zero = unmet_wakes time_out
 wait_wakes time_out (suc value) = refl
@@ -121,7 +121,7 @@ resume_wakes Fact target (Some process) has one named =
       | false ↦ λ not_suspended named. nobody one [] refl named
     ] refl named
 
--- a service that uses no channel wakes those who stand in a waiting set that it uses, or suspended themselves
+-- a service that uses no channel wakes processes in a waiting set that it uses, or processes that suspended themselves
 pub answer_wakes : (Fact : Who → Type 0) (now : ℕ) (who : Who) (partition : Partition) (asked : Request)
     → ((wanted : WaitingSet) → is_set_used asked wanted ≡ true → AllEntries (λ entry. Fact entry.who) (entries_at partition wanted))
     → ((process : ℤ) (target : Process) → created partition.table process ≡ Some target → is_suspension target.wait ≡ true → Fact (peer who process))
@@ -187,7 +187,7 @@ answer_wakes Fact now who partition _ all suspended one named = nobody one [] re
 
 -- channels
 
--- a read wakes nobody
+-- a read wakes no process
 read_wakes : (now refresh : ℕ) (last : Option Stamped) → (reading_of now refresh last).woken ≡ []
 read_wakes now refresh None = refl
 read_wakes now refresh (Some last) = refl
@@ -214,7 +214,7 @@ use_wakes Fact configuration now number partition (Write message) channel (Sampl
 use_wakes Fact configuration now number partition Ask channel (Queued messages) all one named = nobody one [] refl named
 use_wakes Fact configuration now number partition _ channel _ all one named = nobody one [] refl named
 
--- a call through a channel wakes those who stand in its waiting sets
+-- a call through a channel wakes processes in its waiting sets
 pub channel_wakes : (Fact : Who → Type 0) (configuration : Configuration) (now number partition : ℕ) (how : Option Use) (channel : Channel)
     → AllEntries (λ entry. Fact entry.who) channel.receivers → AllEntries (λ entry. Fact entry.who) channel.senders
     → (one : Who) → is_named one (channel_effect configuration now number partition how channel).answer.woken ≡ true → Fact one

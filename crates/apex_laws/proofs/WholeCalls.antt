@@ -54,7 +54,7 @@ use Rattle.apex_laws.proofs.RefusedCalls.{foreign_rest}
 use Rattle.apex_laws.proofs.Steps.{lawful_body, next_channel, next_cores, next_partition}
 use Rattle.apex_laws.proofs.Waiters.{all_weaker}
 use Rattle.apex_laws.proofs.Wakes.{answer_wakes, channel_wakes, nobody}
-use Rattle.apex_laws.proofs.WaitersOf.{free_stands, same_who}
+use Rattle.apex_laws.proofs.WaitersOf.{free_exists, same_who}
 use Rattle.apex_laws.proofs.Woken.{created_is, found}
 use Rattle.apex_laws.proofs.Waits.{waiting_tells}
 use Rattle.apex_laws.proofs.Demanded.{goes_to}
@@ -160,7 +160,7 @@ begun configuration state core call law process waits =
         (through_begun configuration (time_of state.cores core) channel call.who.part call.request process (state.channels channel) has.kind
         (subst (CanHave call.request) (sym has.out ∙ (waiting_tells call.claim.out).0 waits) (channel_can configuration (time_of state.cores core) channel call.who.part call.request (state.channels channel) has.kind)))
 
--- whom a call names waits for another
+-- a process that a call names waits for another
 
 -- a wait in a set, or a suspension
 in_waits : (wanted : WaitingSet) (one : Wait) → is_in wanted one ≡ true → WaitsForOther one
@@ -223,7 +223,7 @@ not_for_normal (wait.At set due) waits = refl
 not_for_normal wait.Nothing waits = absurd waits
 not_for_normal _ waits = absurd waits
 
--- START names nobody
+-- START names no process
 start_names_nobody : (conditions : List Condition) (suited : ℕ → Bool) (through : ℕ → Answer) (claim : Claim) → HasOutcome conditions None done suited through claim → (one : Who) → is_named one claim.woken ≡ true → ⊥
 start_names_nobody [] suited through claim has one named = true≢false (sym named ∙ has.woken one)
 start_names_nobody (condition ∷ conditions) suited through claim has one named = nobody one claim.woken has.woken named
@@ -262,12 +262,12 @@ objects_are configuration cores place core call partition objects is =
 -- what a call adds
 
 -- a process that is not among these is found after them
-pub found_behind : (table more : Table) (number : ℕ) → item_at table number ≡ None → item_at (table ++ more) number ≡ item_at more number
-found_behind [] more number none = refl
-found_behind (entry ∷ entries) more number none =
+pub found_after : (table more : Table) (number : ℕ) → item_at table number ≡ None → item_at (table ++ more) number ≡ item_at more number
+found_after [] more number none = refl
+found_after (entry ∷ entries) more number none =
     elim (nat_eq number entry.0) as (λ same. cond same (Some entry.1) (item_at entries number) ≡ None → cond same (Some entry.1) (item_at (entries ++ more) number) ≡ item_at more number) [
       | true ↦ λ none. (let some : ◌≡◌ {A = Option Process} (Some entry.1) None = none in cc)
-      | false ↦ λ none. found_behind entries more number none
+      | false ↦ λ none. found_after entries more number none
     ] none
 
 -- the process under a claimed number
@@ -288,7 +288,7 @@ numbered_is (Some (pos n)) process number =
         let equal : n ≡ number = cc in
         true≢false (sym (eq-eqb number n (sym equal)) ∙ differs)
 
--- a call adds a created process, or nobody
+-- a call adds a created process, or none
 adds : (configuration : Configuration) (call : CallRecord) (asked : Request) (number : ℕ) → call.request ≡ asked
     → IsAdded configuration call number (item_at (created_by (first_core configuration call.who.part) call asked) number)
 adds configuration call (request.CreateProcess name priority period) number is =
@@ -362,7 +362,7 @@ call_is_the_sentence configuration state ordered call next above tied order step
     subst (λ one. item_at (next.partitions one).table who.proc ≡ Some new) (sym here) at in
     let apart : (who : Who) → who.part ≡ part → ¬ (who ≡ call.who) → nat_eq who.proc call.who.proc ≡ false = λ who here differs.
     cannot_hold (nat_eq who.proc call.who.proc) (λ same. differs (same_who who call.who here (eqb-true who.proc call.who.proc same))) in
-    let caller = free_stands (process_in state call.who) law.due in
+    let caller = free_exists (process_in state call.who) law.due in
     record {
       caller = record {
         old = caller.0;
@@ -433,7 +433,7 @@ call_is_the_sentence configuration state ordered call next above tied order step
       added = λ number none.
           let is_added = adds configuration call call.request number refl in
           let not_among : item_at (each_item change table) number ≡ None = at_each change table number ∙ ap (option_map (change number)) none in
-          subst (IsAdded configuration call number) (sym (ap (λ (one : Partition). item_at one.table number) own ∙ found_behind (each_item change table) more number not_among)) is_added;
+          subst (IsAdded configuration call number) (sym (ap (λ (one : Partition). item_at one.table number) own ∙ found_after (each_item change table) more number not_among)) is_added;
       elsewhere = λ who there not_named.
           let foreign : nat_eq part who.part ≡ false = cannot_hold (nat_eq part who.part) (λ same. there (sym (eqb-true part who.part same))) in
           ap (λ (one : Partition). item_at one.table who.proc) (partitions who.part)

@@ -37,7 +37,7 @@ pub record IsWokenBy (partitions : ℕ → Partition) (number : ℕ) (chan : Opt
   pub sending : (channel : ℕ) → waits_at (set.ChannelSenders channel) (found partitions who) ≡ true → chan ≡ Some channel
   pub receiving : (channel : ℕ) → waits_at (set.ChannelReceivers channel) (found partitions who) ≡ true → chan ≡ Some channel
 
--- who stands in a waiting set of a partition waits at no channel
+-- a process in a waiting set of a partition waits at no channel
 own_waiter : (partitions : ℕ → Partition) (number : ℕ) (wanted : WaitingSet) (chan : Option ℕ) → AllEntries (IsTied (λ home. home ≡ number) wanted partitions) (entries_at (partitions number) wanted)
     → AllEntries (λ entry. IsWokenBy partitions number chan entry.who) (entries_at (partitions number) wanted)
 own_waiter partitions number wanted chan all =
@@ -77,7 +77,7 @@ suspended_peer partitions who chan process target is suspends =
       receiving = λ channel waits. absurd (suspended_elsewhere (partitions who.part) process target (set.ChannelReceivers channel) is suspends waits);
     }
 
--- who stands in a waiting set of a channel is woken through that channel
+-- a process in a waiting set of a channel is woken through that channel
 channel_waiter : (partitions : ℕ → Partition) (Home : ℕ → Type 0) (wanted : WaitingSet) (number channel : ℕ) (chan : Option ℕ) → chan ≡ Some channel
     → ((other : ℕ) → wanted ≡ set.ChannelSenders other → other ≡ channel) → ((other : ℕ) → wanted ≡ set.ChannelReceivers other → other ≡ channel)
     → (entries : List Entry) → AllEntries (IsTied Home wanted partitions) entries → AllEntries (λ entry. IsWokenBy partitions number chan entry.who) entries
@@ -88,7 +88,7 @@ channel_waiter partitions Home wanted number channel chan is sending receiving e
       receiving = λ other also. is ∙ ap Some (sym (receiving other (one_set wanted (set.ChannelReceivers other) (found partitions entry.who) tied.1 also)));
     }) entries all
 
--- whom a call with a lawful outcome names
+-- the processes that a call with a lawful outcome names
 pub woken : (configuration : Configuration) (state : State) (now : ℕ) (who : Who) (asked : Request) (claim : Claim) → AreTied configuration state
     → (conditions : List Condition) (channel : Option ℕ)
     → HasOutcome conditions channel (answer_of now who (state.partitions who.part) asked) (λ number. suits_use configuration number who.part (use_of asked) (state.channels number))

@@ -28,7 +28,7 @@ abbrev ends : State → List Ordered → State
 ends state [] = state
 ends state (ordered ∷ others) = ends (after two_partitions state ordered) others
 
--- where the last record is not lawful there is no run
+-- if the last record is not lawful, there is no run
 no_run : (state : State) (records : List Ordered) (last : Ordered) (final : State) → ¬ IsLawful two_partitions (ends state records) last
     → ¬ Run two_partitions state (records ++ last ∷ []) final
 no_run state [] last final fails run = fails run.1.0
@@ -50,7 +50,7 @@ no_other : (final : State) → ¬ Run two_partitions (cold_state two_partitions)
 unfolding other_return
 no_other final = no_run (cold_state two_partitions) (in_places 0 before_return) other_return final no_return
 
--- each record is lawful where those before it lead
+-- each record is lawful in the state to which those before it lead
 abbrev AllLawful : State → List Ordered → Type 0
 AllLawful state [] = Unit {0}
 AllLawful state (ordered ∷ others) = IsLawful two_partitions state ordered × AllLawful (after two_partitions state ordered) others

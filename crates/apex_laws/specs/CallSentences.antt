@@ -1,5 +1,5 @@
--- What each service of an object does to the objects of its caller's partition, in sentences: which object, which of its waiting
--- sets, by which rule, and that the others stay.
+-- What each service of an object does to the objects of its caller's partition, in sentences: which object and which of its waiting sets it
+-- uses, by which rule, and that the others stay.
 use Rattle.std.specs.Prelude.{◌≡◌, ℕ, ℤ, pos, List, [], Option, Some, None, false}
 use Rattle.apex_types.specs.declared.record.Who.{Who}
 use Rattle.apex_types.specs.declared.operation.{BlackboardOperation.BlackboardOperation, BufferOperation.BufferOperation, EventOperation.EventOperation, MutexOperation.MutexOperation, NewObject.NewObject, SamplingOperation.SamplingOperation, SemaphoreOperation.SemaphoreOperation}
@@ -13,28 +13,28 @@ use Rattle.apex_machine.specs.Configuration.{Configuration}
 use Rattle.apex_machine.specs.State.{Partition, Port, is_free, item_at}
 use Rattle.apex_laws.specs.ObjectSentences.{IsAcquiring, IsClearing, IsDisplay, IsEventWait, IsReading, IsReceiving, IsReleasing, IsResetting, IsSemaphoreWait, IsSending, IsSetting, IsSignal}
 
--- the object of this number is this one afterwards, and the others are as before
+-- afterwards the object of this number is this one, and the others are as before
 pub record OneBecomes {Object : Type 0} (before after : List (ℕ × Object)) (number : ℕ) (new : Object) : Type 0 where
   pub here : item_at after number ≡ Some new
   pub others : (other : ℕ) → ¬ (other ≡ number) → item_at after other ≡ item_at before other
 
--- a service of an object: the object is there, the rule gives the answer, and the object keeps all but what the rule changes
+-- a service of an object: the object is created, the rule gives the answer, and the object keeps everything except what the rule changes
 pub record Operates {Object Value : Type 0} (before after : List (ℕ × Object)) (given : ℤ) (Rule : Object → Effect Value → Type 0) (put : Object → Value → Object) (answer : Answer) : Type 0 where
   pub number : ℕ
   pub is : given ≡ pos number
   pub found : Object
-  pub stands : item_at before number ≡ Some found
+  pub is_member : item_at before number ≡ Some found
   pub effect : Effect Value
   pub rule : Rule found effect
   pub gives : answer ≡ effect.answer
   pub becomes : OneBecomes before after number (put found effect.next)
 
--- a creation: the answer is a new number of the kind, and under the number claimed stands what is created, if it was free
+-- a creation: the answer is a new number of the kind, and what is created gets the number claimed, if that was free
 pub record Creates {Object : Type 0} (before after : List (ℕ × Object)) (claimed : Option ℤ) (new : Object) (answer : Answer) : Type 0 where
   pub gives : answer ≡ done_with (NewNumber (is_free before))
   pub put : (number : ℕ) → claimed ≡ Some (pos number) → item_at before number ≡ None → OneBecomes before after number new
 
--- the services of objects, by the objects of the partition before and after, where no error condition holds
+-- the services of objects, by the objects of the partition before and after, if no error condition holds
 abbrev pub IsObjectCall : Configuration → Who → Option ℤ → Request → Partition → Answer → Partition → Type 0
 IsObjectCall configuration who claimed (request.Create name (NewObject.Buffer size capacity discipline)) partition answer next =
     (next ≡ record partition { buffers = next.buffers }) × Creates partition.buffers next.buffers claimed (record { name = name; size = natural_of size; capacity = natural_of capacity; discipline = discipline_given discipline; messages = []; senders = []; receivers = [] }) answer
@@ -73,7 +73,7 @@ IsObjectCall configuration who claimed (request.Mutex mutex (MutexOperation.Acqu
     (next ≡ record partition { mutexes = next.mutexes }) × Operates partition.mutexes next.mutexes mutex (λ found. IsAcquiring who.proc time_out found) (λ found changed. changed) answer
 IsObjectCall configuration who claimed (request.Mutex mutex MutexOperation.Release) partition answer next =
     (next ≡ record partition { mutexes = next.mutexes }) × Operates partition.mutexes next.mutexes mutex (λ found effect. IsReleasing found effect) (λ found changed. changed) answer
--- a created port is as the configuration has it
+-- a created port is as it is configured
 IsObjectCall configuration who claimed (request.Create name (NewObject.SamplingPort size direction refresh)) partition answer next =
     (next ≡ record partition { sampling_ports = next.sampling_ports })
     × ((port : SamplingPort) × (sampling_port configuration who.part name ≡ Some port)
@@ -82,10 +82,10 @@ IsObjectCall configuration who claimed (request.Create name (NewObject.QueuingPo
     (next ≡ record partition { queuing_ports = next.queuing_ports })
     × ((port : QueuingPort) × (queuing_port configuration who.part name ≡ Some port)
     × Creates partition.queuing_ports next.queuing_ports claimed (record { name = name; size = port.size; direction = port.direction; channel = port.channel; valid = false }) answer)
--- the port at which a sample is read knows whether that is a valid one
+-- the port at which a sample is read records whether the sample is valid
 IsObjectCall configuration who claimed (request.SamplingPort port SamplingOperation.Read) partition answer next =
     (next ≡ record partition { sampling_ports = next.sampling_ports })
     × ((number : ℕ) (found : Port) → port ≡ pos number → item_at partition.sampling_ports number ≡ Some found
     → OneBecomes partition.sampling_ports next.sampling_ports number (record found { valid = is_valid claimed }))
--- any other service leaves all objects and ports
+-- any other service leaves all objects and ports unchanged
 IsObjectCall configuration who claimed _ partition answer next = next ≡ partition

@@ -43,7 +43,7 @@ owning = play one_partition at_work (does one (request.Mutex (pos 1) (MutexOpera
 abbrev pub asleep : State
 asleep = play one_partition at_work (waits one 10 (request.Caller (CallerOperation.SuspendSelf (negsuc 0))) ∷ [])
 
--- and process 2 waits for it
+-- process 1 owns the mutex, and process 2 waits for it
 abbrev pub wanting : State
 wanting = play one_partition owning (waits two 20 (request.Mutex (pos 1) (MutexOperation.Acquire (negsuc 0))) ∷ [])
 
@@ -51,15 +51,15 @@ wanting = play one_partition owning (waits two 20 (request.Mutex (pos 1) (MutexO
 abbrev pub conditions_told : State → Who → Request → List Condition
 conditions_told state who asked = conditions_met one_partition state who asked
 
--- those for a creation of a port, before any other
+-- the error conditions that hold for the creation of a port, before any other creation
 abbrev pub conditions_at_first : ℕ → Request → List Condition
 conditions_at_first partition asked = conditions_met two_partitions (cold_state two_partitions) (process_of partition 0) asked
 
--- those for a call through a port
+-- the error conditions that hold for a call through a port
 abbrev pub reported_there : Who → Request → List Condition
 reported_there who asked = conditions_met two_partitions connected who asked
 
--- the channel's receivers go by priority, its senders first in first out
+-- the channel's receivers wait by priority, its senders first in, first out
 abbrev pub by_ends : Configuration
 by_ends = record two_partitions { queuing = queuing_by discipline.Priority ∷ [] }
 

@@ -11,13 +11,13 @@ use Rattle.apex_machine.specs.State.{Partition}
 use Rattle.apex_machine.specs.Step.{IsCodeOf}
 use Rattle.apex_laws.specs.ConditionSentences.{HasCondition}
 
--- a condition is among those of a call exactly where it is one of its service and holds
+-- a condition is among those of a call exactly if it is one of its service and holds
 abbrev pub ConditionsAreTheSentences : Type 0
 ConditionsAreTheSentences =
     (configuration : Configuration) (who : Who) (partition : Partition) (asked : Request) (condition : Condition)
     → Contains (conditions_of configuration who partition asked) condition ↔ HasCondition configuration who partition asked condition
 
--- a code is one of a call exactly where an error condition of its service with that code holds
+-- a code is one of a call exactly if an error condition of its service with that code holds
 abbrev pub CodesAreTheSentences : Type 0
 CodesAreTheSentences =
     (configuration : Configuration) (who : Who) (partition : Partition) (asked : Request) (code : Code)

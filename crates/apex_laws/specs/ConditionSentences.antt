@@ -1,5 +1,5 @@
 -- The error conditions of the services, in sentences: one case for each condition of each service, with what holds in the caller's
--- partition. A case that several services share stands once.
+-- partition. Services that share a condition share its case.
 use Rattle.std.specs.Prelude.{◌≡◌, ◌⊎◌, ℕ, ◌*◌, ◌-◌, ◌<◌, ◌≤◌, ℤ, pos, negsuc, ◌<ℤ◌, ◌≤ℤ◌, List, length, Option, Some, IsTrue, IsFalse, Contains}
 use Rattle.apex_types.specs.declared.limits.TheConstants.{GREATEST_MAXIMUM, GREATEST_PRIORITY, LONGEST_MESSAGE, MOST_MESSAGES}
 use Rattle.apex_types.specs.declared.discipline.Discipline.{Discipline}
@@ -24,7 +24,7 @@ use Rattle.apex_machine.specs.State.{Blackboard, Buffer, Mutex, Partition, Port,
 
 -- the numbers that a caller gives
 
--- a number is one of these, the first and the last among them
+-- a number is from the first of these to the second, both included
 abbrev pub IsFrom : ℤ → ℤ → ℤ → Type 0
 IsFrom least greatest given = (least ≤ℤ given) × (given ≤ℤ greatest)
 
@@ -51,13 +51,13 @@ pub record IsProcess (partition : Partition) (given : ℤ) (process : Process) :
   pub number : ℕ
   pub is : given ≡ pos number
   pub created : 0 < number
-  pub stands : item_at partition.table number ≡ Some process
+  pub is_member : item_at partition.table number ≡ Some process
 
 -- the created object that a number names
 pub record IsObject {Object : Type 0} (objects : List (ℕ × Object)) (given : ℤ) (object : Object) : Type 0 where
   pub number : ℕ
   pub is : given ≡ pos number
-  pub stands : item_at objects number ≡ Some object
+  pub is_member : item_at objects number ≡ Some object
 
 -- a number names no created object of a kind
 abbrev pub NamesNone : {Object : Type 0} → List (ℕ × Object) → ℤ → Type 0
@@ -67,18 +67,18 @@ NamesNone {Object} objects given = (object : Object) → ¬ IsObject objects giv
 abbrev pub NamesNoProcess : Partition → ℤ → Type 0
 NamesNoProcess partition given = (process : Process) → ¬ IsProcess partition given process
 
--- a process is periodic that has a period
+-- a process is periodic if it has a period
 abbrev pub IsPeriodic : Process → Type 0
 IsPeriodic process = (period : ℕ) × (process.period ≡ Some period)
 
--- a process is suspended that another suspended, or that suspended itself
+-- a process is suspended if another process suspended it, or if it suspended itself
 abbrev pub IsSuspended : Process → Type 0
 IsSuspended process = IsTrue process.suspended ⊎ ((due : Option ℕ) × (process.wait ≡ wait.Suspended due))
 
 -- a process owns the mutex of a number
 pub record Owns (partition : Partition) (process held : ℕ) : Type 0 where
   pub mutex : Mutex
-  pub stands : Contains partition.mutexes (held, mutex)
+  pub is_member : Contains partition.mutexes (held, mutex)
   pub owner : mutex.owner ≡ Some process
 
 -- the caller may not wait: it is the initialising process, or it owns a mutex
@@ -93,22 +93,22 @@ IsCalledBy who partition process = item_at partition.table who.proc ≡ Some pro
 abbrev pub IsCalledByPeriodic : Who → Partition → Type 0
 IsCalledByPeriodic who partition = (process : Process) × IsCalledBy who partition process × IsPeriodic process
 
--- one of a kind has this name
+-- an object or process of a kind has this name
 abbrev pub OneIsNamed : {Object : Type 0} → List ℕ → (Object → List ℕ) → List (ℕ × Object) → Type 0
 OneIsNamed {Object} name name_of objects = (entry : ℕ × Object) × Contains objects entry × (name_of entry.1 ≡ name)
 
--- one of the objects or ports of a kind has this name
+-- an object or port of this kind has this name
 abbrev pub OneOfKindIsNamed : Partition → ObjectKind → List ℕ → Type 0
 OneOfKindIsNamed partition kind name = OneIsNamed name (name_in kind) (objects_of partition kind)
 
 -- what the configuration says
 
--- a number tells a direction: 0 a source, 1 a destination
+-- a number means a direction: 0 a source, 1 a destination
 abbrev pub IsDirection : Direction → ℤ → Type 0
 IsDirection direction.Source given = given ≡ pos 0
 IsDirection direction.Destination given = given ≡ pos 1
 
--- a number tells a discipline: 0 by FIFO, 1 by priority
+-- a number means a discipline: 0 FIFO, 1 priority
 abbrev pub TellsDiscipline : Discipline → ℤ → Type 0
 TellsDiscipline discipline.Fifo given = given ≡ pos 0
 TellsDiscipline discipline.Priority given = given ≡ pos 1
@@ -178,13 +178,13 @@ IsSetUp (request.Process process (ProcessOperation.InitializeCoreAffinity core))
 IsSetUp (request.Create name object) = Unit {0}
 IsSetUp _ = ⊥
 
--- one of the kind that a service creates has the name already
+-- the name is taken in the kind that a service creates
 abbrev pub NameIsTaken : Partition → Request → Type 0
 NameIsTaken partition (request.CreateProcess name priority period) = OneIsNamed name (λ (process : Process). process.name) partition.table
 NameIsTaken partition (request.Create name object) = OneOfKindIsNamed partition (kind_of object) name
 NameIsTaken partition _ = ⊥
 
--- as many objects of a kind are created as the partition of this number may create; ports are configured one by one
+-- as many objects of a kind are created as the partition of this number may create; ports have no such limit, since each one is configured
 abbrev pub KindIsFull : Configuration → ℕ → Partition → ObjectKind → Type 0
 KindIsFull configuration number partition kind.Buffer = object_limit configuration (λ limits. limits.buffers) number ≤ length partition.buffers
 KindIsFull configuration number partition kind.Blackboard = object_limit configuration (λ limits. limits.blackboards) number ≤ length partition.blackboards
@@ -193,7 +193,7 @@ KindIsFull configuration number partition kind.Event = object_limit configuratio
 KindIsFull configuration number partition kind.Mutex = object_limit configuration (λ limits. limits.mutexes) number ≤ length partition.mutexes
 KindIsFull configuration number partition _ = ⊥
 
--- as many are created of the kind that a service creates as the partition may create, the initialising process not counted
+-- of the kind that a service creates, as many are created as the partition may create, not counting the initialising process
 abbrev pub AllAreCreated : Configuration → ℕ → Partition → Request → Type 0
 AllAreCreated configuration number partition (request.CreateProcess name priority period) = process_limit configuration number ≤ length partition.table - 1
 AllAreCreated configuration number partition (request.Create name object) = KindIsFull configuration number partition (kind_of object)
@@ -211,15 +211,16 @@ module _ (configuration : Configuration) (who : Who) (partition : Partition) whe
     in_normal : {asked : Request} → IsSetUp asked → partition.mode ≡ mode.Normal → HasCondition asked condition.InNormal
     name_taken : {asked : Request} → NameIsTaken partition asked → HasCondition asked condition.NameTaken
     all_created : {asked : Request} → AllAreCreated configuration who.part partition asked → HasCondition asked condition.AllCreated
-    -- CREATE_PROCESS: no priority; a period that is neither -1 nor above 0; one above 0 that is no multiple of the partition's
+    -- CREATE_PROCESS: a priority out of range; a period that is neither -1 nor above 0; a period above 0 that is not a multiple of the
+    -- partition's
     create_process_priority : {name : List ℕ} {priority period : ℤ} → ¬ IsPriority priority → HasCondition (request.CreateProcess name priority period) condition.PriorityOutOfRange
     create_process_period : {name : List ℕ} {priority period : ℤ} → ¬ (period ≡ negsuc 0) → period ≤ℤ pos 0
         → HasCondition (request.CreateProcess name priority period) condition.PeriodOutOfRange
     create_process_multiple : {name : List ℕ} {priority period : ℤ} → pos 0 <ℤ period → ¬ IsMultipleOf (period_of configuration who.part) period
         → HasCondition (request.CreateProcess name priority period) condition.PeriodNotMultiple
-    -- INITIALIZE_PROCESS_CORE_AFFINITY: not a core of the partition
+    -- INITIALIZE_PROCESS_CORE_AFFINITY: a core that is not one of the partition's
     affinity_core : {process core : ℤ} → ¬ IsCoreOf configuration who.part core → HasCondition (request.Process process (ProcessOperation.InitializeCoreAffinity core)) condition.CoreNotOfPartition
-    -- START: not dormant
+    -- START: a process that is not dormant
     start_alive : {process : ℤ} (found : Process) → IsProcess partition process found → IsTrue found.alive → HasCondition (request.Process process ProcessOperation.Start) condition.AlreadyStarted
     -- STOP: the caller's own number; a dormant process
     stop_itself : {process : ℤ} → process ≡ pos who.proc → HasCondition (request.Process process ProcessOperation.Stop) condition.NamesItself
@@ -238,7 +239,7 @@ module _ (configuration : Configuration) (who : Who) (partition : Partition) whe
     resume_periodic : {process : ℤ} (found : Process) → IsProcess partition process found → IsPeriodic found → HasCondition (request.Process process ProcessOperation.Resume) condition.Periodic
     resume_running : {process : ℤ} (found : Process) → IsProcess partition process found → IsTrue found.alive → ¬ IsSuspended found
         → HasCondition (request.Process process ProcessOperation.Resume) condition.NotSuspended
-    -- SET_PRIORITY: no priority; a dormant process
+    -- SET_PRIORITY: a priority out of range; a dormant process
     set_priority_priority : {process priority : ℤ} → ¬ IsPriority priority → HasCondition (request.Process process (ProcessOperation.SetPriority priority)) condition.PriorityOutOfRange
     set_priority_dormant : {process priority : ℤ} (found : Process) → IsProcess partition process found → IsFalse found.alive
         → HasCondition (request.Process process (ProcessOperation.SetPriority priority)) condition.Dormant
@@ -247,35 +248,35 @@ module _ (configuration : Configuration) (who : Who) (partition : Partition) whe
     -- TIMED_WAIT: a delay below 0; a process that may not wait
     timed_wait_delay : {ticks : ℤ} → ticks <ℤ pos 0 → HasCondition (request.Caller (CallerOperation.TimedWait ticks)) condition.DelayOutOfRange
     timed_wait_waits : {ticks : ℤ} → MayNotWait who partition → HasCondition (request.Caller (CallerOperation.TimedWait ticks)) condition.MayNotWait
-    -- PERIODIC_WAIT: not a periodic process; one that may not wait
+    -- PERIODIC_WAIT: a process that is not periodic; one that may not wait
     periodic_wait_aperiodic : ¬ IsCalledByPeriodic who partition → HasCondition (request.Caller CallerOperation.PeriodicWait) condition.AperiodicCaller
     periodic_wait_waits : MayNotWait who partition → HasCondition (request.Caller CallerOperation.PeriodicWait) condition.MayNotWait
     -- SET_PARTITION_MODE: a mode that is not 0 to 3; NORMAL, which is 3, in NORMAL; WARM_START, which is 2, in COLD_START
     set_mode_none : {next : ℤ} → ¬ IsFrom (pos 0) (pos 3) next → HasCondition (request.SetPartitionMode next) condition.ModeOutOfRange
     set_mode_normal : {next : ℤ} → next ≡ pos 3 → partition.mode ≡ mode.Normal → HasCondition (request.SetPartitionMode next) condition.AlreadyNormal
     set_mode_warm : {next : ℤ} → next ≡ pos 2 → partition.mode ≡ mode.ColdStart → HasCondition (request.SetPartitionMode next) condition.WarmStartInColdStart
-    -- CREATE_BUFFER: no message size; a number of messages that is not 1 to 1,024; no discipline
+    -- CREATE_BUFFER: a message size out of range; a number of messages that is not 1 to 1,024; a discipline out of range
     create_buffer_size : {name : List ℕ} {size capacity given : ℤ} → ¬ IsSize size → HasCondition (request.Create name (NewObject.Buffer size capacity given)) condition.SizeOutOfRange
     create_buffer_capacity : {name : List ℕ} {size capacity given : ℤ} → ¬ IsFrom (pos 1) (pos MOST_MESSAGES) capacity
         → HasCondition (request.Create name (NewObject.Buffer size capacity given)) condition.CapacityOutOfRange
     create_buffer_discipline : {name : List ℕ} {size capacity given : ℤ} → ¬ IsDiscipline given → HasCondition (request.Create name (NewObject.Buffer size capacity given)) condition.DisciplineOutOfRange
-    -- SEND_BUFFER: a message without a byte; one that is longer than the buffer's size
+    -- SEND_BUFFER: an empty message; one that is longer than the buffer's size
     send_buffer_empty : {buffer length time_out : ℤ} {message : List ℕ} → length <ℤ pos 1 → HasCondition (request.Buffer buffer (BufferOperation.Send length time_out message)) condition.EmptyMessage
     send_buffer_long : {buffer length time_out : ℤ} {message : List ℕ} (found : Buffer) → IsObject partition.buffers buffer found → pos found.size <ℤ length
         → HasCondition (request.Buffer buffer (BufferOperation.Send length time_out message)) condition.LongerThanObject
-    -- CREATE_BLACKBOARD: no message size
+    -- CREATE_BLACKBOARD: a message size out of range
     create_blackboard_size : {name : List ℕ} {size : ℤ} → ¬ IsSize size → HasCondition (request.Create name (NewObject.Blackboard size)) condition.SizeOutOfRange
-    -- DISPLAY_BLACKBOARD: a message without a byte; one that is longer than the blackboard's size
+    -- DISPLAY_BLACKBOARD: an empty message; one that is longer than the blackboard's size
     display_empty : {blackboard length : ℤ} {message : List ℕ} → length <ℤ pos 1 → HasCondition (request.Blackboard blackboard (BlackboardOperation.Display length message)) condition.EmptyMessage
     display_long : {blackboard length : ℤ} {message : List ℕ} (found : Blackboard) → IsObject partition.blackboards blackboard found → pos found.size <ℤ length
         → HasCondition (request.Blackboard blackboard (BlackboardOperation.Display length message)) condition.LongerThanObject
-    -- CREATE_SEMAPHORE: a maximum that is not 1 to 32,767; a value that is not 0 to the maximum; no discipline
+    -- CREATE_SEMAPHORE: a maximum that is not 1 to 32,767; a value that is not 0 to the maximum; a discipline out of range
     create_semaphore_maximum : {name : List ℕ} {value maximum given : ℤ} → ¬ IsFrom (pos 1) (pos GREATEST_MAXIMUM) maximum
         → HasCondition (request.Create name (NewObject.Semaphore value maximum given)) condition.MaximumOutOfRange
     create_semaphore_value : {name : List ℕ} {value maximum given : ℤ} → ¬ IsFrom (pos 0) maximum value
         → HasCondition (request.Create name (NewObject.Semaphore value maximum given)) condition.ValueOutOfRange
     create_semaphore_discipline : {name : List ℕ} {value maximum given : ℤ} → ¬ IsDiscipline given → HasCondition (request.Create name (NewObject.Semaphore value maximum given)) condition.DisciplineOutOfRange
-    -- CREATE_MUTEX: no priority; no discipline
+    -- CREATE_MUTEX: a priority out of range; a discipline out of range
     create_mutex_priority : {name : List ℕ} {priority given : ℤ} → ¬ IsPriority priority → HasCondition (request.Create name (NewObject.Mutex priority given)) condition.PriorityOutOfRange
     create_mutex_discipline : {name : List ℕ} {priority given : ℤ} → ¬ IsDiscipline given → HasCondition (request.Create name (NewObject.Mutex priority given)) condition.DisciplineOutOfRange
     -- ACQUIRE_MUTEX: the initialising process; the owner of another mutex; a process whose current priority is above the mutex's
@@ -283,30 +284,30 @@ module _ (configuration : Configuration) (who : Who) (partition : Partition) whe
     acquire_second : {mutex time_out : ℤ} (held : ℕ) → Owns partition who.proc held → ¬ (mutex ≡ pos held) → HasCondition (request.Mutex mutex (MutexOperation.Acquire time_out)) condition.OwnsAnother
     acquire_above : {mutex time_out : ℤ} (found : Mutex) (process : Process) → IsObject partition.mutexes mutex found → IsCalledBy who partition process
         → found.priority < process.current_priority → HasCondition (request.Mutex mutex (MutexOperation.Acquire time_out)) condition.AboveCeiling
-    -- RELEASE_MUTEX: not by the owner
+    -- RELEASE_MUTEX: a caller that is not the owner
     release_not_owner : {mutex : ℤ} (found : Mutex) → IsObject partition.mutexes mutex found → ¬ (found.owner ≡ Some who.proc) → HasCondition (request.Mutex mutex MutexOperation.Release) condition.NotOwner
     -- CREATE_SAMPLING_PORT, CREATE_QUEUING_PORT: no such port is configured
     create_sampling_port : {name : List ℕ} {size way refresh : ℤ} → ¬ IsSamplingPort configuration who.part name size way refresh
         → HasCondition (request.Create name (NewObject.SamplingPort size way refresh)) condition.NotAsConfigured
     create_queuing_port : {name : List ℕ} {size capacity way order : ℤ} → ¬ IsQueuingPort configuration who.part name size capacity way order
         → HasCondition (request.Create name (NewObject.QueuingPort size capacity way order)) condition.NotAsConfigured
-    -- WRITE_SAMPLING_MESSAGE: a message without a byte; one that is longer than the port's size; a port that is no source
+    -- WRITE_SAMPLING_MESSAGE: an empty message; one that is longer than the port's size; a port that is not a source
     write_empty : {port length : ℤ} {message : List ℕ} → length <ℤ pos 1 → HasCondition (request.SamplingPort port (SamplingOperation.Write length message)) condition.EmptyMessage
     write_long : {port length : ℤ} {message : List ℕ} (found : Port) → IsObject partition.sampling_ports port found → pos found.size <ℤ length
         → HasCondition (request.SamplingPort port (SamplingOperation.Write length message)) condition.LongerThanPort
     write_no_source : {port length : ℤ} {message : List ℕ} (found : Port) → IsObject partition.sampling_ports port found → ¬ (found.direction ≡ direction.Source)
         → HasCondition (request.SamplingPort port (SamplingOperation.Write length message)) condition.NotSource
-    -- READ_SAMPLING_MESSAGE: a port that is no destination
+    -- READ_SAMPLING_MESSAGE: a port that is not a destination
     read_no_destination : {port : ℤ} (found : Port) → IsObject partition.sampling_ports port found → ¬ (found.direction ≡ direction.Destination)
         → HasCondition (request.SamplingPort port SamplingOperation.Read) condition.NotDestination
-    -- SEND_QUEUING_MESSAGE: a message without a byte; one that is longer than the port's size; a port that is no source
+    -- SEND_QUEUING_MESSAGE: an empty message; one that is longer than the port's size; a port that is not a source
     send_empty : {port length time_out : ℤ} {message : List ℕ} → length <ℤ pos 1 → HasCondition (request.QueuingPort port (QueuingOperation.Send length time_out message)) condition.EmptyMessage
     send_long : {port length time_out : ℤ} {message : List ℕ} (found : Port) → IsObject partition.queuing_ports port found → pos found.size <ℤ length
         → HasCondition (request.QueuingPort port (QueuingOperation.Send length time_out message)) condition.LongerThanPort
     send_no_source : {port length time_out : ℤ} {message : List ℕ} (found : Port) → IsObject partition.queuing_ports port found → ¬ (found.direction ≡ direction.Source)
         → HasCondition (request.QueuingPort port (QueuingOperation.Send length time_out message)) condition.NotSource
-    -- RECEIVE_QUEUING_MESSAGE: a port that is no destination
+    -- RECEIVE_QUEUING_MESSAGE: a port that is not a destination
     receive_no_destination : {port time_out : ℤ} (found : Port) → IsObject partition.queuing_ports port found → ¬ (found.direction ≡ direction.Destination)
         → HasCondition (request.QueuingPort port (QueuingOperation.Receive time_out)) condition.NotDestination
-    -- GET_BUFFER_ID and its like: nothing of the kind has the name
+    -- GET_BUFFER_ID and its counterparts: nothing of the kind has the name
     get_id_unnamed : {of : ObjectKind} {name : List ℕ} → ¬ OneOfKindIsNamed partition of name → HasCondition (request.GetId of name) condition.NoSuchName

@@ -13,7 +13,7 @@ use Rattle.apex_machine.specs.Channels.{is_receiver, is_sender}
 use Rattle.apex_machine.specs.Choice.{IsChosen, IsReady, foremost, ready_entries}
 use Rattle.apex_machine.specs.Configuration.{Configuration}
 pub use Rattle.apex_machine.specs.Configuration.{WindowsAreConfigured}
-use Rattle.apex_machine.specs.Demands.{LocalStep, stands_in}
+use Rattle.apex_machine.specs.Demands.{LocalStep, has_entry_in}
 use Rattle.apex_machine.specs.Pieces.{Part, Piece, is_configured, part, touches}
 use Rattle.apex_machine.specs.Runs.{ArePlaced, Finds, PieceRun, Refusal}
 use Rattle.apex_machine.specs.State.{Blackboard, Buffer, Event, Mutex, Partition, Port, Semaphore, State, Table, cold_state, is_same, item_at}
@@ -42,7 +42,7 @@ abbrev pub entries_in : {Object : Type 0} → (Object → List Entry) → Option
 entries_in entries_of None = []
 entries_in entries_of (Some object) = entries_of object
 
--- the entries of a waiting set of a partition; a channel's is no partition's
+-- the entries of a waiting set of a partition; a partition has none of a channel's
 abbrev pub entries_at : Partition → WaitingSet → List Entry
 entries_at partition (set.BufferSenders number) = entries_in (λ (buffer : Buffer). buffer.senders) (item_at partition.buffers number)
 entries_at partition (set.BufferReceivers number) = entries_in (λ (buffer : Buffer). buffer.receivers) (item_at partition.buffers number)
@@ -53,12 +53,12 @@ entries_at partition (set.MutexWaiters number) = entries_in (λ (mutex : Mutex).
 entries_at partition (set.ChannelSenders channel) = []
 entries_at partition (set.ChannelReceivers channel) = []
 
--- who stands in a waiting set is of a partition that is at home there, and waits in that set
+-- the process of an entry is of a partition that may wait in the set, and waits in it
 abbrev pub IsTied : (ℕ → Type 0) → WaitingSet → (ℕ → Partition) → Entry → Type 0
 IsTied Home wanted partitions entry =
     Home entry.who.part × IsTrue (waits_at wanted (item_at (partitions entry.who.part).table entry.who.proc))
 
--- a queuing port is at the end of its channel that is its partition's
+-- a queuing port is at its partition's end of its channel
 abbrev pub IsAtEnd : Configuration → ℕ → Direction → ℕ → Type 0
 IsAtEnd configuration partition direction.Source channel = IsTrue (is_sender configuration channel partition)
 IsAtEnd configuration partition direction.Destination channel = IsTrue (is_receiver configuration channel partition)
@@ -68,8 +68,8 @@ abbrev pub AllPorts : (Port → Type 0) → List (ℕ × Port) → Type 0
 AllPorts Fact [] = Unit {0}
 AllPorts Fact (entry ∷ entries) = Fact entry.1 × AllPorts Fact entries
 
--- the tie: numbers are distinct; who stands in a waiting set of a partition is a process of it, and who stands in one of a
--- channel is of the partition at that end, and each waits there; each queuing port is at its end of its channel
+-- the tie: numbers are distinct; a process with an entry in a waiting set of a partition is of that partition, a process with an entry in a
+-- channel's set is of the partition at that end, and each of them waits in the set; each queuing port is at its end of its channel
 pub record AreTied (configuration : Configuration) (state : State) : Type 0 where
   pub distinct : AreDistinct state
   pub objects : (number : ℕ) (wanted : WaitingSet) → AllEntries (IsTied (λ home. home ≡ number) wanted state.partitions) (entries_at (state.partitions number) wanted)
@@ -88,17 +88,17 @@ StaysTied =
 
 -- the order of the entries in the waiting sets of the states that a run reaches
 
--- a fact about each two entries of a set, of which the second comes after the first
+-- a fact about every two entries of a set, the second of which comes after the first
 abbrev pub AllPairs : (Entry → Entry → Type 0) → List Entry → Type 0
 AllPairs Fact [] = Unit {0}
 AllPairs Fact (entry ∷ entries) = AllEntries (Fact entry) entries × AllPairs Fact entries
 
--- one entry is earlier than another: its place is smaller, and it is of another process
+-- one entry is earlier than another: it has a smaller place, and is of another process
 pub record IsEarlier (one other : Entry) : Type 0 where
   pub place : one.place < other.place
   pub differs : IsFalse (is_same one.who other.who)
 
--- a waiting set is in order: its places rise, no process stands in it twice, and all places are below the next one
+-- a waiting set is in order: its places rise, no process has two entries in it, and all places are below the next one
 pub record IsInOrder (count : ℕ) (entries : List Entry) : Type 0 where
   pub pairs : AllPairs IsEarlier entries
   pub below : AllEntries (λ entry. entry.place < count) entries
@@ -122,21 +122,21 @@ IsKept Fact =
 abbrev pub StaysInOrder : Type 0
 StaysInOrder = IsKept SetsAreInOrder
 
--- who waits in a set stands in it
+-- each process that waits in a set has an entry in it
 
--- where the entries of a waiting set stand: a channel's in the channel, any other's in a partition
+-- where the entries of a waiting set are: a channel's in the channel, any other's in a partition
 abbrev pub entries_of : State → ℕ → WaitingSet → List Entry
 entries_of state number (set.ChannelSenders channel) = (state.channels channel).senders
 entries_of state number (set.ChannelReceivers channel) = (state.channels channel).receivers
 entries_of state number wanted = entries_at (state.partitions number) wanted
 
--- the other side of the tie: every process that waits in a set stands in it
-abbrev pub WaitersStand : State → Type 0
-WaitersStand state = (who : Who) (wanted : WaitingSet) → IsTrue (waits_at wanted (item_at (state.partitions who.part).table who.proc)) → IsTrue (stands_in who (entries_of state who.part wanted))
+-- the other side of the tie: every process that waits in a set has an entry in it
+abbrev pub WaitersHaveEntries : State → Type 0
+WaitersHaveEntries state = (who : Who) (wanted : WaitingSet) → IsTrue (waits_at wanted (item_at (state.partitions who.part).table who.proc)) → IsTrue (has_entry_in who (entries_of state who.part wanted))
 
--- so it is in the cold state, a step from a tied state keeps it so, and so does a run
-abbrev pub WhoWaitsStands : Type 0
-WhoWaitsStands = IsKept WaitersStand
+-- the cold state has this, a step from a tied state keeps it, and so does a run
+abbrev pub WhoWaitsHasEntry : Type 0
+WhoWaitsHasEntry = IsKept WaitersHaveEntries
 
 -- steps
 
@@ -146,8 +146,8 @@ AtMostOneNextState =
     (configuration : Configuration) (state : State) (ordered : Ordered) (one other : State)
     → Step configuration state ordered one → Step configuration state ordered other → one ≡ other
 
--- where each piece that the next record touches makes its local step, the machine has a step, to the state whose parts the
--- pieces reached; the parts of the other pieces stay
+-- if each piece that the next record touches makes its local step, the machine has a step to the state with the parts that the pieces
+-- reached; the parts of the other pieces stay
 abbrev pub PiecesCompose : Type 0
 PiecesCompose =
     (configuration : Configuration) (state : State) (ordered : Ordered) (reached : Piece → Part)
@@ -158,7 +158,7 @@ PiecesCompose =
     × ((piece : Piece) → IsTrue (is_configured configuration piece) → IsTrue (touches configuration piece ordered) → part piece next ≡ reached piece)
     × ((piece : Piece) → IsTrue (is_configured configuration piece) → IsFalse (touches configuration piece ordered) → part piece next ≡ part piece state)
 
--- where the machine has a step, each piece that the record touches makes its local step
+-- if the machine has a step, each piece that the record touches makes its local step
 abbrev pub PiecesFollow : Type 0
 PiecesFollow =
     (configuration : Configuration) (state : State) (ordered : Ordered) (next : State)
@@ -168,7 +168,7 @@ PiecesFollow =
 
 -- runs
 
--- runs of all pieces over the records that touch them are one run of the machine, whose parts the pieces reached
+-- runs of all pieces over the records that touch them are one run of the machine, to the parts that the pieces reached
 abbrev pub OneRun : Type 0
 OneRun =
     (configuration : Configuration) (state : State) (records : List Ordered) (reached : Piece → Part)
@@ -201,7 +201,7 @@ ViewIsOfTheRun =
 
 -- the choice
 
--- the choice is the ready process before which no other goes, and none where none is ready
+-- the choice is the ready process that no other goes before, or none if no process is ready
 abbrev pub ChoiceIsTheSentence : Type 0
 ChoiceIsTheSentence =
     (core : ℕ) (table : Table) → IsTrue (are_distinct table)

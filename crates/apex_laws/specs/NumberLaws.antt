@@ -1,4 +1,4 @@
--- Processes and objects by their numbers: what is found under a number, and which numbers are new.
+-- Processes and objects by their numbers: which one is found under a number, and which numbers are new.
 use Rattle.std.specs.Prelude.{◌≡◌, ◌↔◌, ℕ, ◌<◌, ◌≤◌, ℤ, pos, List, Option, Some, None, IsTrue, Contains}
 use Rattle.apex_types.specs.declared.limits.TheConstants.{GREATEST_NUMBER}
 use Rattle.apex_machine.specs.declared.state.Process.{Process}
@@ -8,21 +8,21 @@ use Rattle.apex_machine.specs.Names.{number_named}
 use Rattle.apex_laws.specs.ConditionSentences.{OneIsNamed}
 use Rattle.apex_laws.specs.Laws.{are_distinct}
 
--- under a number of a table of distinct numbers stands the process that has it, and none where no process has it
+-- in a table of distinct numbers, the process found under a number is the one that has it; none is found exactly if no process has it
 abbrev pub ProcessesAreFound : Type 0
 ProcessesAreFound =
     (table : Table) (number : ℕ)
     → (IsTrue (are_distinct table) → (process : Process) → (item_at table number ≡ Some process) ↔ Contains table (number, process))
     × ((item_at table number ≡ None) ↔ ((process : Process) → ¬ Contains table (number, process)))
 
--- what is found under a number of some objects has this number, and none is found where no object has it
+-- an object found under a number has that number, and none is found exactly if no object has it
 abbrev pub AreFound : (Object : Type 0) → Type 0
 AreFound Object =
     (objects : List (ℕ × Object)) (number : ℕ)
     → ((object : Object) → item_at objects number ≡ Some object → Contains objects (number, object))
     × ((item_at objects number ≡ None) ↔ ((object : Object) → ¬ Contains objects (number, object)))
 
--- so it is of the objects and ports of each kind
+-- this holds for the objects and ports of each kind
 pub record ObjectsAreFound : Type 0 where
   pub buffers : AreFound Buffer
   pub blackboards : AreFound Blackboard
@@ -31,14 +31,14 @@ pub record ObjectsAreFound : Type 0 where
   pub mutexes : AreFound Mutex
   pub ports : AreFound Port
 
--- under a name stands the number of one that has it, and none where nobody has it
+-- a number found under a name is that of an object with the name, and none is found exactly if no object has it
 abbrev pub AreFoundByName : {Object : Type 0} → (Object → List ℕ) → Type 0
 AreFoundByName {Object} name_of =
     (objects : List (ℕ × Object)) (name : List ℕ)
     → ((number : ℕ) → number_named name_of name objects ≡ Some number → (object : Object) × Contains objects (number, object) × (name_of object ≡ name))
     × ((number_named name_of name objects ≡ None) ↔ (¬ OneIsNamed name name_of objects))
 
--- so it is of the objects and ports of each kind
+-- this holds for the objects and ports of each kind
 pub record NamesAreFound : Type 0 where
   pub buffers : AreFoundByName (λ (buffer : Buffer). buffer.name)
   pub blackboards : AreFoundByName (λ (blackboard : Blackboard). blackboard.name)
@@ -47,7 +47,7 @@ pub record NamesAreFound : Type 0 where
   pub mutexes : AreFoundByName (λ (mutex : Mutex). mutex.name)
   pub ports : AreFoundByName (λ (port : Port). port.name)
 
--- a new number of a kind: it is 1 to 2,147,483,647, and no object of the kind has it
+-- a new number of a kind: it is from 1 to 2,147,483,647, and no object of the kind has it
 pub record IsNewNumber {Object : Type 0} (objects : List (ℕ × Object)) (claimed : Option ℤ) : Type 0 where
   pub number : ℕ
   pub is : claimed ≡ Some (pos number)
@@ -59,7 +59,7 @@ pub record IsNewNumber {Object : Type 0} (objects : List (ℕ × Object)) (claim
 abbrev pub AreNew : (Object : Type 0) → Type 0
 AreNew Object = (objects : List (ℕ × Object)) (claimed : Option ℤ) → HasValue (NewNumber (is_free objects)) claimed ↔ IsNewNumber objects claimed
 
--- so it is of processes, and of the objects and ports of each kind
+-- this holds for processes, and for the objects and ports of each kind
 pub record NewNumberIsTheSentence : Type 0 where
   pub processes : (table : Table) (claimed : Option ℤ) → HasValue (NewNumber (is_free table)) claimed ↔ IsNewNumber table claimed
   pub buffers : AreNew Buffer

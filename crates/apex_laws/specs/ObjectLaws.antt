@@ -19,7 +19,7 @@ use Rattle.apex_laws.specs.CallSentences.{IsObjectCall}
 use Rattle.apex_laws.specs.Laws.{AllEntries, IsInOrder, entries_at}
 use Rattle.apex_laws.specs.ObjectSentences.{IsAcquiring, IsClearing, IsDisplay, IsEventWait, IsReading, IsReceiving, IsReleasing, IsResetting, IsSampling, IsSemaphoreWait, IsSending, IsSetting, IsSignal, IsUse, IsWriting}
 
--- the entries of a waiting set stand at places of their own
+-- each entry of a waiting set has a place of its own
 abbrev pub AreApart : List Entry → Type 0
 AreApart [] = Unit {0}
 AreApart (entry ∷ entries) = AllEntries (λ other. ¬ (entry.place ≡ other.place)) entries × AreApart entries
@@ -84,8 +84,8 @@ ChannelIsTheSentence =
     → IsTrue (suits configuration number partition how channel.content)
     → (effect ≡ used configuration now number partition how channel channel.content) ↔ IsUse configuration now number partition channel how effect
 
--- the services of objects use and change exactly the object that they name, and creations add exactly one, by the sentences; in a
--- partition whose waiting sets have their entries apart, and where no error condition holds
+-- the services of objects use and change exactly the object that they name, and creations add exactly one, by the sentences; this holds in
+-- a partition whose waiting sets have their entries apart, if no error condition holds
 abbrev pub ObjectCallIsTheSentence : Type 0
 ObjectCallIsTheSentence =
     (configuration : Configuration) (now : ℕ) (who : Who) (claimed : Option ℤ) (asked : Request) (partition : Partition)

@@ -1,4 +1,4 @@
--- What each operation on an object or a channel gives and leaves, in sentences: one case for each sentence of its rule.
+-- What each operation on an object or a channel gives its caller and leaves, in sentences: one case for each sentence of its rule.
 use Rattle.std.specs.Prelude.{◌≡◌, ℕ, ◌+◌, ◌-◌, ◌<◌, ◌≤◌, ℤ, pos, List, [], ◌∷◌, ◌++◌, length, Option, Some, None, Bool, true, false, IsFalse, IsTrue}
 use Rattle.apex_types.specs.declared.code.Code.TheVariants as code
 use Rattle.apex_types.specs.declared.discipline.Discipline.{Discipline}
@@ -14,7 +14,7 @@ use Rattle.apex_machine.specs.Queue.{Messages}
 use Rattle.apex_machine.specs.State.{Channel, Content, Mutex, Queued, Sampled, Stamped}
 use Rattle.apex_machine.specs.Waiting.{IsFirst}
 
--- an outcome with its message and those whose waits end, and the object after it
+-- an outcome with its message and the processes whose waits end, and the object after it
 abbrev pub gives : {Object : Type 0} → Out → List ℕ → List Who → Object → Effect Object
 gives given message woken next = record { answer = record { out = given; val = Nothing; val2 = None; val3 = None; bytes = message; woken = woken }; next = next }
 
@@ -26,13 +26,14 @@ no_error = out.Answer code.NoError
 abbrev pub not_available : Out
 not_available = out.Answer code.NotAvailable
 
--- what cannot be had at once: with a time-out of 0 the code is NOT_AVAILABLE, with any other the caller waits; nothing changes
+-- a call that cannot have at once what it needs is unmet: with a time-out of 0 the code is NOT_AVAILABLE, with any other the caller waits;
+-- nothing changes
 pub data IsUnmet {Object : Type 0} (time_out : ℤ) (object : Object) (effect : Effect Object) : Type 0 where
   at_once : time_out ≡ pos 0 → effect ≡ gives not_available [] [] object → IsUnmet time_out object effect
   waits : ¬ (time_out ≡ pos 0) → effect ≡ gives out.Waits [] [] object → IsUnmet time_out object effect
 
--- SEND_BUFFER, SEND_QUEUING_MESSAGE: if receivers wait, the first gets the message; else if there is room, the message is the
--- newest; else it cannot be had
+-- SEND_BUFFER, SEND_QUEUING_MESSAGE: if receivers wait, the first gets the message; else, if there is room, the message becomes the newest;
+-- else the call is unmet
 pub data IsSending (capacity : ℕ) (message : List ℕ) (time_out : ℤ) (discipline : Discipline) (receivers : List Entry) (messages : Messages) (effect : Effect Messages) : Type 0 where
   first_gets_it : (receiver : Entry) → IsFirst discipline receivers receiver → effect ≡ gives no_error [] (receiver.who ∷ []) messages
       → IsSending capacity message time_out discipline receivers messages effect
@@ -40,8 +41,8 @@ pub data IsSending (capacity : ℕ) (message : List ℕ) (time_out : ℤ) (disci
       → IsSending capacity message time_out discipline receivers messages effect
   no_room : receivers ≡ [] → capacity ≤ length messages → IsUnmet time_out messages effect → IsSending capacity message time_out discipline receivers messages effect
 
--- RECEIVE_BUFFER, RECEIVE_QUEUING_MESSAGE: if there is a message, the oldest leaves, and if senders wait, the first sender's
--- message is the newest and that sender wakes; without a message it cannot be had
+-- RECEIVE_BUFFER, RECEIVE_QUEUING_MESSAGE: if there is a message, the oldest leaves, and if senders wait, the first sender's message
+-- becomes the newest and that sender wakes; else the call is unmet
 pub data IsReceiving (time_out : ℤ) (discipline : Discipline) (senders : List Entry) (messages : Messages) (effect : Effect Messages) : Type 0 where
   oldest_leaves : (message : List ℕ) (others : Messages) → messages ≡ message ∷ others → senders ≡ [] → effect ≡ gives no_error message [] others
       → IsReceiving time_out discipline senders messages effect
@@ -49,59 +50,60 @@ pub data IsReceiving (time_out : ℤ) (discipline : Discipline) (senders : List 
       → effect ≡ gives no_error message (sender.who ∷ []) (others ++ sender.message ∷ []) → IsReceiving time_out discipline senders messages effect
   no_message : messages ≡ [] → IsUnmet time_out messages effect → IsReceiving time_out discipline senders messages effect
 
--- DISPLAY_BLACKBOARD: the message replaces the last one, and every waiting reader is released
+-- DISPLAY_BLACKBOARD: the message replaces the last one, and every waiting reader wakes
 abbrev pub IsDisplay : List ℕ → List Entry → Effect (Option (List ℕ)) → Type 0
 IsDisplay message readers effect = effect ≡ gives no_error [] (waiters_of readers) (Some message)
 
--- READ_BLACKBOARD: the message that is displayed, which stays; of an empty blackboard it cannot be had
+-- READ_BLACKBOARD: the caller gets the message on the blackboard, which stays; if the blackboard is empty, the call is unmet
 pub data IsReading (time_out : ℤ) (message : Option (List ℕ)) (effect : Effect (Option (List ℕ))) : Type 0 where
   displayed : (found : List ℕ) → message ≡ Some found → effect ≡ gives no_error found [] (Some found) → IsReading time_out message effect
   empty : message ≡ None → IsUnmet time_out message effect → IsReading time_out message effect
 
--- CLEAR_BLACKBOARD: the blackboard is empty
+-- CLEAR_BLACKBOARD: the blackboard becomes empty
 abbrev pub IsClearing : Effect (Option (List ℕ)) → Type 0
 IsClearing effect = effect ≡ gives no_error [] [] None
 
--- WAIT_SEMAPHORE: one is taken of a value above 0; else it cannot be had
+-- WAIT_SEMAPHORE: a value above 0 falls by one; else the call is unmet
 pub data IsSemaphoreWait (time_out : ℤ) (value : ℕ) (effect : Effect ℕ) : Type 0 where
   takes_one : (rest : ℕ) → value ≡ rest + 1 → effect ≡ gives no_error [] [] rest → IsSemaphoreWait time_out value effect
   none_left : value ≡ 0 → IsUnmet time_out value effect → IsSemaphoreWait time_out value effect
 
--- SIGNAL_SEMAPHORE: the first waiter goes on, and the value stays; with no waiter one is added; at the maximum the code is
+-- SIGNAL_SEMAPHORE: the first waiter wakes, and the value stays; with no waiter the value rises by one; at the maximum the code is
 -- NO_ACTION and nothing changes
 pub data IsSignal (maximum : ℕ) (discipline : Discipline) (waiters : List Entry) (value : ℕ) (effect : Effect ℕ) : Type 0 where
   first_goes_on : (waiter : Entry) → IsFirst discipline waiters waiter → effect ≡ gives no_error [] (waiter.who ∷ []) value → IsSignal maximum discipline waiters value effect
   adds_one : waiters ≡ [] → value < maximum → effect ≡ gives no_error [] [] (value + 1) → IsSignal maximum discipline waiters value effect
   at_maximum : waiters ≡ [] → maximum ≤ value → effect ≡ gives (out.Answer code.NoAction) [] [] value → IsSignal maximum discipline waiters value effect
 
--- SET_EVENT: the event is up, and every waiter is released
+-- SET_EVENT: the event goes up, and every waiter wakes
 abbrev pub IsSetting : List Entry → Effect Bool → Type 0
 IsSetting waiters effect = effect ≡ gives no_error [] (waiters_of waiters) true
 
--- RESET_EVENT: the event is down
+-- RESET_EVENT: the event goes down
 abbrev pub IsResetting : Effect Bool → Type 0
 IsResetting effect = effect ≡ gives no_error [] [] false
 
--- WAIT_EVENT: an event that is up lets its caller go on; else it cannot be had
+-- WAIT_EVENT: if the event is up, the caller goes on; else the call is unmet
 pub data IsEventWait (time_out : ℤ) (up : Bool) (effect : Effect Bool) : Type 0 where
   is_up : up ≡ true → effect ≡ gives no_error [] [] true → IsEventWait time_out up effect
   is_down : up ≡ false → IsUnmet time_out up effect → IsEventWait time_out up effect
 
--- ACQUIRE_MUTEX: a free mutex is the caller's, with count 1; its owner's count rises by one; another's cannot be had
+-- ACQUIRE_MUTEX: a free mutex becomes the caller's, with count 1; if the caller owns it, the count rises by one; if another process owns
+-- it, the call is unmet
 pub data IsAcquiring (caller : ℕ) (time_out : ℤ) (mutex : Mutex) (effect : Effect Mutex) : Type 0 where
   was_free : mutex.owner ≡ None → effect ≡ gives no_error [] [] (record mutex { owner = Some caller; count = 1 }) → IsAcquiring caller time_out mutex effect
   once_more : mutex.owner ≡ Some caller → effect ≡ gives no_error [] [] (record mutex { count = mutex.count + 1 }) → IsAcquiring caller time_out mutex effect
   of_another : (owner : ℕ) → mutex.owner ≡ Some owner → ¬ (owner ≡ caller) → IsUnmet time_out mutex effect → IsAcquiring caller time_out mutex effect
 
--- RELEASE_MUTEX: one is taken from the count; the last release hands the mutex with count 1 to the first waiter, and with no
--- waiter it is free
+-- RELEASE_MUTEX: the count falls by one; the last release hands the mutex with count 1 to the first waiter, and with no waiter the mutex
+-- becomes free
 pub data IsReleasing (mutex : Mutex) (effect : Effect Mutex) : Type 0 where
   not_last : 1 < mutex.count → effect ≡ gives no_error [] [] (record mutex { count = mutex.count - 1 }) → IsReleasing mutex effect
   handed_on : (waiter : Entry) → mutex.count ≤ 1 → IsFirst mutex.discipline mutex.waiters waiter
       → effect ≡ gives no_error [] (waiter.who ∷ []) (record mutex { owner = Some waiter.who.proc; count = 1 }) → IsReleasing mutex effect
   freed : mutex.count ≤ 1 → mutex.waiters ≡ [] → effect ≡ gives no_error [] [] (record mutex { owner = None; count = 0 }) → IsReleasing mutex effect
 
--- WRITE_SAMPLING_MESSAGE: the message replaces the last one, stamped with the writer's time
+-- WRITE_SAMPLING_MESSAGE: the message replaces the last one and is stamped with the writer's time
 abbrev pub IsWriting : ℕ → List ℕ → Effect (Option Stamped) → Type 0
 IsWriting now message effect = effect ≡ gives no_error [] [] (Some (record { message = message; stamp = now }))
 
@@ -109,23 +111,23 @@ IsWriting now message effect = effect ≡ gives no_error [] [] (Some (record { m
 abbrev pub reads : Out → ℕ → List ℕ → Option Stamped → Effect (Option Stamped)
 reads given validity message last = record { answer = record { out = given; val = Number (pos validity); val2 = None; val3 = None; bytes = message; woken = [] }; next = last }
 
--- READ_SAMPLING_MESSAGE: of an empty channel nothing, with NO_ACTION and validity 0; else the last message, valid where its age
+-- READ_SAMPLING_MESSAGE: from an empty channel no message, with NO_ACTION and validity 0; else the last message, which is valid if its age
 -- is at most the refresh period; the message stays
 pub data IsSampling (now refresh : ℕ) (last : Option Stamped) (effect : Effect (Option Stamped)) : Type 0 where
   empty : last ≡ None → effect ≡ reads (out.Answer code.NoAction) 0 [] None → IsSampling now refresh last effect
   valid : (found : Stamped) → last ≡ Some found → now - found.stamp ≤ refresh → effect ≡ reads no_error 1 found.message (Some found) → IsSampling now refresh last effect
   too_old : (found : Stamped) → last ≡ Some found → refresh < now - found.stamp → effect ≡ reads no_error 0 found.message (Some found) → IsSampling now refresh last effect
 
--- GET_QUEUING_PORT_STATUS: how many messages there are and how many wait at the end; they stay
+-- GET_QUEUING_PORT_STATUS: how many messages there are and how many processes wait at the end; both stay
 abbrev pub tells_channel : Messages → List Entry → Effect Content
 tells_channel messages waiting = record {
   answer = record { out = no_error; val = Number (pos (length messages)); val2 = Some (pos (length waiting)); val3 = None; bytes = []; woken = [] };
   next = Queued messages;
 }
 
--- a use of a channel of its kind: a sampling channel is written and read; a queuing channel's messages go to the receivers of
--- its destination port and come from the senders of its source port, each set by its own port's discipline; a partition at one of its ends
--- gets how many wait there
+-- a use of a channel of its kind: a sampling channel is written and read; a queuing channel's messages go to the receivers of its
+-- destination port and come from the senders of its source port, each set by its own port's discipline; a partition at one of its ends
+-- learns how many processes wait there
 pub data IsUse (configuration : Configuration) (now number partition : ℕ) (channel : Channel) (how : Use) (effect : Effect Content) : Type 0 where
   writes : (message : List ℕ) (last : Option Stamped) (inner : Effect (Option Stamped)) → how ≡ Write message → channel.content ≡ Sampled last → IsWriting now message inner
       → effect ≡ effect_on Sampled inner → IsUse configuration now number partition channel how effect

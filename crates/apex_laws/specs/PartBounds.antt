@@ -15,11 +15,11 @@ use Rattle.apex_machine.specs.DueTimes.{next_release}
 use Rattle.apex_machine.specs.State.{Mutex, Partition, cold_partition, item_at, time_of}
 use Rattle.apex_laws.specs.PartLaws.{IsSoundPart}
 
--- a period that a caller gives is below this, which is 2 to the 63rd: such a number has 64 bits, and one of them is its sign
+-- a period that a caller gives is below this, which is 2 to the 63rd: such a number has 64 bits, one of which is its sign
 abbrev pub period_limit : ℕ
 period_limit = 9223372036854775808
 
--- a number of 64 bits without a sign is below this, which is 2 to the 64th
+-- an unsigned number of 64 bits is below this, which is 2 to the 64th
 abbrev pub word_limit : ℕ
 word_limit = 18446744073709551616
 
@@ -27,8 +27,8 @@ word_limit = 18446744073709551616
 abbrev pub place_limit : ℕ
 place_limit = 137438953472
 
--- the numbers of a partition are bounded before this place: no mutex was acquired more often than there were records, no process's
--- last release is later than there were records, and no period exceeds what a caller can give
+-- the numbers of a partition are bounded before this place: no mutex was acquired more often than there were records, no process's last
+-- release is later than there were records, and no period exceeds what a caller can give
 pub record IsBoundedPart (place : ℕ) (partition : Partition) : Type 0 where
   pub counts : (number : ℕ) (mutex : Mutex) → item_at partition.mutexes number ≡ Some mutex → mutex.count ≤ place
   pub releases : (number : ℕ) (process : Process) → item_at partition.table number ≡ Some process → process.last_release ≤ place
@@ -39,13 +39,13 @@ abbrev pub GivesPeriod : Request → Type 0
 GivesPeriod (request.CreateProcess name priority (pos period)) = period < period_limit
 GivesPeriod _ = Unit {0}
 
--- the period of a record fits, where it gives one
+-- if a record gives a period, it is one that a caller can give
 abbrev pub PeriodFits : Body → Type 0
 PeriodFits (Call call) = GivesPeriod call.request
 PeriodFits _ = Unit {0}
 
--- the cold partition is bounded before every place; a record whose demands hold keeps a sound partition bounded, where no core's time
--- is later than there were records; and a bounded partition is bounded before every later place
+-- the cold partition is bounded before every place; a record whose demands hold keeps a sound partition bounded, if no core's time is above
+-- the record's place; and a bounded partition is bounded before every later place
 abbrev pub PartStaysBounded : Type 0
 PartStaysBounded =
     ((configuration : Configuration) (number place : ℕ) → IsBoundedPart place (cold_partition configuration number))

@@ -1,4 +1,4 @@
--- The laws on one partition alone, for the piece that holds it: from its own demands, whatever the other pieces do. Each is the
+-- The laws on one partition alone, for the piece that holds it: they follow from its own demands, whatever the other pieces do. Each is the
 -- contract of a function in `src/lib.rt`.
 use Rattle.std.specs.Prelude.{◌≡◌, ◌≤◌, ◌<◌, ℕ, ◌+◌, List, [], ◌∷◌, ◌++◌, Option, None, if◌then◌else◌, Bool, true, false, IsTrue, IsFalse, ◌||◌}
 use Rattle.apex_types.specs.declared.object_kind.ObjectKind.{ObjectKind}
@@ -16,7 +16,7 @@ use Rattle.apex_machine.specs.declared.state.WaitingSet.TheVariants as set
 use Rattle.apex_machine.specs.After.{partition_after, partition_by}
 use Rattle.apex_machine.specs.Arguments.{natural_of}
 use Rattle.apex_machine.specs.Configuration.{Configuration}
-use Rattle.apex_machine.specs.Demands.{AllHold, IsRunning, own_call_demands, partition_demands, stands_in}
+use Rattle.apex_machine.specs.Demands.{AllHold, IsRunning, own_call_demands, partition_demands, has_entry_in}
 use Rattle.apex_machine.specs.Pieces.{stops_some}
 use Rattle.apex_machine.specs.Ports.{channel_of}
 use Rattle.apex_machine.specs.Services.{answer_of}
@@ -26,7 +26,7 @@ use Rattle.apex_laws.specs.Laws.{AllEntries, IsInOrder, are_distinct, entries_at
 
 -- a sound partition
 
--- no two objects or ports of a kind have one number
+-- no two objects or ports of a kind have the same number
 abbrev pub HasDistinctObjects : Partition → Type 0
 HasDistinctObjects partition = (kind : ObjectKind) → IsTrue (are_distinct (objects_of partition kind))
 
@@ -36,16 +36,17 @@ is_of_channel (set.ChannelSenders channel) = true
 is_of_channel (set.ChannelReceivers channel) = true
 is_of_channel _ = false
 
--- a partition's waiting sets are sound before this place: numbers are distinct; who stands in one of its sets is a process of
--- it that waits there; every set is in order; and each process that waits in a set of one of its objects stands in it
+-- a partition's waiting sets are sound before this place: numbers are distinct; each process with an entry in one of the sets is of this
+-- partition and waits in the set; every set is in order; and each process that waits in a set of one of the partition's objects has an
+-- entry in it
 pub record IsSoundPart (number place : ℕ) (partition : Partition) : Type 0 where
   pub distinct : IsTrue (are_distinct partition.table)
   pub objects : HasDistinctObjects partition
-  pub stands : (wanted : WaitingSet)
+  pub is_member : (wanted : WaitingSet)
       → AllEntries (λ entry. (entry.who.part ≡ number) × IsTrue (waits_at wanted (item_at partition.table entry.who.proc))) (entries_at partition wanted)
   pub order : (wanted : WaitingSet) → IsInOrder place (entries_at partition wanted)
   pub waiters : (wanted : WaitingSet) (process : ℕ) → IsFalse (is_of_channel wanted) → IsTrue (waits_at wanted (item_at partition.table process))
-      → IsTrue (stands_in (record { part = number; proc = process }) (entries_at partition wanted))
+      → IsTrue (has_entry_in (record { part = number; proc = process }) (entries_at partition wanted))
 
 -- the cold partition is sound; a record whose demands hold keeps a partition sound; and a sound partition is sound before every
 -- later place
@@ -59,13 +60,13 @@ PartStaysSound =
 
 -- own calls
 
--- a process that runs on a core of a sound partition stands in none of the partition's waiting sets, and all places in them are
--- below this one
-abbrev pub RunningStandsNowhere : Type 0
-RunningStandsNowhere =
+-- a process that runs on a core of a sound partition has no entry in any of the partition's waiting sets, and all places in them are below
+-- this one
+abbrev pub RunningIsInNoSet : Type 0
+RunningIsInNoSet =
     (number place core : ℕ) (cores : List CoreState) (partition : Partition) (who : Who)
     → IsSoundPart number place partition → IsRunning number cores partition.table core who
-    → (wanted : WaitingSet) → IsFalse (stands_in who (entries_at partition wanted)) × AllEntries (λ entry. entry.place < place) (entries_at partition wanted)
+    → (wanted : WaitingSet) → IsFalse (has_entry_in who (entries_at partition wanted)) × AllEntries (λ entry. entry.place < place) (entries_at partition wanted)
 
 -- a call of one of a sound partition's own processes, all of whose demands hold
 pub record IsOwnCall (configuration : Configuration) (number place core : ℕ) (cores : List CoreState) (partition : Partition) (call : CallRecord) : Type 0 where
@@ -73,12 +74,12 @@ pub record IsOwnCall (configuration : Configuration) (number place core : ℕ) (
   pub own : call.who.part ≡ number
   pub demands : AllHold (own_call_demands configuration number cores partition core call)
 
--- whether a waiting set is one of the two of a buffer
+-- whether a waiting set is one of a buffer's two sets
 abbrev pub is_of_buffer : ℕ → WaitingSet → Bool
 is_of_buffer number wanted = is_same_set (set.BufferSenders number) wanted || is_same_set (set.BufferReceivers number) wanted
 
--- whether a request uses a waiting set: one of the object that it names; CLEAR_BLACKBOARD and RESET_EVENT use none, and the sets
--- that the services of queuing ports use are channels', which no partition holds
+-- whether a request uses a waiting set of the object that it names; CLEAR_BLACKBOARD and RESET_EVENT use none, and the services of queuing
+-- ports use sets of channels, which no partition holds
 abbrev pub is_set_used : Request → WaitingSet → Bool
 is_set_used (request.Buffer buffer operation) wanted = is_of_buffer (natural_of buffer) wanted
 is_set_used (request.Blackboard blackboard BlackboardOperation.Clear) wanted = false
@@ -90,15 +91,15 @@ is_set_used (request.Mutex mutex operation) wanted = is_same_set (set.MutexWaite
 is_set_used (request.QueuingPort port operation) wanted = is_of_channel wanted
 is_set_used _ wanted = false
 
--- an own call that stops no process leaves every waiting set that its request doesn't use
+-- an own call that stops no process leaves unchanged every waiting set that its request does not use
 abbrev pub OtherSetsStay : Type 0
 OtherSetsStay =
     (configuration : Configuration) (number place core : ℕ) (cores : List CoreState) (partition : Partition) (call : CallRecord)
     → IsOwnCall configuration number place core cores partition call → IsFalse (stops_some call)
     → (wanted : WaitingSet) → IsFalse (is_set_used call.request wanted) → set_after place (Call call) wanted (entries_at partition wanted) ≡ entries_at partition wanted
 
--- an own call that doesn't answer NO_ERROR and is no restart ends no wait in the partition: a caller that waits enters its set at the
--- end, and all else stays
+-- an own call that does not answer NO_ERROR and is no restart ends no wait in the partition: a caller that waits enters its set at the end,
+-- and all else stays
 abbrev pub OnlyDoneLetsGo : Type 0
 OnlyDoneLetsGo =
     (configuration : Configuration) (number place core : ℕ) (cores : List CoreState) (partition : Partition) (call : CallRecord)
@@ -106,8 +107,8 @@ OnlyDoneLetsGo =
     → (wanted : WaitingSet) → set_after place (Call call) wanted (entries_at partition wanted)
     ≡ (if enters call wanted then entries_at partition wanted ++ entry_of place call ∷ [] else entries_at partition wanted)
 
--- an own call that answers NO_ERROR, is no STOP and goes through no channel ends the waits that its service's answer names: those
--- leave, and nobody enters
+-- an own call that answers NO_ERROR, is no STOP and goes through no channel ends the waits of the processes that its service's answer
+-- names: those leave, and no process enters
 abbrev pub LetsGoAsAnswered : Type 0
 LetsGoAsAnswered =
     (configuration : Configuration) (number place core : ℕ) (cores : List CoreState) (partition : Partition) (call : CallRecord)
@@ -118,8 +119,8 @@ LetsGoAsAnswered =
 
 -- ticks
 
--- at a tick a waiting set stays in which no process waits that is named; so it is enough that each process that is named leaves the
--- set that its wait names
+-- a tick leaves a waiting set unchanged if no process that the tick names waits in it; so it is enough that each process that is named
+-- leaves the set that its wait names
 abbrev pub DueLeave : Type 0
 DueLeave =
     (number place : ℕ) (partition : Partition) (woken : List Who) → IsSoundPart number place partition
@@ -129,11 +130,12 @@ DueLeave =
 
 -- other records
 
--- a partition is as before but for its processes: its mode, its objects with their waiting sets, and its ports stay
+-- a partition is as before except for its processes: its mode, its objects with their waiting sets, and its ports stay
 abbrev pub OnlyProcessesChange : Partition → Partition → Type 0
 OnlyProcessesChange before after = after ≡ record before { table = after.table }
 
--- calls of other partitions, returns and dispatches leave a partition's objects, waiting sets and ports; a dispatch leaves all
+-- calls of other partitions, returns and dispatches leave a partition's objects, waiting sets and ports unchanged; a dispatch leaves
+-- everything unchanged
 abbrev pub ForeignCallsLeaveSets : Type 0
 ForeignCallsLeaveSets =
     (configuration : Configuration) (cores : List CoreState) (place core number : ℕ) (partition : Partition)

@@ -1,5 +1,5 @@
--- What a call makes of the objects of its caller's partition: the one object that it names changes, with its waiting sets, and all
--- others stay as they are.
+-- What a call makes of the objects of its caller's partition: the one object that it names changes, with its waiting sets, and all others
+-- stay.
 use Rattle.std.specs.Prelude.{◌≡◌, ℕ, ℤ, IsFalse, IsTrue, List, [], ◌∷◌, ◌++◌, Some, if◌then◌else◌}
 use Rattle.apex_types.specs.declared.object_kind.ObjectKind.{ObjectKind}
 use Rattle.apex_types.specs.declared.object_kind.ObjectKind.TheVariants as kind
@@ -28,16 +28,17 @@ use Rattle.apex_machine.specs.Waiting.{is_in, is_no_error, set_after, without}
 use Rattle.apex_laws.specs.Laws.{entries_at}
 use Rattle.apex_laws.specs.PartLaws.{IsOwnCall, IsSoundPart}
 
--- the objects of a kind, and this one under the number that the call claims, where it is done
+-- the objects of a kind, and this one under the number that the call claims, if the call is done
 abbrev pub created_if_done : {Object : Type 0} → CallRecord → Object → List (ℕ × Object) → List (ℕ × Object)
 created_if_done call new objects = if is_done call.claim.out then objects ++ numbered call.claim.val new else objects
 
--- an object of a kind after the call: what it holds as its rule leaves it, where the call is done, and its waiting sets by whom the call
--- lets go on and who enters
+-- an object of a kind after the call: if the call is done, its content is as its rule leaves it; its waiting sets change by the processes
+-- whose waits the call ends and by the one that enters
 abbrev pub used_by : (kind : ObjectKind) → ℕ → CallRecord → ℕ → (ObjectOf kind → ObjectOf kind) → ObjectOf kind → ObjectOf kind
 used_by kind place call number rule found = with_sets kind (set_after place (Call call)) number (if is_done call.claim.out then rule found else found)
 
--- the partition with the one object that a request names changed, or with what it creates; any other request leaves all objects
+-- the partition with the one object changed that a request names, or with what the request creates; any other request leaves all objects
+-- unchanged
 abbrev pub objects_changed : Configuration → ℕ → CallRecord → Request → Partition → Partition
 objects_changed configuration place call (request.Buffer buffer operation) partition = record partition {
   buffers = change_at (natural_of buffer) (used_by kind.Buffer place call (natural_of buffer) (λ found. (buffer_effect operation found).next)) partition.buffers;
@@ -84,15 +85,15 @@ objects_changed configuration place call (request.SamplingPort port SamplingOper
 }
 objects_changed configuration place call _ partition = partition
 
--- an own call that stops no process changes the one object that it names or adds the one that it creates, and leaves all other
--- objects and ports
+-- an own call that stops no process changes the one object that it names or adds the one that it creates, and leaves all other objects and
+-- ports unchanged
 abbrev pub OneObjectChanges : Type 0
 OneObjectChanges =
     (configuration : Configuration) (number place core : ℕ) (cores : List CoreState) (partition : Partition) (call : CallRecord)
     → IsOwnCall configuration number place core cores partition call → IsFalse (stops_some call)
     → (asked : Request) → call.request ≡ asked → objects_called configuration place call partition ≡ objects_changed configuration place call asked partition
 
--- an own call that isn't done leaves all objects, waiting sets and ports
+-- an own call that is not done leaves all objects, waiting sets and ports unchanged
 abbrev pub RefusedLeavesObjects : Type 0
 RefusedLeavesObjects =
     (configuration : Configuration) (number place core : ℕ) (cores : List CoreState) (partition : Partition) (call : CallRecord)
@@ -100,7 +101,7 @@ RefusedLeavesObjects =
 
 -- a STOP that is done
 
--- the partition with one waiting set of its objects changed; a channel's is no partition's
+-- the partition with one waiting set of its objects changed; a channel's set is not a partition's
 abbrev pub with_set : WaitingSet → (List Entry → List Entry) → Partition → Partition
 with_set (set.BufferSenders number) change partition = record partition { buffers = change_at number (λ found. record found { senders = change found.senders }) partition.buffers }
 with_set (set.BufferReceivers number) change partition = record partition { buffers = change_at number (λ found. record found { receivers = change found.receivers }) partition.buffers }
@@ -115,12 +116,12 @@ with_set (set.ChannelReceivers channel) change partition = partition
 abbrev pub without_one : Who → List Entry → List Entry
 without_one who entries = without (λ other. is_same other who) entries
 
--- the partition whose process leaves the waiting set that its wait names, if it names one
+-- the partition after this process leaves the waiting set that its wait names, if it names one
 abbrev pub left_by : Who → Wait → Partition → Partition
 left_by who (wait.At wanted due) partition = with_set wanted (without_one who) partition
 left_by who _ partition = partition
 
--- a STOP that is done takes its target out of the one waiting set that its wait names: nobody else leaves or enters, and all other
+-- a STOP that is done takes its target out of the one waiting set that its wait names: no other process leaves or enters, and all other
 -- sets, objects and ports stay
 abbrev pub StoppedLeaves : Type 0
 StoppedLeaves =
@@ -133,14 +134,14 @@ StoppedLeaves =
 
 -- ticks
 
--- the partition after those processes of a table that are named left, one after another, each the waiting set that its wait names
+-- the partition after each process of a table that is named leaves, one after another, the waiting set that its wait names
 abbrev pub all_left : ℕ → List Who → Table → Partition → Partition
 all_left number woken [] partition = partition
 all_left number woken (entry ∷ entries) partition =
     let who : Who = record { part = number; proc = entry.0 } in
     all_left number woken entries (if is_named who woken then left_by who entry.1.wait partition else partition)
 
--- a tick changes the waiting sets of a sound partition so: each process that is named leaves the one that its wait names
+-- a tick changes the waiting sets of a sound partition in this way: each process that is named leaves the set that its wait names
 abbrev pub EachLeavesItsSet : Type 0
 EachLeavesItsSet =
     (number place : ℕ) (partition : Partition) (woken : List Who) → IsSoundPart number place partition

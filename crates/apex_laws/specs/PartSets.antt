@@ -1,5 +1,5 @@
--- The waiting sets of a sound partition, for the code that changes them one after another: by a call, by one process that leaves, and by
--- the processes that a tick names. Each law is the contract of a function in `src/lib.rt`.
+-- The waiting sets of a sound partition, for code that changes them one after another: by a call, by one process that leaves, and by the
+-- processes that a tick names. Each law is the contract of a function in `src/lib.rt`.
 use Rattle.std.specs.Prelude.{◌≡◌, ℕ, List, [], ◌∷◌, ◌++◌, Option, Some, None, IsTrue, IsFalse, nat_eq, if◌then◌else◌}
 use Rattle.apex_types.specs.declared.record.Body.TheVariants.{Call, Tick}
 use Rattle.apex_types.specs.declared.record.Call.{Call as CallRecord}
@@ -16,8 +16,8 @@ use Rattle.apex_laws.specs.PartObjects.{left_by, without_one}
 
 -- calls
 
--- from a waiting set a call that is no STOP and no restart lets those go whom it names, and nobody else; its caller enters at the end,
--- where it waits there
+-- a call that is no STOP and no restart takes the processes that it names out of a waiting set, and no others; its caller enters at the
+-- end, if it waits in that set
 abbrev pub NamedLeave : Type 0
 NamedLeave =
     (place : ℕ) (call : CallRecord) (wanted : WaitingSet) (entries : List Entry) → stop_of call.request ≡ None → restart_of call ≡ None
@@ -27,7 +27,8 @@ NamedLeave =
 
 -- one process
 
--- a process of a sound partition stands in no waiting set but the one that its wait names: where it leaves that one, it has left all
+-- a process of a sound partition has an entry in no waiting set but the one that its wait names: once it leaves that set, it has left all
+-- sets
 abbrev pub LeavesEverySet : Type 0
 LeavesEverySet =
     (number place : ℕ) (partition : Partition) (who : Who) (process : Process) → IsSoundPart number place partition
@@ -37,20 +38,19 @@ LeavesEverySet =
 
 -- ticks
 
--- the partition whose process leaves the waiting set that its wait names, if there is such a process
+-- the partition after this process leaves the waiting set that its wait names, if there is such a process
 abbrev pub left_if_there : Who → Option Process → Partition → Partition
 left_if_there who None partition = partition
 left_if_there who (Some process) partition = left_by who process.wait partition
 
--- the partition after those processes of a list that are of this partition left, one after another, each the waiting set that its wait
--- names
+-- the partition after each process of a list that is of this partition leaves, one after another, the waiting set that its wait names
 abbrev pub named_left : ℕ → Table → List Who → Partition → Partition
 named_left number table [] partition = partition
 named_left number table (who ∷ others) partition =
     named_left number table others (if nat_eq who.part number then left_if_there who (item_at table who.proc) partition else partition)
 
--- a tick changes the waiting sets of a sound partition so: each process that it names leaves the one that its wait names, in the order
--- in which they are named
+-- a tick changes the waiting sets of a sound partition in this way: each process that it names leaves the set that its wait names, in the
+-- order in which they are named
 abbrev pub EachNamedLeaves : Type 0
 EachNamedLeaves =
     (number place : ℕ) (partition : Partition) (woken : List Who) → IsSoundPart number place partition

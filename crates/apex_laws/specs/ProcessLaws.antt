@@ -20,7 +20,7 @@ SettingIsTheSentence =
     (place period : ℕ) (cores : List CoreState) (partition : Partition) (caller : ℕ) (asked : Request) (number : ℕ) (old new : Process) → 0 < period
     → (new ≡ set_by place period cores partition caller asked number old) ↔ IsSetBy place period cores partition caller asked number old new
 
--- who falls due at a tick
+-- which processes fall due at a tick
 abbrev pub DueIsTheSentence : Type 0
 DueIsTheSentence = (core now : ℕ) (process : Process) → (falls_due core now (Some process) ≡ true) ↔ IsDue core now process
 
@@ -38,7 +38,7 @@ WakingIsTheSentence =
 abbrev pub StoppingIsTheSentence : Type 0
 StoppingIsTheSentence = (old new : Process) → (new ≡ stopped old) ↔ IsStopped old new
 
--- a caller, where a call that waits has something to wait for
+-- a caller, if a call that waits has something to wait for
 abbrev pub CallerIsTheSentence : Type 0
 CallerIsTheSentence =
     (place now : ℕ) (call : CallRecord) (old new : Process)

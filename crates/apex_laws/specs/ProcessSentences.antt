@@ -1,4 +1,4 @@
--- What becomes of a process, in sentences: one case for each sentence of the rule of a service, of the end of a wait, of a call.
+-- What becomes of a process, in sentences: one case for each sentence of the rule of a service, of the end of a wait, or of a call.
 use Rattle.std.specs.Prelude.{◌≡◌, ◌⊎◌, ℕ, ◌+◌, ◌*◌, ◌<◌, ◌≤◌, ℤ, pos, List, [], ◌∷◌, Option, Some, None, true, false, IsFalse}
 use Rattle.apex_types.specs.declared.code.Code.{Code}
 use Rattle.apex_types.specs.declared.code.Code.TheVariants as code
@@ -36,26 +36,26 @@ pub record IsFirstRelease (period now time : ℕ) : Type 0 where
   pub above : now < time
   pub least : time ≤ now + period
 
--- who enters NORMAL: an aperiodic process waits for nothing, a periodic one for its first release
+-- a process enters NORMAL: an aperiodic one waits for nothing, a periodic one for its first release
 pub data IsEntry (partition_period now : ℕ) (period : Option ℕ) (entry : Wait) : Type 0 where
   aperiodic : period ≡ None → entry ≡ wait.Nothing → IsEntry partition_period now period entry
   periodic : (own time : ℕ) → period ≡ Some own → IsFirstRelease partition_period now time → entry ≡ wait.FirstRelease time → IsEntry partition_period now period entry
 
--- START: the current priority is the base priority; in NORMAL the process enters it at once, in any other mode it waits for it
+-- START: the current priority becomes the base priority; in NORMAL the process enters NORMAL at once, in any other mode it waits for it
 pub data IsStarted (place partition_period now : ℕ) (current : Mode) (old new : Process) : Type 0 where
   in_normal : (entry : Wait) → current ≡ mode.Normal → IsEntry partition_period now old.period entry
       → new ≡ record old { current_priority = old.base_priority; alive = true; wait = entry; ready_position = place } → IsStarted place partition_period now current old new
   before_normal : ¬ (current ≡ mode.Normal)
       → new ≡ record old { current_priority = old.base_priority; alive = true; wait = wait.NormalMode; ready_position = place } → IsStarted place partition_period now current old new
 
--- the mode NORMAL is entered: whoever waits for it enters it, and nobody else changes
+-- the mode NORMAL is entered: each process that waits for it enters it, and no other process changes
 pub data IsNormalEntered (place partition_period now : ℕ) (old new : Process) : Type 0 where
   waited : (entry : Wait) → old.wait ≡ wait.NormalMode → IsEntry partition_period now old.period entry → new ≡ record old { wait = entry; ready_position = place }
       → IsNormalEntered place partition_period now old new
   else_stays : ¬ (old.wait ≡ wait.NormalMode) → new ≡ old → IsNormalEntered place partition_period now old new
 
--- owners of mutexes: who becomes the owner retains its priority and gets the mutex's; who no longer is gets the retained one
--- back; nobody else changes
+-- owners of mutexes: a process that becomes the owner retains its priority and gets the mutex's; a process that stops being the owner gets
+-- the retained priority back; no other process changes
 pub data IsOwnerChange (before after : Option ℕ) (priority number : ℕ) (old new : Process) : Type 0 where
   becomes_owner : ¬ (before ≡ Some number) → after ≡ Some number → new ≡ record old { retained_priority = old.current_priority; current_priority = priority }
       → IsOwnerChange before after priority number old new
@@ -74,16 +74,16 @@ IsMutexChange (Some mutex) change number old new = IsOwnerChange mutex.owner (ch
 abbrev pub OnTarget : ℤ → ℕ → Type 0 → Process → Process → Type 0
 OnTarget process number Changed old new = ((process ≡ pos number) × Changed) ⊎ ((¬ (process ≡ pos number)) × (new ≡ old))
 
--- what a service sets in a process of its caller's partition, beside waits that end and its caller's wait and outcome
+-- what a service sets in a process of its caller's partition, apart from the waits that end and its caller's wait and outcome
 abbrev pub IsSetBy : ℕ → ℕ → List CoreState → Partition → ℕ → Request → ℕ → Process → Process → Type 0
 -- the core on which it runs is the one given
 IsSetBy place period cores partition caller (request.Process process (ProcessOperation.InitializeCoreAffinity core)) number old new =
     OnTarget process number (new ≡ record old { affinity = natural_of core }) old new
 IsSetBy place period cores partition caller (request.Process process ProcessOperation.Start) number old new =
     OnTarget process number (IsStarted place period (time_of cores old.affinity) partition.mode old new) old new
--- it is marked
+-- the target is marked
 IsSetBy place period cores partition caller (request.Process process ProcessOperation.Suspend) number old new = OnTarget process number (new ≡ record old { suspended = true }) old new
--- the mark is cleared, and it is ready from this place on, where it waits for nothing
+-- the mark is cleared, and the target is ready from this place on, if it waits for nothing
 IsSetBy place period cores partition caller (request.Process process ProcessOperation.Resume) number old new =
     OnTarget process number (new ≡ record old { suspended = false; ready_position = place }) old new
 -- the current priority is the one given, and the ready position is renewed
@@ -99,7 +99,7 @@ IsSetBy place period cores partition caller _ number old new = new ≡ old
 
 -- the end of a wait
 
--- the time at which a wait falls due: a release, the end of a delay, and where there is a time-out its end
+-- the time at which a wait falls due: a release, the end of a delay, or the end of a time-out, if there is one
 abbrev pub HasDueTime : Wait → ℕ → Type 0
 HasDueTime (wait.FirstRelease due) time = time ≡ due
 HasDueTime (wait.Until due) time = time ≡ due
@@ -108,7 +108,7 @@ HasDueTime (wait.Suspended (Some due)) time = time ≡ due
 HasDueTime (wait.At set (Some due)) time = time ≡ due
 HasDueTime _ time = ⊥
 
--- a process falls due on a core at a time: the core is its own, and the time has come to its due time
+-- a process falls due on a core at a time: the core is its own, and the time has reached its due time
 pub record IsDue (core now : ℕ) (process : Process) : Type 0 where
   pub affinity : process.affinity ≡ core
   pub time : ℕ
@@ -136,7 +136,7 @@ pub data IsWoken (place : ℕ) (message : List ℕ) (old new : Process) : Type 0
   suspension : (due : Option ℕ) → old.wait ≡ wait.Suspended due → new ≡ ends_with place service.SuspendSelf code.NoError message old → IsWoken place message old new
   object : (set : WaitingSet) (due : Option ℕ) → old.wait ≡ wait.At set due → new ≡ ends_with place (service_at set) code.NoError message old → IsWoken place message old new
 
--- a process that waits for another: until it is resumed, or in a waiting set
+-- a process waits for another: until it is resumed, or in a waiting set
 abbrev pub WaitsForOther : Wait → Type 0
 WaitsForOther (wait.Suspended due) = Unit {0}
 WaitsForOther (wait.At set due) = Unit {0}
@@ -148,8 +148,8 @@ IsStopped old new = new ≡ record old { alive = false; suspended = false; wait 
 
 -- the caller
 
--- what a caller waits for: TIMED_WAIT for the delay, PERIODIC_WAIT for the next release, SUSPEND_SELF for a resumption, any other
--- service in its waiting set; the last two until their time-out, if they have one
+-- what a caller waits for: TIMED_WAIT for the delay, PERIODIC_WAIT for the next release, SUSPEND_SELF for a resumption, any other service
+-- in its waiting set; the last two wait until their time-out, if they have one
 pub data IsBegun (now : ℕ) (asked : Request) (chan : Option ℕ) (process : Process) (begun : Wait) : Type 0 where
   delay : (ticks : ℕ) → asked ≡ request.Caller (CallerOperation.TimedWait (pos ticks)) → begun ≡ wait.Until (now + ticks) → IsBegun now asked chan process begun
   release : asked ≡ (request.Caller CallerOperation.PeriodicWait) → begun ≡ wait.PeriodicRelease (next_release process) → IsBegun now asked chan process begun
@@ -167,8 +167,8 @@ abbrev pub taking : Request → Process → Process
 taking (request.Caller CallerOperation.PeriodicWait) process = record process { last_release = next_release process }
 taking _ process = process
 
--- the caller after its call: it waits; it is stopped; or its outcome is due, and where NO_ERROR answers a call that renews, its
--- ready position is this place. Its core's time is noted
+-- the caller after its call: it waits; it is stopped; or its outcome is due, and if NO_ERROR answers a call that renews, its ready position
+-- is this place. The time of its core is noted
 pub data IsCaller (place now : ℕ) (call : CallRecord) (old new : Process) : Type 0 where
   waits : (begun : Wait) → call.claim.out ≡ out.Waits → IsBegun now call.request call.claim.chan old begun → new ≡ record old { wait = begun; called_at = now }
       → IsCaller place now call old new
@@ -182,8 +182,8 @@ pub data IsCaller (place now : ℕ) (call : CallRecord) (old new : Process) : Ty
 
 -- creation
 
--- CREATE_PROCESS: a dormant process of this name, priority and period, on the partition's first core; it waits for nothing, is not
--- suspended, nothing is due to it, and no release, no ready position and no call is noted
+-- CREATE_PROCESS: a dormant process of this name, priority and period, on the partition's first core; it waits for nothing, it is not
+-- suspended, nothing is due to it, and no release, ready position or call is noted
 pub record IsCreated (core : ℕ) (called : List ℕ) (priority : ℕ) (given_period : Option ℕ) (new : Process) : Type 0 where
   pub name : new.name ≡ called
   pub base_priority : new.base_priority ≡ priority
@@ -206,19 +206,19 @@ pub data IsOverOrWaits (Over : Type 0) (answer : Answer) : Type 0 where
   over : Over → answer ≡ done → IsOverOrWaits Over answer
   later : ¬ Over → answer ≡ waiting → IsOverOrWaits Over answer
 
--- a periodic process has come to its next release: its period after the last one
+-- a periodic process has reached its next release, one period after the last one
 abbrev pub IsAtRelease : ℕ → Option Process → Type 0
 IsAtRelease now None = ⊥
 IsAtRelease now (Some process) = next_release process ≤ now
 
--- RESUME ends the wait of a target that suspended itself; of any other it clears the mark alone
+-- RESUME ends the wait of a target that suspended itself; for any other target it only clears the mark
 pub data IsResuming (target : Who) (found : Option Process) (answer : Answer) : Type 0 where
   suspended_itself : (process : Process) (due : Option ℕ) → found ≡ Some process → process.wait ≡ wait.Suspended due → answer ≡ waking (target ∷ []) → IsResuming target found answer
   was_marked : (process : Process) → found ≡ Some process → ((due : Option ℕ) → ¬ (process.wait ≡ wait.Suspended due)) → answer ≡ done → IsResuming target found answer
   nobody : found ≡ None → answer ≡ done → IsResuming target found answer
 
--- what the caller of a service of process management or time gets, where no error condition holds; of the other services
--- their objects' rules tell it
+-- what the caller of a service of process management or time gets, if no error condition holds; for the other services the rules of their
+-- objects say it
 abbrev pub IsAnswer : ℕ → Who → Partition → Request → Answer → Type 0
 IsAnswer now who partition (request.Caller CallerOperation.StopSelf) answer = answer ≡ never
 IsAnswer now who partition (request.Caller (CallerOperation.SuspendSelf time_out)) answer = IsOverOrWaits (time_out ≡ pos 0) answer

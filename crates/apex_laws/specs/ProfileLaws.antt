@@ -1,4 +1,4 @@
--- Which calls stand outside the profile, in sentences.
+-- Which calls are outside the profile, in sentences.
 use Rattle.std.specs.Prelude.{◌≡◌, ◌↔◌, ℕ, ℤ, Option, Some, false}
 use Rattle.apex_types.specs.declared.record.Who.{Who}
 use Rattle.apex_types.specs.declared.operation.{CallerOperation.CallerOperation, ProcessOperation.ProcessOperation}
@@ -19,12 +19,12 @@ IsOwner partition process = (held : ℕ) × Owns partition process held
 -- a process waits for a mutex
 pub record AwaitsMutex (partition : Partition) (number : ℕ) : Type 0 where
   pub process : Process
-  pub stands : item_at partition.table number ≡ Some process
+  pub is_member : item_at partition.table number ≡ Some process
   pub mutex : ℕ
   pub due : Option ℕ
   pub waits : process.wait ≡ wait.At (set.MutexWaiters mutex) due
 
--- a call stands outside the profile, where no error condition holds for it
+-- a call is outside the profile, if no error condition holds for it
 module _ (who : Who) (partition : Partition) where
   pub data IsOutsideProfile : Request → Type 0 where
     -- the stop of the owner of a mutex
@@ -39,7 +39,7 @@ module _ (who : Who) (partition : Partition) where
     owner_is_changed : {process priority : ℤ} → IsOwner partition (natural_of process) → IsOutsideProfile (request.Process process (ProcessOperation.SetPriority priority))
     waiter_is_changed : {process priority : ℤ} → AwaitsMutex partition (natural_of process) → IsOutsideProfile (request.Process process (ProcessOperation.SetPriority priority))
 
--- a call is not in the profile exactly where a sentence puts it outside
+-- a call is outside the profile exactly if a sentence puts it there
 abbrev pub ProfileIsTheSentence : Type 0
 ProfileIsTheSentence =
     (who : Who) (partition : Partition) (asked : Request)

@@ -52,8 +52,8 @@ SetIsTheSentence =
     (place : ℕ) (call : CallRecord) (wanted : WaitingSet) (old new : List Entry)
     → (new ≡ set_after place (Call call) wanted old) ↔ IsSetAfterCall place call wanted old new
 
--- any call that restarts no partition, in a tied state whose waiting sets are in order, as every state of a run is; the partitions'
--- periods are above 0
+-- any call that restarts no partition, in a tied state whose waiting sets are in order, as they are in every state of a run; the
+-- partitions' periods are above 0
 abbrev pub CallIsTheSentence : Type 0
 CallIsTheSentence =
     (configuration : Configuration) (state : State) (ordered : Ordered) (call : CallRecord) (next : State)

@@ -35,7 +35,7 @@ use Rattle.apex_laws.specs.ProcessSentences.{IsCaller, IsCreated, IsDue, IsRelea
 abbrev pub process_in : State → Who → Option Process
 process_in state who = item_at (state.partitions who.part).table who.proc
 
--- this process stands in the state, and in the next one it stands changed in this way
+-- this process exists in the state, and in the next state it has changed in this way
 pub record Turns (Change : Process → Process → Type 0) (state next : State) (who : Who) : Type 0 where
   pub old : Process
   pub new : Process
@@ -49,19 +49,19 @@ Stays state next who = process_in next who ≡ process_in state who
 
 -- partitions and channels
 
--- a partition is as before, but for its processes
+-- a partition is as before, except for its processes
 abbrev pub RestStays : State → State → ℕ → Type 0
 RestStays state next number = OnlyProcessesChange (state.partitions number) (next.partitions number)
 
--- a partition's objects and ports without those who wait
+-- a partition's objects and ports without the processes that wait
 abbrev pub emptied : Partition → Partition
 emptied partition = each_set (λ wanted entries. []) (record partition { table = [] })
 
--- a partition's mode, objects and ports are as before, but for its processes and for those who wait
+-- a partition's mode, objects and ports are as before, except for its processes and for those that wait
 abbrev pub ObjectsStay : State → State → ℕ → Type 0
 ObjectsStay state next number = emptied (next.partitions number) ≡ emptied (state.partitions number)
 
--- two partitions have the same objects and ports, but for those who wait
+-- two partitions have the same objects and ports, except for the processes that wait
 abbrev pub ObjectsAre : Partition → Partition → Type 0
 ObjectsAre one other = emptied (record one { mode = other.mode }) ≡ emptied other
 
@@ -71,14 +71,14 @@ ChannelsStay state next = (number : ℕ) → next.channels number ≡ state.chan
 
 -- waiting sets
 
--- of a set those stay who don't leave, in their order
+-- entries whose processes do not leave stay in the set, in their order
 abbrev pub KeepsOnly : (Who → Type 0) → List Entry → List Entry → Type 0
 KeepsOnly Leaves [] new = new ≡ []
 KeepsOnly Leaves (entry ∷ entries) new =
     (Leaves entry.who × KeepsOnly Leaves entries new)
     ⊎ ((rest : List Entry) × (¬ Leaves entry.who) × (new ≡ entry ∷ rest) × KeepsOnly Leaves entries rest)
 
--- a set after a call: those leave whose wait the call ends, and a caller that waits there enters at the end
+-- a set after a call: each process whose wait the call ends leaves, and a caller that waits in the set enters at the end
 pub record IsSetAfterCall (place : ℕ) (call : CallRecord) (wanted : WaitingSet) (old new : List Entry) : Type 0 where
   pub rest : List Entry
   pub kept : KeepsOnly (λ who. IsTrue (ends_wait call who)) old rest
@@ -86,7 +86,7 @@ pub record IsSetAfterCall (place : ℕ) (call : CallRecord) (wanted : WaitingSet
 
 -- dispatches
 
--- a dispatch: the core is this process's, or stands idle; nothing else changes
+-- a dispatch: the core is given to this process, or is idle; nothing else changes
 pub record IsDispatchOf (core : ℕ) (who : Option Who) (state next : State) : Type 0 where
   pub occupant : occupant_of next.cores core ≡ who
   pub occupants : (other : ℕ) → ¬ (other ≡ core) → occupant_of next.cores other ≡ occupant_of state.cores other
@@ -97,7 +97,7 @@ pub record IsDispatchOf (core : ℕ) (who : Option Who) (state next : State) : T
 
 -- ticks
 
--- the time of one core is one more; the times of the others and all occupants are as before
+-- the time of one core rises by one; the times of the others and all occupants are as before
 pub record OneMoreTick (core : ℕ) (cores after : List CoreState) : Type 0 where
   pub time : time_of after core ≡ time_of cores core + 1
   pub others : (other : ℕ) → ¬ (other ≡ core) → time_of after other ≡ time_of cores other
@@ -108,11 +108,11 @@ pub record OneMoreTick (core : ℕ) (cores after : List CoreState) : Type 0 wher
 pub record FallsDue (configuration : Configuration) (state : State) (core now : ℕ) (who : Who) : Type 0 where
   pub configured : IsTrue (has_partition configuration who.part)
   pub process : Process
-  pub stands : process_in state who ≡ Some process
+  pub is_member : process_in state who ≡ Some process
   pub due : IsDue core now process
 
--- a tick of a core: those of its processes that fall due at its new time are released and leave their waiting sets; all other
--- processes, all modes, objects, ports and contents of channels are as before
+-- a tick of a core: the processes of the core that fall due at its new time are released and leave their waiting sets; all other processes,
+-- all modes, objects, ports and contents of channels are as before
 pub record IsTickOf (configuration : Configuration) (core place : ℕ) (state next : State) : Type 0 where
   pub cores : OneMoreTick core state.cores next.cores
   pub over : (who : Who) → FallsDue configuration state core (time_of state.cores core + 1) who → Turns (IsReleased place) state next who
@@ -134,11 +134,11 @@ pub record OnlyChanges (Change : Process → Process → Type 0) (who : Who) (st
   pub channels : ChannelsStay state next
   pub cores : next.cores ≡ state.cores
 
--- a return: nothing is due to the returner any more
+-- a return: nothing is due to the returner any longer
 abbrev pub HasReturned : Process → Process → Type 0
 HasReturned old new = new ≡ record old { due = None }
 
--- a refused call: the code is due to the caller, with no value and no message, and its core's time is noted
+-- a refused call: the code is due to the caller, with no value and no message, and the time of its core is noted
 abbrev pub HasRefusal : Service → Code → ℕ → Process → Process → Type 0
 HasRefusal of given now old new = new ≡ record old { due = Some (record { service = of; code = given; val = None; val2 = None; val3 = None; bytes = [] }); called_at = now }
 
@@ -157,13 +157,13 @@ IsSetIfDone configuration state place call number old set =
     × IsSetBy place (period_of configuration call.who.part) state.cores (state.partitions call.who.part) call.who.proc call.request number old set)
     ⊎ (IsFalse (is_done call.claim.out) × (set ≡ old))
 
--- a process of the caller's partition: what the call sets, and then this
+-- a process of the caller's partition: what the call sets, and then this change
 pub record SetAnd (configuration : Configuration) (state : State) (place : ℕ) (call : CallRecord) (number : ℕ) (Next : Process → Process → Type 0) (old new : Process) : Type 0 where
   pub set : Process
   pub first : IsSetIfDone configuration state place call number old set
   pub second : Next set new
 
--- a process that was not there: CREATE_PROCESS that is done puts one under the number that it claims, and no other call adds one
+-- a process that did not exist: a CREATE_PROCESS that is done adds one under the number that it claims, and no other call adds one
 pub data IsAdded (configuration : Configuration) (call : CallRecord) (number : ℕ) (found : Option Process) : Type 0 where
   created : (name : List ℕ) (priority period : ℤ) (new : Process) → call.request ≡ request.CreateProcess name priority period → IsTrue (is_done call.claim.out)
       → call.claim.val ≡ Some (pos number) → found ≡ Some new → IsCreated (first_core configuration call.who.part) name (natural_of priority) (period_given period) new
@@ -171,7 +171,8 @@ pub data IsAdded (configuration : Configuration) (call : CallRecord) (number : �
   not_created : ((name : List ℕ) (priority period : ℤ) → call.request ≡ request.CreateProcess name priority period → IsTrue (is_done call.claim.out) → ¬ (call.claim.val ≡ Some (pos number)))
       → found ≡ None → IsAdded configuration call number found
 
--- a call through a channel: the channel gives the outcome, the values, the message and those whose waits end, by the rule of its use
+-- a call through a channel: the channel gives the outcome, the values, the message and the processes whose waits end, by the rule of its
+-- use
 pub record GoesThrough (configuration : Configuration) (now number : ℕ) (call : CallRecord) (channel next : Channel) : Type 0 where
   pub how : Use
   pub uses : use_of call.request ≡ Some how
@@ -187,11 +188,11 @@ pub record GoesThrough (configuration : Configuration) (now number : ℕ) (call 
 abbrev pub IsSame : Process → Process → Type 0
 IsSame set new = new ≡ set
 
--- a call that restarts no partition. In the caller's partition: the caller is as its call leaves it; a process that the call stops is stopped; another that it
--- names is woken; any other has what the call sets in it, if anything. In every other partition: a process that it names is woken,
--- any other stays; only CREATE_PROCESS adds one. The objects and ports of the caller's partition are as their rules leave them, those of the others stay, and
--- every waiting set changes by those whose wait ends and by a caller that waits there. The channel that the call goes through gives its
--- outcome; the contents of the others stay, and so do the cores
+-- a call that restarts no partition. In the caller's partition, the caller is as its call leaves it; a process that the call stops is
+-- stopped; another that it names is woken; any other has what the call sets in it, if anything. In every other partition, a process that
+-- the call names is woken, and any other stays. Only CREATE_PROCESS adds a process. The objects and ports of the caller's partition are as
+-- their rules leave them, and those of the others stay. Processes whose waits end leave their waiting sets, and a caller that waits enters
+-- its set. The channel through which the call goes gives its outcome; the contents of the others stay, and so do the cores
 pub record IsCallOf (configuration : Configuration) (place now : ℕ) (call : CallRecord) (state next : State) : Type 0 where
   pub caller : Turns (SetAnd configuration state place call call.who.proc (IsCaller place now call)) state next call.who
   pub stopped : (who : Who) (old : Process) → who.part ≡ call.who.part → ¬ (who ≡ call.who) → process_in state who ≡ Some old → IsTrue (stops call who)
@@ -224,7 +225,7 @@ pub data Restarts (call : CallRecord) : Mode → Type 0 where
   to_cold_start : call.request ≡ request.SetPartitionMode (pos 1) → call.claim.out ≡ out.Never → Restarts call mode.ColdStart
   to_warm_start : call.request ≡ request.SetPartitionMode (pos 2) → call.claim.out ≡ out.Never → Restarts call mode.WarmStart
 
--- the initialising process of a partition that starts at this place: ready since then on this core, nothing due to it
+-- the initialising process of a partition that starts at this place: ready from then on, on this core, with nothing due to it
 pub record IsInitialising (core place : ℕ) (process : Process) : Type 0 where
   pub ready : IsReady core process
   pub position : process.ready_position ≡ place
@@ -239,8 +240,8 @@ IsStart _ core place table =
     ((process : Process) × (item_at table 0 ≡ Some process) × IsInitialising core place process)
     × ((number : ℕ) → ¬ (number ≡ 0) → item_at table number ≡ None)
 
--- a restart of a partition in a mode: it starts anew, without objects and ports; its processes leave the waiting sets of all channels;
--- what the channels hold, the other partitions and the cores are as before
+-- a restart of a partition in a mode: it starts anew, without objects and ports; its processes leave the waiting sets of all channels; the
+-- contents of channels, the other partitions and the cores are as before
 pub record IsRestartOf (configuration : Configuration) (place : ℕ) (entered : Mode) (part : ℕ) (state next : State) : Type 0 where
   pub mode : (next.partitions part).mode ≡ entered
   pub processes : IsStart entered (first_core configuration part) place (next.partitions part).table

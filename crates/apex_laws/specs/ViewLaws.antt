@@ -16,20 +16,20 @@ abbrev pub piece_views : (configuration : Configuration) (piece : Piece) (old : 
 piece_views configuration piece old [] final run = []
 piece_views configuration piece old (ordered ∷ others) final run = view_in old ordered ∷ piece_views configuration piece run.0 others final run.2
 
--- record by record, a piece gives the view of each record that it judges, and none of any other
+-- record by record, a piece gives the view of each record that it judges, and no view of any other
 abbrev pub AreOfItsRecords : Piece → List Ordered → List View → List (Option View) → Type 0
 AreOfItsRecords piece [] [] [] = Unit {0}
 AreOfItsRecords piece (ordered ∷ others) (view ∷ views) (given ∷ more) =
     (piece ≡ judge ordered → given ≡ Some view) × (¬ (piece ≡ judge ordered) → given ≡ None) × AreOfItsRecords piece others views more
 AreOfItsRecords piece records views given = ⊥
 
--- the piece that judges each record is a configured one
+-- the piece that judges each record is configured
 abbrev pub AreJudged : Configuration → List Ordered → Type 0
 AreJudged configuration [] = Unit {0}
 AreJudged configuration (ordered ∷ others) = IsTrue (is_configured configuration (judge ordered)) × AreJudged configuration others
 
--- runs of all pieces are one run of the machine, and the views that the pieces give over their runs are those of its records: of
--- each record one configured piece gives the view, the one that judges it, and no other piece gives one
+-- runs of all pieces are one run of the machine, and the views that the pieces give over their runs are those of the run's records: the one
+-- configured piece that judges a record gives its view, and no other piece gives one
 abbrev pub ViewsAreOfTheRun : Type 0
 ViewsAreOfTheRun =
     (configuration : Configuration) (state : State) (records : List Ordered) (reached : Piece → Part)

@@ -30,8 +30,8 @@ kind_number (Ret ret) = 1
 kind_number (Disp who) = 2
 kind_number (Tick woken) = 3
 
--- the number of a service and of an outcome is its place in these lists, so that no two have one number; and a view's kind is
--- that of its record
+-- the number of a service or of an outcome is its place in these lists, so that no two have the same number; and a view's kind is that of
+-- its record
 pub record NumbersTell : Type 0 where
   pub service_place : (service : Service) → slice_get services_by_number (service_number service - 1) ≡ Some service
   pub service_least : (service : Service) → 1 ≤ service_number service

@@ -1,4 +1,4 @@
--- Waits: at which waiting set a call waits, and how a wait with a time-out ends.
+-- Waits: in which waiting set a call waits, and how a wait with a time-out ends.
 use Rattle.std.specs.Prelude.{◌≡◌, ◌↔◌, ℕ, ◌+◌, ◌≤◌, ℤ, pos, negsuc, List, [], Option, Some, None, true, false}
 use Rattle.apex_types.specs.declared.code.Code.TheVariants as code
 use Rattle.apex_types.specs.declared.record.Call.{Call as CallRecord}
@@ -16,7 +16,7 @@ use Rattle.apex_machine.specs.Processes.{caller_after, released}
 use Rattle.apex_machine.specs.Waiting.{enters}
 use Rattle.apex_laws.specs.ConditionSentences.{HasTimeOut}
 
--- the waiting set of a service: that of the object which it names, or that of its end of the channel which its call claims
+-- the waiting set of a service: that of the object that it names, or that of its end of the channel that its call claims
 pub data WaitsIn : Request → Option ℕ → WaitingSet → Type 0 where
   sends_to_buffer : {buffer length time_out : ℤ} {message : List ℕ} {chan : Option ℕ} → WaitsIn (request.Buffer buffer (BufferOperation.Send length time_out message)) chan (set.BufferSenders (natural_of buffer))
   receives_from_buffer : {buffer time_out : ℤ} {chan : Option ℕ} → WaitsIn (request.Buffer buffer (BufferOperation.Receive time_out)) chan (set.BufferReceivers (natural_of buffer))
@@ -27,14 +27,14 @@ pub data WaitsIn : Request → Option ℕ → WaitingSet → Type 0 where
   sends_through : {port length time_out : ℤ} {message : List ℕ} {channel : ℕ} → WaitsIn (request.QueuingPort port (QueuingOperation.Send length time_out message)) (Some channel) (set.ChannelSenders channel)
   receives_through : {port time_out : ℤ} {channel : ℕ} → WaitsIn (request.QueuingPort port (QueuingOperation.Receive time_out)) (Some channel) (set.ChannelReceivers channel)
 
--- a call enters a waiting set exactly where it waits, and the set is its service's
+-- a call enters a waiting set exactly if it waits, and the set is its service's
 abbrev pub EnteringIsTheSentence : Type 0
 EnteringIsTheSentence =
     (call : CallRecord) (wanted : WaitingSet)
     → (enters call wanted ≡ true) ↔ ((call.claim.out ≡ out.Waits) × WaitsIn call.request call.claim.chan wanted)
 
--- a call that waits in a set with a time-out of some ticks: the caller falls due on its core exactly from the end of the time-out on,
--- and then its service returns TIMED_OUT; with a time-out of -1 it never falls due
+-- a call that waits in a set with a time-out of some ticks: the caller falls due on its core exactly from the end of the time-out on, and
+-- its service then returns TIMED_OUT; with a time-out of -1 it never falls due
 abbrev pub TimeOutIsTheSentence : Type 0
 TimeOutIsTheSentence =
     (place now : ℕ) (call : CallRecord) (wanted : WaitingSet) (old : Process) → call.claim.out ≡ out.Waits → WaitsIn call.request call.claim.chan wanted

@@ -1,4 +1,4 @@
--- Worked recordings: small modules, and what the machine makes of a few records from the cold state on. The checker computes them.
+-- Worked recordings: small modules, and what the machine makes of a few records from the cold state on. The proof checker computes them.
 use Rattle.std.specs.Prelude.{ℕ, zero, suc, List, [], ◌∷◌, Option, Some, None, ℤ, pos, negsuc, codes}
 use Rattle.apex_types.specs.declared.code.Code.{Code}
 use Rattle.apex_types.specs.declared.code.Code.TheVariants as code
@@ -129,7 +129,7 @@ runs who = record { core = who.part; body = Disp (Some who) }
 abbrev pub ticks : ℕ → List Who → Happening
 ticks core woken = record { core = core; body = Tick woken }
 
--- some ticks that wake nobody
+-- some ticks that wake no process
 abbrev pub idle_ticks : ℕ → ℕ → List Happening
 idle_ticks core zero = []
 idle_ticks core (suc count) = ticks core [] ∷ idle_ticks core count
@@ -161,7 +161,7 @@ normal partition = claims partition (process_of partition 0) 0 (request.SetParti
 abbrev pub aperiodic : ℕ → List ℕ → ℤ → ℤ → Happening
 aperiodic partition name number priority = creates partition (request.CreateProcess name priority (negsuc 0)) number
 
--- what a state tells
+-- what a state shows
 
 -- a process
 abbrev pub at : State → Who → Option Process

@@ -42,7 +42,7 @@ three_processes creations = played one_partition (aperiodic 0 (codes "A") (pos 1
 abbrev pub semaphore : ℤ → ℤ → ℤ → List Happening
 semaphore value maximum discipline = creates 0 (request.Create (codes "S") (NewObject.Semaphore value maximum discipline)) (pos 1) ∷ []
 
--- a mutex of priority 50, first in first out
+-- a mutex of priority 50, first in, first out
 abbrev pub mutex : List Happening
 mutex = creates 0 (request.Create (codes "M") (NewObject.Mutex (pos 50) (pos 0))) (pos 1) ∷ []
 
@@ -140,18 +140,19 @@ reading state = gets_through two_partitions state there (request.SamplingPort (p
 pub record WorkedFacts : Type 0 where
   -- a signal at the maximum is answered with NO_ACTION
   pub at_the_maximum : gets (three_processes (semaphore (pos 1) (pos 1) (pos 0))) one (request.Semaphore (pos 1) SemaphoreOperation.Signal) ≡ answering code.NoAction
-  -- a semaphore by priority wakes the higher one, a semaphore that is first in first out the one that waits longer
+  -- a semaphore by priority wakes the process of higher priority; a semaphore that is first in, first out wakes the one that has waited
+  -- longer
   pub by_priority : gets (both_wait (pos 1)) three (request.Semaphore (pos 1) SemaphoreOperation.Signal) ≡ waking (two ∷ [])
   pub first_in : gets (both_wait (pos 0)) three (request.Semaphore (pos 1) SemaphoreOperation.Signal) ≡ waking (one ∷ [])
-  -- a signal that wakes adds nothing, and NO_ERROR is due to the waiter, which runs
+  -- a signal that wakes leaves the value, and NO_ERROR is due to the waiter, which runs
   pub wakes_without_adding : value_now (play one_partition (both_wait (pos 1)) (wakes three (request.Semaphore (pos 1) SemaphoreOperation.Signal) (two ∷ []) ∷ [])) ≡ Some 0
   pub waiter_runs : choice one_partition (play one_partition (both_wait (pos 1)) (wakes three (request.Semaphore (pos 1) SemaphoreOperation.Signal) (two ∷ []) ∷ [])) 0 ≡ Some two
   pub waiter_returns : owes (play one_partition (both_wait (pos 1)) (wakes three (request.Semaphore (pos 1) SemaphoreOperation.Signal) (two ∷ []) ∷ [])) two ≡ outcome service.WaitSemaphore code.NoError []
-  -- a waiter that timed out has left the set: TIMED_OUT is due to it, and a signal adds one
+  -- a waiter that timed out has left the set: TIMED_OUT is due to it, and a signal raises the value by one
   pub falls_due_then : falls_due 0 2 (at (play one_partition (three_processes (semaphore (pos 0) (pos 1) (pos 0))) (waits one 10 (request.Semaphore (pos 1) (SemaphoreOperation.Wait (pos 2))) ∷ [])) one) ≡ true
   pub returns_timed_out : owes timed_out one ≡ outcome service.WaitSemaphore code.TimedOut []
   pub set_is_left : gets timed_out three (request.Semaphore (pos 1) SemaphoreOperation.Signal) ≡ done
-  -- a suspended waiter that is woken stays suspended, and runs once it is resumed; the resumption wakes nobody
+  -- a suspended waiter that is woken stays suspended, and runs once it is resumed; the resumption wakes no process
   pub stays_suspended : choice one_partition (play one_partition suspended_waiter (wakes three (request.Semaphore (pos 1) SemaphoreOperation.Signal) (one ∷ []) ∷ [])) 0 ≡ Some three
   pub resumption_wakes_nobody : gets suspended_waiter three (request.Process (pos 1) ProcessOperation.Resume) ≡ done
   pub runs_when_resumed : choice one_partition (play one_partition suspended_waiter (wakes three (request.Semaphore (pos 1) SemaphoreOperation.Signal) (one ∷ []) ∷ does three (request.Process (pos 1) ProcessOperation.Resume) ∷ [])) 0 ≡ Some one
@@ -160,18 +161,19 @@ pub record WorkedFacts : Type 0 where
   pub not_resumed : owes (play one_partition (three_processes []) (waits one 10 (request.Caller (CallerOperation.SuspendSelf (pos 1))) ∷ ticks 0 (one ∷ []) ∷ [])) one ≡ outcome service.SuspendSelf code.TimedOut []
   -- a process that is stopped while it waits leaves its set
   pub stopped_waiter : gets (play one_partition (both_wait (pos 0)) (does three (request.Process (pos 1) ProcessOperation.Stop) ∷ [])) three (request.Semaphore (pos 1) SemaphoreOperation.Signal) ≡ waking (two ∷ [])
-  -- the owner of a mutex runs with its priority before a higher process; the last release gives that one way, and restores
+  -- the owner of a mutex runs with its priority, before a process of higher priority; at the last release it gives way to that process, and
+  -- its own priority is restored
   pub owner_runs : choice one_partition owned 0 ≡ Some three
   pub gives_way : choice one_partition (play one_partition owned (does three (request.Mutex (pos 1) MutexOperation.Release) ∷ [])) 0 ≡ Some two
   pub is_restored : priority_in (at (play one_partition owned (does three (request.Mutex (pos 1) MutexOperation.Release) ∷ [])) three) ≡ 5
-  -- a mutex is handed on: the waiter owns it, with its priority, and the releaser has its own again
+  -- a mutex is handed on: the waiter owns it and has its priority, and the releaser has its own priority again
   pub hands_on : gets mutex_wanted three (request.Mutex (pos 1) MutexOperation.Release) ≡ waking (two ∷ [])
   pub new_owner : owner_in (the_mutex (play one_partition mutex_wanted (wakes three (request.Mutex (pos 1) MutexOperation.Release) (two ∷ []) ∷ []))) ≡ Some 2
   pub is_granted : priority_in (at (play one_partition mutex_wanted (wakes three (request.Mutex (pos 1) MutexOperation.Release) (two ∷ []) ∷ [])) two) ≡ 50
   pub has_its_own : priority_in (at (play one_partition mutex_wanted (wakes three (request.Mutex (pos 1) MutexOperation.Release) (two ∷ []) ∷ [])) three) ≡ 5
   -- two error conditions at once: an owner that acquires another mutex with a time-out below -1
   pub two_conditions : conditions_met one_partition owned three (request.Mutex (pos 2) (MutexOperation.Acquire (negsuc 4))) ≡ condition.NotCreated ∷ condition.TimeOutOutOfRange ∷ condition.OwnsAnother ∷ []
-  -- the owner of a mutex that stops itself stands outside the profile
+  -- a mutex's owner that stops itself is outside the profile
   pub owner_stops : in_profile three (owned.partitions 0) (request.Caller CallerOperation.StopSelf) ≡ false
   -- a full buffer: a receiver gets the oldest message, the sender wakes, and its message is the next
   pub oldest_first : gets full_buffer two (request.Buffer (pos 1) (BufferOperation.Receive (pos 0))) ≡ giving (170 ∷ []) (one ∷ [])
@@ -179,7 +181,7 @@ pub record WorkedFacts : Type 0 where
   -- a display wakes all readers, and each gets the message
   pub display_wakes_all : gets both_read three (request.Blackboard (pos 1) (BlackboardOperation.Display (pos 2) (1 ∷ 2 ∷ []))) ≡ waking (one ∷ two ∷ [])
   pub reader_gets_it : owes (play one_partition both_read (wakes three (request.Blackboard (pos 1) (BlackboardOperation.Display (pos 2) (1 ∷ 2 ∷ []))) (one ∷ two ∷ []) ∷ [])) two ≡ outcome service.ReadBlackboard code.NoError (1 ∷ 2 ∷ [])
-  -- an event that is set lets its waiters go on, and those that come later; once it is reset they wait
+  -- an event that is set lets its waiters go on, and later callers too; once it is reset, they wait
   pub event_lets_go : gets awaits_event three (request.Event (pos 1) EventOperation.Set) ≡ waking (one ∷ [])
   pub event_is_up : gets (play one_partition awaits_event (wakes three (request.Event (pos 1) EventOperation.Set) (one ∷ []) ∷ [])) two (request.Event (pos 1) (EventOperation.Wait (negsuc 0))) ≡ done
   pub event_is_down : gets (play one_partition awaits_event (wakes three (request.Event (pos 1) EventOperation.Set) (one ∷ []) ∷ does three (request.Event (pos 1) EventOperation.Reset) ∷ [])) two (request.Event (pos 1) (EventOperation.Wait (negsuc 0))) ≡ waiting
@@ -193,14 +195,14 @@ pub record WorkedFacts : Type 0 where
   -- a send wakes the receiver in the other partition, which gets the message
   pub send_wakes : gets_through two_partitions receiving one (request.QueuingPort (pos 1) (QueuingOperation.Send (pos 2) (pos 0) (202 ∷ 254 ∷ []))) 0 ≡ waking (there ∷ [])
   pub message_arrives : owes (play two_partitions receiving (sends (there ∷ []) ∷ [])) there ≡ outcome service.ReceiveQueuingMessage code.NoError (202 ∷ 254 ∷ [])
-  -- a receiver that timed out has left the channel's set: the send wakes nobody, and the message stays
+  -- a receiver that timed out has left the channel's set: the send wakes no process, and the message stays
   pub receiver_left : gets_through two_partitions (play two_partitions receiving (ticks 1 [] ∷ ticks 1 [] ∷ ticks 1 (there ∷ []) ∷ [])) one (request.QueuingPort (pos 1) (QueuingOperation.Send (pos 2) (pos 0) (202 ∷ 254 ∷ []))) 0 ≡ done
   pub message_stays : ((play two_partitions receiving (ticks 1 [] ∷ ticks 1 [] ∷ ticks 1 (there ∷ []) ∷ sends [] ∷ [])).channels 0).content ≡ Queued ((202 ∷ 254 ∷ []) ∷ [])
-  -- a receiver that takes from a full channel wakes the sender that waits, whose message moves in
+  -- a receive from a full channel wakes the sender that waits, whose message moves in
   pub takes_from_full : gets_through two_partitions sender_waits there (request.QueuingPort (pos 1) (QueuingOperation.Receive (pos 0))) 0 ≡ giving (202 ∷ 254 ∷ []) (one ∷ [])
   pub senders_message : ((play two_partitions sender_waits (claims 1 there 10 (request.QueuingPort (pos 1) (QueuingOperation.Receive (pos 0))) (out.Answer code.NoError) None (202 ∷ 254 ∷ []) (Some 0) (one ∷ []) ∷ [])).channels 0).content
       ≡ Queued ((17 ∷ []) ∷ [])
-  -- an empty sampling channel gives NO_ACTION and validity 0; a message is valid at the age of 5 and no longer at 6
+  -- an empty sampling channel gives NO_ACTION and validity 0; a message is valid at the age of 5 and not at 6
   pub nothing_written : reading connected ≡ record { out = out.Answer code.NoAction; val = Number (pos 0); val2 = None; val3 = None; bytes = []; woken = [] }
   pub still_valid : reading (play two_partitions sampled_once (idle_ticks 1 5)) ≡ record { out = out.Answer code.NoError; val = Number (pos 1); val2 = None; val3 = None; bytes = 17 ∷ []; woken = [] }
   pub no_longer_valid : reading (play two_partitions sampled_once (idle_ticks 1 6)) ≡ record { out = out.Answer code.NoError; val = Number (pos 0); val2 = None; val3 = None; bytes = 17 ∷ []; woken = [] }

@@ -13,7 +13,7 @@ use Rattle.apex_machine.specs.Step.{Run}
 use Rattle.apex_laws.specs.Worked.{Happening, aperiodic, claims, creates, normal, process_of, returns, runs, start, two_partitions}
 use Rattle.apex_laws.specs.WorkedFacts.{one, sends, there}
 
--- the return of a creation under number 1
+-- the return of a creation that claimed number 1
 abbrev pub returns_one : ℕ → Service → Happening
 returns_one partition of = record { core = partition; body = Ret (record { who = process_of partition 0; service = of; code = code.NoError; val = Some (pos 1); val2 = None; val3 = None; bytes = [] }) }
 
@@ -29,7 +29,7 @@ set_up partition direction =
     ∷ returns (process_of partition 0) service.Start code.NoError []
     ∷ normal partition ∷ []
 
--- the receiver waits with a time-out of 3, its core stands idle, the sender sends and wakes it, and it runs again
+-- the receiver waits with a time-out of 3, its core is idle, the sender sends and wakes it, and it runs again
 abbrev pub exchange : List Happening
 exchange =
     runs there
@@ -56,7 +56,7 @@ in_places place (happening ∷ others) = record { pos = place; core = happening.
 abbrev pub recording : List ℕ → List Ordered
 recording message = in_places 0 (before_return ++ message_returns message ∷ [])
 
--- the 23 records are a run from the cold state; with another message at the return they are none
+-- the 23 records are a run from the cold state; with another message at the return they are not
 pub record WorkedRun : Type 0 where
   pub run : (final : State) × Run two_partitions (cold_state two_partitions) (recording (202 ∷ 254 ∷ [])) final
   pub no_other : (final : State) → ¬ Run two_partitions (cold_state two_partitions) (recording (202 ∷ 255 ∷ [])) final

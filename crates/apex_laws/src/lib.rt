@@ -1,11 +1,14 @@
-//! The laws over the definitions: the pieces that judge a recording side by side are together the machine, and what the
-//! machine does is what plain sentences say.
+//! The laws on the definitions: the pieces that judge a recording side by side make up the machine, and what the machine does is what plain
+//! sentences say.
 //!
 //! Each law is the contract of a function without code.
+//!
+//! There are three kinds of law: laws that tie the pieces to the machine, laws that state each rule in sentences, and laws about a single
+//! partition, for the code that holds it. A law has no code, so it is proved over the definitions alone.
 #![tactic(auto)]
 
-ghost use Rattle.apex_laws.specs.Laws.{AtMostOneNextState, ChoiceIsTheSentence, OneFirstRefusal, OneRun, PiecesCompose, PiecesFollow, RunOfEach, StaysInOrder, StaysTied, ViewIsOfTheRun, WhoWaitsStands};
-ghost use Rattle.apex_laws.specs.PartLaws.{DueLeave, ForeignCallsLeaveSets, LetsGoAsAnswered, OnlyDoneLetsGo, OtherSetsStay, PartStaysSound, RunningStandsNowhere};
+ghost use Rattle.apex_laws.specs.Laws.{AtMostOneNextState, ChoiceIsTheSentence, OneFirstRefusal, OneRun, PiecesCompose, PiecesFollow, RunOfEach, StaysInOrder, StaysTied, ViewIsOfTheRun, WhoWaitsHasEntry};
+ghost use Rattle.apex_laws.specs.PartLaws.{DueLeave, ForeignCallsLeaveSets, LetsGoAsAnswered, OnlyDoneLetsGo, OtherSetsStay, PartStaysSound, RunningIsInNoSet};
 ghost use Rattle.apex_laws.specs.PartBounds.{PartStaysBounded, ReleasesFit};
 ghost use Rattle.apex_laws.specs.PartObjects.{EachLeavesItsSet, OneObjectChanges, RefusedLeavesObjects, StoppedLeaves};
 ghost use Rattle.apex_laws.specs.PartSets.{EachNamedLeaves, LeavesEverySet, NamedLeave};
@@ -28,43 +31,43 @@ pub fn at_most_one_next_state()
     ensures { AtMostOneNextState }
 {}
 
-/// Where each piece that the next record touches makes its local step, the machine has a step to the state whose parts the
-/// pieces reached, and the parts of the other pieces stay.
+/// If each piece that the next record touches makes its local step, the machine has a step to the state with the parts that the pieces
+/// reached, and the parts of the other pieces stay.
 pub fn pieces_compose()
     ensures { PiecesCompose }
 {}
 
-/// Where the machine has a step, each piece that the record touches makes its local step.
+/// If the machine has a step, each piece that the record touches makes its local step.
 pub fn pieces_follow()
     ensures { PiecesFollow }
 {}
 
-/// The cold state is tied: numbers are distinct, who stands in a waiting set waits there, ports are at their ends. A step
+/// The cold state is tied: numbers are distinct, a process with an entry in a waiting set waits in it, ports are at their ends. A step
 /// keeps a state tied, and so does a run.
 pub fn stays_tied()
     ensures { StaysTied }
 {}
 
-/// The waiting sets of the cold state are in order: places rise, no process stands twice, all places are below the next one. A
+/// The waiting sets of the cold state are in order: places rise, no process has two entries in a set, all places are below the next one. A
 /// step from a tied state keeps them in order, and so does a run.
 pub fn stays_in_order()
     ensures { StaysInOrder }
 {}
 
-/// In every state that a run reaches, each process that waits in a set stands in it: with the tie, exactly who waits in a set
-/// stands there.
-pub fn who_waits_stands()
-    ensures { WhoWaitsStands }
+/// In every state that a run reaches, each process that waits in a set has an entry in it. Together with the tie: exactly the processes
+/// that wait in a set have an entry in it.
+pub fn who_waits_has_entry()
+    ensures { WhoWaitsHasEntry }
 {}
 
-/// By a partition's own demands alone, its waiting sets stay sound: numbers are distinct, exactly those of its processes stand in
-/// a set of one of its objects who wait there, and every set is in order.
+/// A partition's own demands alone keep its waiting sets sound: numbers are distinct, exactly the processes of the partition that wait in a
+/// set of one of its objects have an entry in it, and every set is in order.
 pub fn part_stays_sound()
     ensures { PartStaysSound }
 {}
 
-/// By a partition's own demands its numbers stay bounded: before each place no mutex was acquired more often, and no process's last
-/// release is later, than there were records; and each period is one that a caller can give.
+/// A partition's own demands keep its numbers bounded: before each place no mutex was acquired more often, and no process's last release is
+/// later, than there were records; and each period is one that a caller can give.
 pub fn part_stays_bounded()
     ensures { PartStaysBounded }
 {}
@@ -74,48 +77,48 @@ pub fn releases_fit()
     ensures { ReleasesFit }
 {}
 
-/// A process that runs on a core of a sound partition stands in none of the partition's waiting sets, and all places in them are
-/// below the next one.
-pub fn running_stands_nowhere()
-    ensures { RunningStandsNowhere }
+/// A process that runs on a core of a sound partition has no entry in any of the partition's waiting sets, and all places in them are below
+/// the next one.
+pub fn running_is_in_no_set()
+    ensures { RunningIsInNoSet }
 {}
 
-/// A call of a sound partition that stops no process leaves every waiting set of the partition that isn't one of the
-/// object that it names.
+/// A call of a sound partition that stops no process leaves unchanged every waiting set of the partition that is not one of the object that
+/// it names.
 pub fn other_sets_stay()
     ensures { OtherSetsStay }
 {}
 
-/// A call of a sound partition that stops no process changes the one object that it names, with its waiting sets, or adds
-/// the one that it creates, and leaves all other objects and ports of the partition.
+/// A call of a sound partition that stops no process changes the one object that it names, with its waiting sets, or adds the one that it
+/// creates. It leaves all other objects and ports of the partition unchanged.
 pub fn one_object_changes()
     ensures { OneObjectChanges }
 {}
 
-/// A call of a sound partition that doesn't answer NO_ERROR and is no restart ends no wait in it: a caller that waits enters its set at the end, and
-/// every other set stays.
+/// A call of a sound partition that does not answer NO_ERROR and is no restart ends no wait in it: a caller that waits enters its set at
+/// the end, and every other set stays.
 pub fn only_done_lets_go()
     ensures { OnlyDoneLetsGo }
 {}
 
-/// From the waiting sets of a sound partition a call that answers NO_ERROR, is no STOP and goes through no channel lets those go
-/// whom its service's answer names, and nobody enters.
+/// A call of a sound partition that answers NO_ERROR, is no STOP and goes through no channel takes the processes that its service's answer
+/// names out of the partition's waiting sets, and no process enters.
 pub fn lets_go_as_answered()
     ensures { LetsGoAsAnswered }
 {}
 
-/// A call of a sound partition that isn't done leaves all objects, waiting sets and ports of it.
+/// A call of a sound partition that is not done leaves all objects, waiting sets and ports of the partition unchanged.
 pub fn refused_leaves_objects()
     ensures { RefusedLeavesObjects }
 {}
 
-/// A STOP that is done takes its target out of the one waiting set that its wait names: nobody else leaves, nobody enters, and all
-/// other sets, objects and ports of the partition stay.
+/// A STOP that is done takes its target out of the one waiting set that its wait names: no other process leaves, none enters, and all other
+/// sets, objects and ports of the partition stay.
 pub fn stopped_leaves()
     ensures { StoppedLeaves }
 {}
 
-/// At a tick a waiting set of a sound partition stays in which no process waits that is named.
+/// A tick leaves a waiting set of a sound partition unchanged if no process that the tick names waits in it.
 pub fn due_leave()
     ensures { DueLeave }
 {}
@@ -126,8 +129,8 @@ pub fn each_leaves_its_set()
     ensures { EachLeavesItsSet }
 {}
 
-/// From a waiting set a call that is no STOP lets those go whom it names, and nobody else; its caller enters at the end, where it
-/// waits there.
+/// A call that is no STOP and no restart takes the processes that it names out of a waiting set, and no others; its caller enters at the
+/// end, if it waits in that set.
 pub fn named_leave()
     ensures { NamedLeave }
 {}
@@ -137,23 +140,23 @@ pub fn leaves_every_set()
     ensures { LeavesEverySet }
 {}
 
-/// A tick changes the waiting sets of a sound partition as those do whom it names, who leave one after another, each the set that its
+/// A tick changes the waiting sets of a sound partition as if the processes that it names left one after another, each the set that its
 /// wait names.
 pub fn each_named_leaves()
     ensures { EachNamedLeaves }
 {}
 
-/// Calls of other partitions, returns and dispatches leave a partition's objects, waiting sets and ports.
+/// Calls of other partitions, returns and dispatches leave a partition's objects, waiting sets and ports unchanged.
 pub fn foreign_calls_leave_sets()
     ensures { ForeignCallsLeaveSets }
 {}
 
-/// The entries of a waiting set that is in order stand at places of their own.
+/// Each entry of a waiting set that is in order has a place of its own.
 pub fn order_is_apart()
     ensures { OrderIsApart }
 {}
 
-/// Runs of all pieces over the records that touch them are one run of the machine, whose parts the pieces reached.
+/// Runs of all pieces over the records that touch them are one run of the machine, to the parts that the pieces reached.
 pub fn one_run()
     ensures { OneRun }
 {}
@@ -163,23 +166,23 @@ pub fn run_of_each()
     ensures { RunOfEach }
 {}
 
-/// A run over one list of records after another is a run over the first, and from where it ends a run over the second.
+/// A run over one list of records followed by another is a run over the first and then, from where that ends, a run over the second.
 pub fn runs_join()
     ensures { RunsJoin }
 {}
 
-/// What a piece finds in one list of records after another is what it finds in the first, or else, from where its run over
-/// the first ends, what it finds in the second.
+/// What a piece finds in one list of records followed by another is what it finds in the first; if it finds nothing there, it is what the
+/// piece finds in the second, from where its run over the first ends.
 pub fn findings_join()
     ensures { FindingsJoin }
 {}
 
-/// A piece finds nothing exactly where it has a run over all the records.
+/// A piece finds nothing exactly if it has a run over all the records.
 pub fn nothing_found_is_a_run()
     ensures { NothingFoundIsARun }
 {}
 
-/// A piece finds a refusal exactly where it runs up to a record and refuses that one, whatever comes after it.
+/// A piece finds a refusal exactly if it runs up to a record and rejects that one, whatever comes after it.
 pub fn found_is_refused()
     ensures { FoundIsRefused }
 {}
@@ -199,13 +202,12 @@ pub fn views_are_of_the_run()
     ensures { ViewsAreOfTheRun }
 {}
 
-/// No two services and no two outcomes have one number in a view: each number is a place in a list. A view's kind is its
-/// record's.
+/// No two services and no two outcomes have the same number in a view: each number is a place in a list. A view's kind is its record's.
 pub fn view_numbers_tell()
     ensures { NumbersTell }
 {}
 
-/// The choice is the ready process before which no other goes, and none where none is ready.
+/// The choice is the ready process that no other goes before, or none if no process is ready.
 pub fn choice_is_the_sentence()
     ensures { ChoiceIsTheSentence }
 {}
@@ -262,7 +264,7 @@ pub fn setting_is_the_sentence()
     ensures { SettingIsTheSentence }
 {}
 
-/// A process falls due where its core is its own and the time has come to its due time.
+/// A process falls due on a core if the core is its own and the core's time has reached its due time.
 pub fn due_is_the_sentence()
     ensures { DueIsTheSentence }
 {}
@@ -308,7 +310,7 @@ pub fn tick_is_the_sentence()
     ensures { TickIsTheSentence }
 {}
 
-/// A return clears what was due to the one who returns, and changes nothing else.
+/// A return clears what was due to the returner, and changes nothing else.
 pub fn return_is_the_sentence()
     ensures { ReturnIsTheSentence }
 {}
@@ -319,20 +321,20 @@ pub fn refusal_is_the_sentence()
     ensures { RefusalIsTheSentence }
 {}
 
-/// A call keeps those in a waiting set whose wait it doesn't end, and puts a caller that waits there at its end.
+/// A call keeps the processes in a waiting set whose waits it does not end, and puts a caller that waits in the set at its end.
 pub fn set_is_the_sentence()
     ensures { SetIsTheSentence }
 {}
 
-/// Any call that restarts no partition changes its caller, the processes of its partition, the processes that it names elsewhere, the objects of its
-/// partition, the channel that it goes through and the waiting sets as the sentences say, and nothing else.
+/// A call that restarts no partition changes its caller, the processes of its partition, the processes that it names elsewhere, the objects
+/// of its partition, the channel through which it goes and the waiting sets as the sentences say. It changes nothing else.
 pub fn call_is_the_sentence()
     ensures { CallIsTheSentence }
 {}
 
-/// A call that restarts its partition has the partition start anew in the mode that is given, takes its processes out of the waiting
-/// sets of all channels, and changes nothing else; SET_PARTITION_MODE to IDLE, COLD_START or WARM_START that does not return is such a
-/// call, and no other.
+/// A call that restarts its partition starts the partition anew in the given mode, takes its processes out of the waiting sets of all
+/// channels, and changes nothing else. SET_PARTITION_MODE to IDLE, COLD_START or WARM_START that does not return is such a call, and no
+/// other is.
 pub fn restart_is_the_sentence()
     ensures { RestartIsTheSentence }
 {}
@@ -342,64 +344,63 @@ pub fn worked_facts()
     ensures { WorkedFacts }
 {}
 
-/// Calls that hand on a mutex, send, wait for a full channel and read a sampled message are lawful: so steps of them exist.
+/// Calls that hand on a mutex, send, wait for a full channel and read a sampled message are lawful, so steps of them exist.
 pub fn lawful_facts()
     ensures { LawfulFacts }
 {}
 
-/// The error conditions that hold for calls of every kind in a small partition, and what stands outside the profile, are what
-/// the services state.
+/// For calls of every kind in a small partition, the error conditions that hold, and the calls that are outside the profile, are as the
+/// services state.
 pub fn condition_facts()
     ensures { ConditionFacts }
 {}
 
-/// A condition is among those of a call exactly where it is one of its service and holds.
+/// A condition is among those of a call exactly if it is one of its service and holds.
 pub fn conditions_are_the_sentences()
     ensures { ConditionsAreTheSentences }
 {}
 
-/// A code is one of a call exactly where an error condition of its service with that code holds.
+/// A code is one of a call exactly if an error condition of its service with that code holds.
 pub fn codes_are_the_sentences()
     ensures { CodesAreTheSentences }
 {}
 
-/// A call stands outside the profile exactly where a sentence puts it there.
+/// A call is outside the profile exactly if a sentence puts it there.
 pub fn profile_is_the_sentence()
     ensures { ProfileIsTheSentence }
 {}
 
-/// Under a number of a table of distinct numbers stands the process that has it.
+/// In a table of distinct numbers, the process found under a number is the one that has it.
 pub fn processes_are_found()
     ensures { ProcessesAreFound }
 {}
 
-/// What is found under a number of objects has this number, and none is found where no object has it.
+/// An object found under a number has that number, and none is found if no object has it.
 pub fn objects_are_found()
     ensures { ObjectsAreFound }
 {}
 
-/// What is found under a name has the name, and none is found where nobody has it.
+/// An object found under a name has the name, and none is found if no object has it.
 pub fn names_are_found()
     ensures { NamesAreFound }
 {}
 
-/// A new number is 1 to 2,147,483,647, and nothing of its kind has it.
+/// A new number is from 1 to 2,147,483,647, and nothing of its kind has it.
 pub fn new_number_is_the_sentence()
     ensures { NewNumberIsTheSentence }
 {}
 
-/// A call enters a waiting set exactly where it waits, and the set is its service's.
+/// A call enters a waiting set exactly if it waits, and the set is its service's.
 pub fn entering_is_the_sentence()
     ensures { EnteringIsTheSentence }
 {}
 
-/// A wait in a set falls due from the end of its time-out on, and then returns TIMED_OUT; with a time-out of -1 it never does.
+/// A wait in a set falls due from the end of its time-out on, and then returns TIMED_OUT; with a time-out of -1 it never falls due.
 pub fn time_out_is_the_sentence()
     ensures { TimeOutIsTheSentence }
 {}
 
-/// A message through a queuing channel: its 23 records are a run from the cold state, and with another message at the return they
-/// are none.
+/// A message through a queuing channel: its 23 records are a run from the cold state, and with another message at the return they are not.
 pub fn worked_run()
     ensures { WorkedRun }
 {}

@@ -1,4 +1,4 @@
--- The state after a record: what each process, partition, channel and core becomes by what the record claims.
+-- The state after a record: what the record's claims make of each process, partition, channel and core.
 use Rattle.std.specs.Prelude.{ℕ, suc, ◌+◌, List, [], ◌∷◌, ◌++◌, Option, Some, None, Bool, true, false, ℤ, pos, negsuc, nat_eq, if◌then◌else◌}
 use Rattle.std.specs.Option.{option_eq}
 use Rattle.std.specs.Ordering.{int_eq}
@@ -51,11 +51,11 @@ abbrev pub adjusted : ℕ → ℕ → List CoreState → Partition → CallRecor
 adjusted place period cores partition call number process =
     if is_done call.claim.out then set_by place period cores partition call.who.proc call.request number process else process
 
--- a process whose wait a call may have ended
+-- a process after a call that may end its wait
 abbrev pub woken_if_named : ℕ → CallRecord → Who → Process → Process
 woken_if_named place call who process = if is_named who call.claim.woken then woken_by place (message_handed_over call.request) process else process
 
--- a process of the caller's partition after the call: the caller; a process that it stops; any other, whose wait it may end
+-- a process of the caller's partition after the call: the caller, a process that the call stops, or any other, whose wait the call may end
 abbrev pub called : ℕ → ℕ → ℕ → List CoreState → Partition → CallRecord → ℕ → Process → Process
 called place now period cores partition call number process =
     let changed = adjusted place period cores partition call number process in
@@ -78,7 +78,7 @@ created_by core call _ = []
 
 -- objects
 
--- a created sampling port, as it is configured: nothing was read at it
+-- a created sampling port, as it is configured; no process has read at it
 abbrev pub new_sampling_port : List ℕ → Option ℤ → Option SamplingPort → List (ℕ × Port)
 new_sampling_port name claimed None = []
 new_sampling_port name claimed (Some port) =
@@ -124,8 +124,8 @@ new_mutex name priority discipline =
 abbrev pub is_valid : Option ℤ → Bool
 is_valid claimed = option_eq int_eq claimed (Some (pos 1))
 
--- the objects and ports of the caller's partition after a call that is done, waiting sets aside: what is created stands under
--- the number that is claimed, and the object that is used is as its rule leaves it; a port knows whether its last read gave a valid sample
+-- the objects and ports of the caller's partition after a call that is done, waiting sets aside: what is created has the number that is
+-- claimed, the object that is used is as its rule leaves it, and a port records whether its last read gave a valid sample
 abbrev pub objects_by : Configuration → Who → Option ℤ → Request → Partition → Partition
 objects_by configuration who claimed (request.Create name (NewObject.Buffer size capacity discipline)) partition =
     record partition { buffers = partition.buffers ++ numbered claimed (new_buffer name size capacity discipline) }
@@ -156,7 +156,7 @@ objects_by configuration who claimed (request.SamplingPort port SamplingOperatio
 }
 objects_by configuration who claimed _ partition = partition
 
--- the waiting sets of an object of a kind changed; a port has none
+-- an object of a kind with each of its waiting sets changed; a port has none
 abbrev pub with_sets : (kind : ObjectKind) → (WaitingSet → List Entry → List Entry) → ℕ → ObjectOf kind → ObjectOf kind
 with_sets kind.Buffer change number found = record found {
   senders = change (set.BufferSenders number) found.senders;
@@ -168,7 +168,7 @@ with_sets kind.Event change number found = record found { waiters = change (set.
 with_sets kind.Mutex change number found = record found { waiters = change (set.MutexWaiters number) found.waiters }
 with_sets _ change number found = found
 
--- each waiting set of a partition changed
+-- a partition with each of its waiting sets changed
 abbrev pub each_set : (WaitingSet → List Entry → List Entry) → Partition → Partition
 each_set change partition = record partition {
   buffers = each_item (with_sets kind.Buffer change) partition.buffers;
@@ -194,17 +194,17 @@ partition_called configuration cores place core call partition = record (objects
       ++ created_by (first_core configuration call.who.part) call call.request;
 }
 
--- the caller's partition after a call at this place and core, by the mode in which the call restarts it, if it does
+-- the caller's partition after a call at this place and core; if the call restarts the partition, it does so in this mode
 abbrev pub own_partition : Option Mode → Configuration → List CoreState → ℕ → ℕ → CallRecord → Partition → Partition
 own_partition None configuration cores place core call partition = partition_called configuration cores place core call partition
 own_partition (Some mode) configuration cores place core call partition = started_partition mode configuration call.who.part place
 
--- a process that a tick may have woken
+-- a process after a tick that may wake it
 abbrev pub ticked : ℕ → ℕ → List Who → ℕ → Process → Process
 ticked place partition woken number process =
     if is_named (record { part = partition; proc = number }) woken then released place process else process
 
--- a process whose outcome was returned, if it is the returner
+-- a process after a return, which clears the outcome due to the returner
 abbrev pub returned : ℕ → ℕ → Process → Process
 returned returner number process = if nat_eq number returner then record process { due = None } else process
 
@@ -232,7 +232,7 @@ abbrev pub is_channel : ℕ → Option ℕ → Bool
 is_channel number None = false
 is_channel number (Some channel) = nat_eq channel number
 
--- what a channel holds after a record at this time of its core: only a call through it changes that
+-- what a channel holds after a record at this time of its core; only a call through the channel changes it
 abbrev pub content_by : Configuration → ℕ → ℕ → Body → Channel → Content
 content_by configuration now number (Call call) channel =
     if is_channel number call.claim.chan then (channel_effect configuration now number call.who.part (use_of call.request) channel).next else channel.content

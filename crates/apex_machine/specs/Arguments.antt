@@ -1,4 +1,4 @@
--- The numbers that a caller gives: which of them a service takes.
+-- The numbers that a caller gives, and which of them a service accepts.
 use Rattle.std.specs.Prelude.{ℕ, zero, suc, ◌%◌, Option, Some, None, Bool, true, false, ℤ, pos, negsuc, ◌&&◌, nat_eq, nat_lt, nat_le}
 use Rattle.apex_types.specs.declared.discipline.Discipline.{Discipline}
 use Rattle.apex_types.specs.declared.discipline.Discipline.TheVariants as discipline
@@ -13,7 +13,7 @@ abbrev pub is_number : ℤ → ℕ → Bool
 is_number (pos n) number = nat_eq n number
 is_number (negsuc n) number = false
 
--- a caller's number that is not below 0; no condition lets another through where this is used
+-- a caller's number that is not below 0; wherever this is used, the error conditions exclude any other
 abbrev pub natural_of : ℤ → ℕ
 natural_of (pos n) = n
 natural_of (negsuc n) = 0
@@ -84,7 +84,7 @@ abbrev pub is_longer : ℕ → ℤ → Bool
 is_longer size (pos n) = nat_lt size n
 is_longer size (negsuc n) = false
 
--- a message has 1 byte at least
+-- a message has at least 1 byte
 abbrev pub is_length : ℤ → Bool
 is_length (pos n) = nat_lt 0 n
 is_length (negsuc n) = false
@@ -93,7 +93,7 @@ is_length (negsuc n) = false
 abbrev pub is_size : ℤ → Bool
 is_size size = is_between 1 LONGEST_MESSAGE size
 
--- how many messages are held is 1 to 1,024
+-- a capacity is 1 to 1,024 messages
 abbrev pub is_capacity : ℤ → Bool
 is_capacity capacity = is_between 1 MOST_MESSAGES capacity
 

@@ -31,11 +31,11 @@ refresh_of configuration number = option_map_or (λ channel. channel.refresh) (s
 abbrev pub capacity_of : Configuration → ℕ → ℕ
 capacity_of configuration number = option_map_or (λ channel. channel.capacity) (queuing_of configuration number) 0
 
--- the disciplines of the two waiting sets of a queuing channel: each is its own port's
+-- the discipline of the processes that wait to send on a queuing channel: that of its source port
 abbrev pub sending_discipline : Configuration → ℕ → Discipline
 sending_discipline configuration number = option_map_or (λ channel. channel.source_discipline) (queuing_of configuration number) discipline.Fifo
 
--- the discipline of those that wait to receive
+-- the discipline of the processes that wait to receive on a queuing channel: that of its destination port
 abbrev pub receiving_discipline : Configuration → ℕ → Discipline
 receiving_discipline configuration number =
     option_map_or (λ channel. channel.destination_discipline) (queuing_of configuration number) discipline.Fifo
@@ -52,12 +52,12 @@ is_at_destination configuration number partition =
 
 -- the numbers of the channels, in rising order
 
--- an element among others that are in order: after those that it does not precede
+-- elements that are in order, with a new one inserted before the first that it precedes
 abbrev pub put_among : {A : Type 0} → (A → A → Bool) → A → List A → List A
 put_among precedes new [] = new ∷ []
 put_among precedes new (first ∷ others) = if precedes new first then new ∷ first ∷ others else first ∷ put_among precedes new others
 
--- elements put, one after another, among those that are in order
+-- elements that are in order, with others inserted one after another
 abbrev pub in_order : {A : Type 0} → (A → A → Bool) → List A → List A → List A
 in_order precedes placed [] = placed
 in_order precedes placed (new ∷ others) = in_order precedes (put_among precedes new placed) others
@@ -144,12 +144,12 @@ end_among source_of destinations_of partition name (channel ∷ others) =
     else if list_any (is_port partition name) (destinations_of channel) then Some (channel, direction.Destination)
     else end_among source_of destinations_of partition name others
 
--- the sampling port that a partition has under this name by the configuration, if any
+-- the sampling port that the configuration gives a partition under this name, if any
 abbrev pub sampling_port : Configuration → ℕ → List ℕ → Option SamplingPort
 sampling_port configuration partition name =
     option_map (λ found. sampling_end found.0 found.1) (end_among (λ channel. channel.source) (λ channel. channel.destinations) partition name configuration.sampling)
 
--- the queuing port that a partition has under this name by the configuration, if any
+-- the queuing port that the configuration gives a partition under this name, if any
 abbrev pub queuing_port : Configuration → ℕ → List ℕ → Option QueuingPort
 queuing_port configuration partition name =
     option_map (λ found. queuing_end found.0 found.1) (end_among (λ channel. channel.source) (λ channel. channel.destination ∷ []) partition name configuration.queuing)

@@ -7,7 +7,7 @@ use Rattle.apex_machine.specs.declared.state.Wait.TheVariants as wait
 use Rattle.apex_machine.specs.Configuration.{Configuration, window_at}
 use Rattle.apex_machine.specs.State.{Partition, State, Table, time_of}
 
--- whether a wait is none
+-- whether a wait is for nothing
 abbrev pub waits_for_nothing : Wait → Bool
 waits_for_nothing wait.Nothing = true
 waits_for_nothing _ = false
@@ -23,12 +23,12 @@ goes_before a b =
     || (nat_eq a.1.current_priority b.1.current_priority
     && (nat_lt a.1.ready_position b.1.ready_position || (nat_eq a.1.ready_position b.1.ready_position && nat_lt a.0 b.0)))
 
--- the entry that goes before, of one and what another walk has found
+-- of this entry and the one found among the others, if any, the one that goes before
 abbrev pub sooner : ℕ × Process → Option (ℕ × Process) → Option (ℕ × Process)
 sooner entry None = Some entry
 sooner entry (Some other) = if goes_before other entry then Some other else Some entry
 
--- the entry before which none of a table goes, found by a walk from its end
+-- the entry of a table that no other goes before, found by a walk from the end of the table
 abbrev pub foremost : Table → Option (ℕ × Process)
 foremost [] = None
 foremost (entry ∷ entries) = sooner entry (foremost entries)
@@ -41,35 +41,35 @@ ready_entries core table = filter (λ entry. is_ready core entry.1) table
 abbrev pub choice_in : ℕ → ℕ → Table → Option Who
 choice_in partition core table = option_map (λ entry. record { part = partition; proc = entry.0 }) (foremost (ready_entries core table))
 
--- the choice of a core whose window is this partition's; idle where it is in no window
+-- the choice of a core in a window of this partition; idle if the core is in no window
 abbrev pub choice_of : Option ℕ → (ℕ → Partition) → ℕ → Option Who
 choice_of None partitions core = None
 choice_of (Some partition) partitions core = choice_in partition core (partitions partition).table
 
--- the choice of a core at its present time: of the partition whose window it is   (partition scheduling, section 2)
+-- the choice of a core at its present time, among the processes of the partition whose window it is   (partition scheduling, section 2)
 abbrev pub choice : Configuration → State → ℕ → Option Who
 choice configuration state core = choice_of (window_at configuration core (time_of state.cores core)) state.partitions core
 
 -- the rule of the choice, in sentences that share nothing with the tests above
 
--- a process is ready on a core: it is not dormant, not suspended, it waits for nothing, and the core is its own   (process
--- states, section 2)
+-- a process is ready on a core if it is not dormant, is not suspended, waits for nothing, and has this core as its own   (process states,
+-- section 2)
 pub record IsReady (core : ℕ) (process : Process) : Type 0 where
   pub alive : IsTrue process.alive
   pub goes_on : IsFalse process.suspended
   pub waits : process.wait ≡ wait.Nothing
   pub affinity : process.affinity ≡ core
 
--- one process goes before another by a higher current priority; among equals by an earlier ready position; at one position
--- by a smaller number   (process scheduling, section 2)
+-- one process goes before another by a higher current priority; among equals by an earlier ready position; at one position by a smaller
+-- number   (process scheduling, section 2)
 abbrev pub GoesBefore : ℕ × Process → ℕ × Process → Type 0
 GoesBefore one other =
     (other.1.current_priority < one.1.current_priority)
     ⊎ ((one.1.current_priority ≡ other.1.current_priority)
     × ((one.1.ready_position < other.1.ready_position) ⊎ ((one.1.ready_position ≡ other.1.ready_position) × (one.0 < other.0))))
 
--- the choice of a core among the processes of a table: it is ready on this core, and no ready process goes before it
+-- the choice of a core among the processes of a table: one that is ready on this core, and that no ready process goes before
 pub record IsChosen (core : ℕ) (table : Table) (entry : ℕ × Process) : Type 0 where
-  pub stands : Contains table entry
+  pub is_member : Contains table entry
   pub ready : IsReady core entry.1
   pub first : (other : ℕ × Process) → Contains table other → IsReady core other.1 → ¬ GoesBefore other entry

@@ -1,5 +1,4 @@
--- What the error conditions of several services share. Each condition is judged by itself: it is among a call's conditions where
--- it holds.
+-- The error conditions that several services share. Each condition is judged by itself: it is among a call's conditions if it holds.
 use Rattle.std.specs.Prelude.{ℕ, List, [], ◌∷◌, ◌++◌, Option, Some, None, Bool, true, false, ℤ, not, nat_eq, ◌&&◌, ◌||◌, if◌then◌else◌}
 use Rattle.std.specs.Str.{bytes_eq}
 use Rattle.apex_types.specs.declared.code.Code.{Code}
@@ -56,11 +55,11 @@ code_of condition.NotSource = code.InvalidMode
 code_of condition.NotDestination = code.InvalidMode
 code_of condition.NoSuchName = code.InvalidConfig
 
--- the condition, where it holds
+-- this condition, if it holds
 abbrev pub when : Bool → Condition → List Condition
 when holds condition = if holds then condition ∷ [] else []
 
--- the conditions of what is created; or that it isn't
+-- the conditions on what is created; or the one that it is not created
 abbrev pub conditions_for : {Object : Type 0} → Option Object → (Object → List Condition) → List Condition
 conditions_for None conditions = condition.NotCreated ∷ []
 conditions_for (Some object) conditions = conditions object
@@ -77,7 +76,7 @@ is_cold_start _ = false
 
 -- the caller
 
--- a test of the caller
+-- whether the caller passes this test
 abbrev pub of_caller : (Process → Bool) → Option Process → Bool
 of_caller test None = false
 of_caller test (Some process) = test process
@@ -97,7 +96,7 @@ may_not_wait who partition = nat_eq who.proc 0 || owns_mutex partition.mutexes w
 abbrev pub time_out_conditions : ℤ → List Condition
 time_out_conditions time_out = when (not (is_time_out time_out)) condition.TimeOutOutOfRange
 
--- a caller that may not wait gives a time-out of 0
+-- a caller that may not wait must give a time-out of 0
 abbrev pub waiting_conditions : Who → Partition → ℤ → List Condition
 waiting_conditions who partition time_out = when (not (is_over time_out) && may_not_wait who partition) condition.MayNotWait
 
@@ -108,7 +107,7 @@ abbrev pub is_taken : {Item : Type 0} → (Item → List ℕ) → List ℕ → L
 is_taken name_of name [] = false
 is_taken name_of name (entry ∷ entries) = bytes_eq name (name_of entry.1) || is_taken name_of name entries
 
--- a creation: not in NORMAL; a name not yet taken among its kind; no more than configured
+-- a creation is made before NORMAL; its name is not yet taken in its kind; and no more of the kind are created than are configured
 abbrev pub creation_conditions : Partition → Bool → Bool → List Condition
 creation_conditions partition is_taken is_full =
     when (is_normal partition.mode) condition.InNormal ++ when is_taken condition.NameTaken ++ when is_full condition.AllCreated

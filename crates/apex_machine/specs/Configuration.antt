@@ -4,14 +4,14 @@ use Rattle.std.specs.List.{find, list_any}
 use Rattle.std.specs.Option.{option_map_or}
 use Rattle.apex_types.specs.declared.discipline.Discipline.{Discipline}
 
--- a partition's window: from its start on, for its length, the core is the partition's in each major frame
+-- a partition's window: in each major frame the core is the partition's from the window's start on, for its length
 pub record Window : Type 0 where
   pub core : ℕ
   pub partition : ℕ
   pub start : ℕ
   pub span : ℕ
 
--- a partition: its period, its cores of which the first is its first core, and how many of each kind it may create
+-- a partition: its period, its cores, the first of which is its first core, and how many processes and objects of each kind it may create
 pub record PartitionLimits : Type 0 where
   pub number : ℕ
   pub period : ℕ
@@ -23,12 +23,12 @@ pub record PartitionLimits : Type 0 where
   pub events : ℕ
   pub mutexes : ℕ
 
--- an end of a channel: the port of a partition that has this name   (interpartition communication, section 2)
+-- an end of a channel: a partition's port, by its name   (interpartition communication, section 2)
 pub record ChannelEnd : Type 0 where
   pub partition : ℕ
   pub port : List ℕ
 
--- a sampling channel: its message's greatest size, its refresh period, one source and some destinations
+-- a sampling channel: the greatest size of its message, its refresh period, one source and some destinations
 pub record SamplingChannel : Type 0 where
   pub number : ℕ
   pub size : ℕ
@@ -46,7 +46,7 @@ pub record QueuingChannel : Type 0 where
   pub destination : ChannelEnd
   pub destination_discipline : Discipline
 
--- a module: its partitions stand in rising order of their numbers
+-- a module, with its partitions in rising order of their numbers
 pub record Configuration : Type 0 where
   pub cores : ℕ
   pub frame : ℕ
@@ -90,7 +90,7 @@ abbrev pub is_core : Configuration → ℕ → ℤ → Bool
 is_core configuration number (pos core) = has_core core (limits_of configuration number)
 is_core configuration number (negsuc n) = false
 
--- the first core of a list; a configured partition has one at least
+-- the first core of a list; a configured partition has at least one
 abbrev pub first_of : List ℕ → ℕ
 first_of [] = 0
 first_of (core ∷ cores) = core

@@ -1,4 +1,4 @@
--- The error conditions of CREATE_BUFFER and its like.
+-- The error conditions of CREATE_BUFFER and its counterparts for the other kinds.
 use Rattle.std.specs.Prelude.{ℕ, List, [], ◌++◌, length, Bool, false, not, nat_le}
 use Rattle.apex_types.specs.declared.object_kind.ObjectKind.{ObjectKind}
 use Rattle.apex_types.specs.declared.object_kind.ObjectKind.TheVariants as kind
@@ -13,7 +13,7 @@ use Rattle.apex_machine.specs.Configuration.{Configuration, object_limit}
 use Rattle.apex_machine.specs.PortConditions.{is_queuing_port, is_sampling_port}
 use Rattle.apex_machine.specs.State.{Partition, name_in, objects_of}
 
--- whether as many objects of a kind are created as are configured; of ports those that are configured may be, each once
+-- whether as many objects of a kind are created as are configured; ports have no such limit, since each configured port may be created once
 abbrev pub is_full : Configuration → ℕ → Partition → ObjectKind → Bool
 is_full configuration number partition kind.Buffer = nat_le (object_limit configuration (λ limits. limits.buffers) number) (length partition.buffers)
 is_full configuration number partition kind.Blackboard =
@@ -24,8 +24,8 @@ is_full configuration number partition kind.Mutex = nat_le (object_limit configu
 is_full configuration number partition kind.SamplingPort = false
 is_full configuration number partition kind.QueuingPort = false
 
--- what a creation is given: of a buffer a size, a capacity and a discipline in range; of a blackboard a size; of a semaphore a maximum
--- and a discipline, and a value that suits the maximum; of a mutex a priority and a discipline; of a port what is configured
+-- the parameters of a creation: for a buffer a size, a capacity and a discipline in range; for a blackboard a size; for a semaphore a
+-- maximum and a discipline, and a value that suits the maximum; for a mutex a priority and a discipline; for a port what is configured
 abbrev pub parameter_conditions : Configuration → ℕ → List ℕ → NewObject → List Condition
 parameter_conditions configuration number name (NewObject.Buffer size capacity discipline) =
     when (not (is_size size)) condition.SizeOutOfRange
@@ -44,7 +44,7 @@ parameter_conditions configuration number name (NewObject.SamplingPort size dire
 parameter_conditions configuration number name (NewObject.QueuingPort size capacity direction discipline) =
     when (not (is_queuing_port (queuing_port configuration number name) size capacity direction discipline)) condition.NotAsConfigured
 
--- CREATE_BUFFER and its like: as each creation, and what it is given
+-- CREATE_BUFFER and its counterparts: the conditions of every creation, and those on its parameters
 abbrev pub create_conditions : Configuration → ℕ → Partition → List ℕ → NewObject → List Condition
 create_conditions configuration number partition name object =
     creation_conditions partition (is_taken (name_in (kind_of object)) name (objects_of partition (kind_of object)))

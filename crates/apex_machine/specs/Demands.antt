@@ -1,4 +1,4 @@
--- What each piece demands of a record that touches it, in the order in which it looks, and its local step.
+-- What each piece demands of a record that touches it, in the order in which it tests the demands, and its local step.
 use Rattle.std.specs.Prelude.{◌≡◌, ◌⊎◌, ℕ, ◌+◌, List, [], ◌∷◌, ◌++◌, Option, Some, None, Bool, true, false, nat_eq, ◌||◌, IsTrue, IsFalse, ℤ, Result, MatchResult}
 use Rattle.apex_types.specs.declared.cause.Cause.{Cause}
 use Rattle.apex_types.specs.declared.cause.Cause.TheVariants as cause
@@ -34,7 +34,7 @@ use Rattle.apex_machine.specs.State.{Channel, Partition, Table, is_same, names_o
 use Rattle.apex_machine.specs.Step.{AllConfigured, OneConfigured, ChannelConfigured, KeepsSkew, HasNoneDue, HasPriority, HasCode, IsWithinProfile, due_of}
 use Rattle.apex_machine.specs.Waiting.{waits_at}
 
--- what a piece demands of a record, and the cause that it names where that fails
+-- what a piece demands of a record, and the cause that it reports if the demand fails
 pub record Demand : Type 1 where
   pub cause : Cause
   pub holds : Type 0
@@ -53,12 +53,12 @@ FirstFails (demand ∷ demands) cause = ((¬ demand.holds) × (cause ≡ demand.
 abbrev pub Judges : List {1} Demand → Result (Unit {0}) Cause → Type 0
 Judges demands judgement = MatchResult judgement (λ _. AllHold demands) (λ cause. FirstFails demands cause)
 
--- a demand that stands only in no window
+-- a demand that applies only outside every window
 abbrev pub InNoWindow : Option ℕ → Type 0 → Type 0
 InNoWindow None Demanded = Demanded
 InNoWindow (Some partition) Demanded = Unit {0}
 
--- a demand that stands only in the windows of this partition
+-- a demand that applies only in the windows of this partition
 abbrev pub InWindowOf : ℕ → Option ℕ → Type 0 → Type 0
 InWindowOf number None Demanded = Unit {0}
 InWindowOf number (Some partition) Demanded = partition ≡ number → Demanded
@@ -69,7 +69,7 @@ window_now configuration cores core = window_at configuration core (time_of core
 
 -- the module
 
--- the module: names are configured, a tick keeps the skew, and in no window the core is idle
+-- the module: names are configured, a tick keeps the skew, and a core outside every window is idle
 abbrev pub module_demands : Configuration → List CoreState → ℕ → Body → List {1} Demand
 module_demands configuration cores core (Disp who) =
     record { cause = cause.Names; holds = OneConfigured configuration who }
@@ -94,13 +94,13 @@ module_demands configuration cores core (Ret ret) =
 abbrev pub IsRunning : ℕ → List CoreState → Table → ℕ → Who → Type 0
 IsRunning number cores table core who = (occupant_of cores core ≡ Some who) × (choice_in number core table ≡ Some who)
 
--- a time-out with which a caller may wait: there is one, and it isn't 0
+-- a time-out with which a caller may wait: there is one, and it is not 0
 abbrev pub MayWait : Option ℤ → Type 0
 MayWait None = ⊥
 MayWait (Some time_out) = IsFalse (is_over time_out)
 
--- what a partition can see of the outcome of a call through a channel: it returns, with no code of an error condition and
--- not timed out, and it waits only where its service may
+-- what a partition can see of the outcome of a call through a channel: the call does not fail to return, its code is neither that of an
+-- error condition nor TIMED_OUT, and it waits only if its service may
 abbrev pub CanHave : Request → Out → Type 0
 CanHave asked out.Waits = MayWait (time_out_of asked)
 CanHave asked (out.Answer code.NoError) = Unit {0}
@@ -108,7 +108,7 @@ CanHave asked (out.Answer code.NoAction) = Unit {0}
 CanHave asked (out.Answer code.NotAvailable) = Unit {0}
 CanHave asked _ = ⊥
 
--- what a call claims is the answer: its outcome, the values and the message that go with it, and whose waits end
+-- what a call claims is the answer: its outcome, the values and the message that go with it, and the processes whose waits end
 abbrev pub answer_demands : Answer → Claim → List {1} Demand
 answer_demands answer claim =
     record { cause = cause.Out; holds = claim.out ≡ answer.out }
@@ -116,8 +116,8 @@ answer_demands answer claim =
     ∷ record { cause = cause.Data; holds = claim.bytes ≡ answer.bytes }
     ∷ record { cause = cause.Woken; holds = NamesExactly answer.woken claim.woken } ∷ []
 
--- the channel and the outcome of a call, by its error conditions and the channel that it goes to; what a channel
--- gives is the channel's to judge, but no process of the caller's own partition is woken through it
+-- the channel and the outcome of a call, by its error conditions and the channel through which it goes; the channel judges what it gives,
+-- but a call through it wakes no process of the caller's own partition
 abbrev pub outcome_demands : List Condition → Option ℕ → ℕ → Request → Answer → Claim → List {1} Demand
 outcome_demands [] None number asked answer claim = record { cause = cause.Chan; holds = claim.chan ≡ None } ∷ answer_demands answer claim
 outcome_demands [] (Some channel) number asked answer claim =
@@ -131,8 +131,8 @@ outcome_demands (condition ∷ conditions) channel number asked answer claim =
     ∷ record { cause = cause.Data; holds = claim.bytes ≡ [] }
     ∷ record { cause = cause.Woken; holds = claim.woken ≡ [] } ∷ []
 
--- what is demanded of a call of one of the partition's own processes before its outcome: its caller runs in a window of the
--- partition and has nothing due, the call is within the profile, and the priority is the caller's
+-- what a partition demands of a call of its own process before it looks at the outcome: the caller runs in a window of the partition, no
+-- outcome is due to it, the call is within the profile, and the priority is the caller's
 abbrev pub caller_demands : Configuration → ℕ → List CoreState → Partition → ℕ → CallRecord → List {1} Demand
 caller_demands configuration number cores partition core call =
     record { cause = cause.Window; holds = window_now configuration cores core ≡ Some number }
@@ -158,8 +158,7 @@ abbrev pub AllWaitAt : WaitingSet → ℕ → Table → List Who → Type 0
 AllWaitAt wanted number table [] = Unit {0}
 AllWaitAt wanted number table (who ∷ others) = (who.part ≡ number → IsTrue (waits_at wanted (item_at table who.proc))) × AllWaitAt wanted number table others
 
--- a call of another partition ends only waits at its channel: a send of those that wait to receive, a receive of those that
--- wait to send
+-- a call of another partition ends only waits at its channel: a send ends waits to receive, and a receive ends waits to send
 abbrev pub WakesHere : Request → Option ℕ → ℕ → Table → List Who → Type 0
 WakesHere (request.QueuingPort port (QueuingOperation.Send length time_out message)) (Some channel) number table woken =
     AllWaitAt (set.ChannelReceivers channel) number table woken
@@ -178,12 +177,12 @@ abbrev pub call_demands : Bool → Configuration → ℕ → List CoreState → 
 call_demands true configuration number cores partition core call = own_call_demands configuration number cores partition core call
 call_demands false configuration number cores partition core call = foreign_call_demands configuration number cores partition core call
 
--- a fact about the outcome that is due, where one is
+-- a fact about the outcome that is due, if one is
 abbrev pub IfDue : Option Outcome → (Outcome → Type 0) → Type 0
 IfDue None fact = ⊥
 IfDue (Some outcome) fact = fact outcome
 
--- a return gives back the values of the outcome that is due
+-- a return has the values of the outcome that is due
 pub record ReturnsValues (outcome : Outcome) (ret : Return) : Type 0 where
   pub val : outcome.val ≡ ret.val
   pub val2 : outcome.val2 ≡ ret.val2
@@ -212,20 +211,20 @@ partition_demands configuration number cores partition core (Ret ret) =
 
 -- channels
 
--- whether a process stands in a waiting set
-abbrev pub stands_in : Who → List Entry → Bool
-stands_in who [] = false
-stands_in who (entry ∷ entries) = is_same who entry.who || stands_in who entries
+-- whether a process has an entry in a waiting set
+abbrev pub has_entry_in : Who → List Entry → Bool
+has_entry_in who [] = false
+has_entry_in who (entry ∷ entries) = is_same who entry.who || has_entry_in who entries
 
 -- a call through a channel: its caller waits at neither end, the service is one of the channel's kind, and the outcome is the
 -- one that the channel gives
 abbrev pub through_demands : Configuration → ℕ → ℕ → Channel → CallRecord → List {1} Demand
 through_demands configuration now number channel call =
-    record { cause = cause.Choice; holds = IsFalse (stands_in call.who channel.senders || stands_in call.who channel.receivers) }
+    record { cause = cause.Choice; holds = IsFalse (has_entry_in call.who channel.senders || has_entry_in call.who channel.receivers) }
     ∷ record { cause = cause.Chan; holds = IsTrue (suits_use configuration number call.who.part (use_of call.request) channel) }
     ∷ answer_demands (channel_effect configuration now number call.who.part (use_of call.request) channel).answer call.claim
 
--- a call that goes through the channel, or doesn't
+-- a call, by whether it goes through the channel
 abbrev pub used_demands : Bool → Configuration → ℕ → ℕ → Channel → CallRecord → List {1} Demand
 used_demands true configuration now number channel call = through_demands configuration now number channel call
 used_demands false configuration now number channel call = []

@@ -14,7 +14,7 @@ use Rattle.apex_machine.specs.Waiting.{set_of}
 
 -- what a wait is for
 
--- whether a wait is that for NORMAL
+-- whether a wait is for the mode NORMAL
 abbrev pub waits_for_normal : Wait → Bool
 waits_for_normal wait.NormalMode = true
 waits_for_normal _ = false
@@ -24,7 +24,7 @@ abbrev pub is_suspension : Wait → Bool
 is_suspension (wait.Suspended due) = true
 is_suspension _ = false
 
--- whether a wait is one for a mutex
+-- whether a wait is for a mutex
 abbrev pub is_for_mutex : Wait → Bool
 is_for_mutex (wait.At (set.MutexWaiters mutex) due) = true
 is_for_mutex _ = false
@@ -40,7 +40,7 @@ abbrev pub entry_wait : ℕ → ℕ → Option ℕ → Wait
 entry_wait partition_period now None = wait.Nothing
 entry_wait partition_period now (Some period) = wait.FirstRelease (first_release partition_period now)
 
--- the release that follows one: a period after it, of a process that has one
+-- the release after this one: a period later, if the process has a period
 abbrev pub release_after : ℕ → Option ℕ → ℕ
 release_after last None = last
 release_after last (Some period) = last + period
@@ -49,14 +49,14 @@ release_after last (Some period) = last + period
 abbrev pub next_release : Process → ℕ
 next_release process = release_after process.last_release process.period
 
--- whether a process has come to its next release
+-- whether a process has reached its next release
 abbrev pub is_released : ℕ → Option Process → Bool
 is_released now None = false
 is_released now (Some process) = nat_le (next_release process) now
 
 -- what a caller waits for
 
--- the time at which a time-out falls due that began at this time; -1 never does
+-- the time at which a time-out that began at this time falls due; -1 never falls due
 abbrev pub due_time : ℤ → ℕ → Option ℕ
 due_time (pos n) now = Some (now + n)
 due_time (negsuc n) now = None
@@ -84,7 +84,7 @@ abbrev pub wait_in : Option WaitingSet → Option ℕ → Wait
 wait_in None due = wait.Nothing
 wait_in (Some set) due = wait.At set due
 
--- what a caller waits for that began to wait at this time of its core
+-- what a caller waits for, if it began to wait at this time of its core
 abbrev pub wait_of : Request → Option ℕ → ℕ → Process → Wait
 wait_of (request.Caller (CallerOperation.TimedWait (pos delay))) chan now process = wait.Until (now + delay)
 wait_of (request.Caller CallerOperation.PeriodicWait) chan now process = wait.PeriodicRelease (next_release process)
@@ -93,7 +93,7 @@ wait_of asked chan now process = wait_in (set_of asked chan) (due_of_call (time_
 
 -- when a wait is over
 
--- a wait is over once its core's time has come to its due time, if it has one
+-- a wait that has a due time is over once the time of the process's core has reached it
 abbrev pub due_by : ℕ → Wait → Bool
 due_by time (wait.FirstRelease due) = nat_le due time
 due_by time (wait.Until due) = nat_le due time
@@ -107,7 +107,7 @@ abbrev pub falls_due : ℕ → ℕ → Option Process → Bool
 falls_due core time None = false
 falls_due core time (Some process) = nat_eq process.affinity core && due_by time process.wait
 
--- of this partition exactly those are named that fall due   (process and time management, section 3)
+-- of this partition's processes, exactly those that fall due are named   (process and time management, section 3)
 abbrev pub NamesThoseDue : ℕ → ℕ → ℕ → Table → List Who → Type 0
 NamesThoseDue partition core time table woken =
     (number : ℕ) → is_named (record { part = partition; proc = number }) woken ≡ falls_due core time (item_at table number)

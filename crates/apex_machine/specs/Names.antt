@@ -17,11 +17,11 @@ number_named name_of name (entry ∷ entries) = if bytes_eq name (name_of entry.
 abbrev pub number_of : Partition → ObjectKind → List ℕ → Option ℕ
 number_of partition kind name = number_named (name_in kind) name (objects_of partition kind)
 
--- GET_BUFFER_ID and its like: one of the kind has the name
+-- GET_BUFFER_ID and its counterparts: an object or port of the kind has the name
 abbrev pub get_id_conditions : Option ℕ → List Condition
 get_id_conditions found = when (is_none found) condition.NoSuchName
 
--- the value that tells the number of what has the name
+-- the value with the number of the object or port that has the name
 abbrev pub number_found : Option ℕ → Value
 number_found None = Nothing
 number_found (Some number) = Number (pos number)

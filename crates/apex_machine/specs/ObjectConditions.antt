@@ -8,11 +8,11 @@ use Rattle.apex_machine.specs.Conditions.{conditions_for, of_caller, time_out_co
 use Rattle.apex_machine.specs.Objects.{is_owner}
 use Rattle.apex_machine.specs.State.{Mutex, Partition, given_object, item_at}
 
--- a created object of a kind, and a wait for it
+-- a use that may wait for an object: the object is created, the time-out is in range, and the caller may wait unless the time-out is 0
 abbrev pub object_conditions : {Object : Type 0} → Who → Partition → Option Object → ℤ → List Condition
 object_conditions who partition object time_out = conditions_for object (λ found. []) ++ time_out_conditions time_out ++ waiting_conditions who partition time_out
 
--- a message into an object: a created one, of a size for the message
+-- a message into an object: the object is created, and the message is not empty and not longer than the object's size
 abbrev pub message_conditions : Option ℕ → ℤ → List Condition
 message_conditions size length =
     conditions_for size (λ greatest. when (is_longer greatest length) condition.LongerThanObject)
@@ -25,8 +25,8 @@ abbrev pub owns_another : List (ℕ × Mutex) → ℤ → ℕ → Bool
 owns_another [] mutex number = false
 owns_another (entry ∷ entries) mutex number = (is_owner entry.1.owner number && not (is_number mutex entry.0)) || owns_another entries mutex number
 
--- ACQUIRE_MUTEX: a created mutex, of a priority not below the caller's current one; a time-out that there is; not the
--- initialising process, and no owner of another mutex
+-- ACQUIRE_MUTEX: a created mutex whose priority is not below the caller's current one; a time-out in range; a caller that is neither the
+-- initialising process nor the owner of another mutex
 abbrev pub acquire_conditions : Who → Partition → ℤ → ℤ → List Condition
 acquire_conditions who partition mutex time_out =
     conditions_for (given_object partition.mutexes mutex)
@@ -35,6 +35,6 @@ acquire_conditions who partition mutex time_out =
     ++ when (nat_eq who.proc 0) condition.InitialisingCaller
     ++ when (owns_another partition.mutexes mutex who.proc) condition.OwnsAnother
 
--- RELEASE_MUTEX: a created mutex, by its owner
+-- RELEASE_MUTEX: a created mutex, which the caller owns
 abbrev pub release_conditions : Who → Option Mutex → List Condition
 release_conditions who mutex = conditions_for mutex (λ found. when (not (is_owner found.owner who.proc)) condition.NotOwner)

@@ -1,5 +1,5 @@
--- Buffers, blackboards, semaphores, events and mutexes: what each operation gives its caller, and the object after it, its waiting
--- sets aside.
+-- Buffers, blackboards, semaphores, events and mutexes: what each operation gives its caller, and how it leaves the object, waiting sets
+-- aside.
 use Rattle.std.specs.Prelude.{ℕ, zero, suc, ◌+◌, ◌-◌, List, [], ◌∷◌, Option, Some, None, Bool, true, false, ℤ, nat_eq, nat_lt, if◌then◌else◌}
 use Rattle.apex_types.specs.declared.code.Code.TheVariants as code
 use Rattle.apex_types.specs.declared.operation.{BlackboardOperation.BlackboardOperation, BufferOperation.BufferOperation, EventOperation.EventOperation, MutexOperation.MutexOperation, SemaphoreOperation.SemaphoreOperation}
@@ -11,11 +11,11 @@ use Rattle.apex_machine.specs.Waiting.{first_waiter}
 
 -- buffers
 
--- SEND_BUFFER, by the first of those who wait to receive
+-- SEND_BUFFER, given the first of the processes that wait to receive
 abbrev pub buffer_sent : List ℕ → ℤ → Buffer → Effect Messages
 buffer_sent message time_out buffer = sent buffer.capacity message time_out (first_waiter buffer.discipline buffer.receivers) buffer.messages
 
--- RECEIVE_BUFFER, by the first of those who wait to send
+-- RECEIVE_BUFFER, given the first of the processes that wait to send
 abbrev pub buffer_received : ℤ → Buffer → Effect Messages
 buffer_received time_out buffer = received time_out (first_waiter buffer.discipline buffer.senders) buffer.messages
 
@@ -30,16 +30,16 @@ buffer_effect operation buffer = effect_on (λ messages. record buffer { message
 
 -- blackboards
 
--- DISPLAY_BLACKBOARD: the message is on the blackboard, and all who wait for one get it
+-- DISPLAY_BLACKBOARD: the message replaces the last one, and every waiting reader wakes
 abbrev pub displayed : List ℕ → List Entry → Effect (Option (List ℕ))
 displayed message readers = record { answer = waking (waiters_of readers); next = Some message }
 
--- READ_BLACKBOARD: the message stays on the blackboard; where there is none the caller waits
+-- READ_BLACKBOARD: the caller gets the message, which stays on the blackboard; if there is none, the call is unmet
 abbrev pub board_read : ℤ → Option (List ℕ) → Effect (Option (List ℕ))
 board_read time_out None = record { answer = unmet time_out; next = None }
 board_read time_out (Some message) = record { answer = giving message []; next = Some message }
 
--- CLEAR_BLACKBOARD: the blackboard is empty
+-- CLEAR_BLACKBOARD: the blackboard becomes empty
 abbrev pub cleared : Effect (Option (List ℕ))
 cleared = record { answer = done; next = None }
 
@@ -55,20 +55,20 @@ blackboard_effect operation board = effect_on (λ message. record board { messag
 
 -- semaphores
 
--- WAIT_SEMAPHORE: one is taken of a value above 0; else the caller waits
+-- WAIT_SEMAPHORE: a value above 0 falls by one; else the call is unmet
 abbrev pub semaphore_waited : ℤ → ℕ → Effect ℕ
 semaphore_waited time_out zero = record { answer = unmet time_out; next = zero }
 semaphore_waited time_out (suc value) = record { answer = done; next = value }
 
--- one is added
+-- the value rises by one
 abbrev pub raised : ℕ → Effect ℕ
 raised value = record { answer = done; next = value + 1 }
 
--- the value is as great as it may be
+-- the value is at its maximum, and stays
 abbrev pub at_maximum : ℕ → Effect ℕ
 at_maximum value = record { answer = answering code.NoAction; next = value }
 
--- SIGNAL_SEMAPHORE: the first who waits goes on; else one is added; at the maximum nothing is done
+-- SIGNAL_SEMAPHORE: the first waiter wakes; else the value rises by one; at the maximum nothing is done
 abbrev pub signalled : ℕ → Option Entry → ℕ → Effect ℕ
 signalled maximum (Some waiter) value = record { answer = waking (waiter.who ∷ []); next = value }
 signalled maximum None value = if nat_lt value maximum then raised value else at_maximum value
@@ -84,15 +84,15 @@ semaphore_effect operation semaphore = effect_on (λ value. record semaphore { v
 
 -- events
 
--- SET_EVENT: the event is up, and all who wait for it go on
+-- SET_EVENT: the event goes up, and every waiter wakes
 abbrev pub event_set : List Entry → Effect Bool
 event_set waiters = record { answer = waking (waiters_of waiters); next = true }
 
--- RESET_EVENT: the event is down
+-- RESET_EVENT: the event goes down
 abbrev pub event_reset : Effect Bool
 event_reset = record { answer = done; next = false }
 
--- WAIT_EVENT: an event that is up lets its caller go on; else the caller waits
+-- WAIT_EVENT: if the event is up, the caller goes on; else the call is unmet
 abbrev pub event_waited : ℤ → Bool → Effect Bool
 event_waited time_out true = record { answer = done; next = true }
 event_waited time_out false = record { answer = unmet time_out; next = false }
@@ -126,20 +126,20 @@ abbrev pub acquired_from : Option ℕ → ℕ → ℤ → Mutex → Effect Mutex
 acquired_from None caller time_out mutex = record { answer = done; next = owned_by caller mutex }
 acquired_from (Some owner) caller time_out mutex = if nat_eq owner caller then acquired_again mutex else not_acquired time_out mutex
 
--- ACQUIRE_MUTEX: a free mutex is the caller's, its owner acquires it once more, another process waits
+-- ACQUIRE_MUTEX: a free mutex becomes the caller's; its owner acquires it once more; if another process owns it, the call is unmet
 abbrev pub acquired : ℕ → ℤ → Mutex → Effect Mutex
 acquired caller time_out mutex = acquired_from mutex.owner caller time_out mutex
 
--- the last release: the first who waits owns the mutex; else it is free
+-- the last release: the first waiter becomes the owner; with no waiter the mutex becomes free
 abbrev pub handed_on : Option Entry → Mutex → Effect Mutex
 handed_on None mutex = record { answer = done; next = record mutex { owner = None; count = 0 } }
 handed_on (Some waiter) mutex = record { answer = waking (waiter.who ∷ []); next = owned_by waiter.who.proc mutex }
 
--- a release that isn't the last: the mutex stays its owner's
+-- a release that is not the last: the owner keeps the mutex
 abbrev pub released_once : Mutex → Effect Mutex
 released_once mutex = record { answer = done; next = record mutex { count = mutex.count - 1 } }
 
--- RELEASE_MUTEX, by the first of those who wait
+-- RELEASE_MUTEX, given the first waiter, if any
 abbrev pub mutex_released : Option Entry → Mutex → Effect Mutex
 mutex_released first mutex = if nat_lt 1 mutex.count then released_once mutex else handed_on first mutex
 

@@ -18,8 +18,8 @@ pub data Piece : Type 0 where
   OfPartition : (number : ℕ) → Piece
   OfChannel : (number : ℕ) → Piece
 
--- the part of a state that a piece holds: the module has the cores, a partition has them too beside its own state, a channel
--- has the times of the cores beside its own state
+-- the part of a state that a piece holds: the module holds the cores, a partition the cores and its own state, a channel the times of the
+-- cores and its own state
 pub data Part : Type 0 where
   ModulePart : (cores : List CoreState) → Part
   PartitionPart : (number : ℕ) → (cores : List CoreState) → (partition : Partition) → Part
@@ -46,7 +46,7 @@ is_configured configuration Module = true
 is_configured configuration (OfPartition number) = has_partition configuration number
 is_configured configuration (OfChannel number) = has_channel configuration number
 
--- whether a call stops processes of its caller's partition: a restart all, a STOP that is done one
+-- whether a call stops processes of its caller's partition: a restart stops all of them, a STOP that is done stops one
 abbrev pub stops_some : CallRecord → Bool
 stops_some call = is_some (restart_of call) || (is_some (stop_of call.request) && is_no_error call.claim.out)
 

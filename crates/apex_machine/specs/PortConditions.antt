@@ -14,7 +14,7 @@ abbrev pub is_source : Direction → Bool
 is_source direction.Source = true
 is_source direction.Destination = false
 
--- the refresh period counts at a destination only
+-- whether a refresh period suits a port: it counts only at a destination
 abbrev pub suits_refresh : SamplingPort → ℤ → Bool
 suits_refresh port refresh = is_source port.direction || is_number refresh port.refresh
 
@@ -32,12 +32,12 @@ is_queuing_port (Some port) size capacity direction discipline =
     && (is_number capacity port.capacity
     && (is_number direction (direction_number port.direction) && is_number discipline (discipline_number port.discipline)))
 
--- a message into a port: a created source of a size for the message
+-- a message into a port: a created source port whose size is enough for the message
 abbrev pub source_conditions : Option Port → ℤ → List Condition
 source_conditions port length =
     conditions_for port (λ found. when (is_longer found.size length) condition.LongerThanPort ++ when (not (is_source found.direction)) condition.NotSource)
     ++ when (not (is_length length)) condition.EmptyMessage
 
--- a message from a port: a created destination
+-- a message from a port: a created destination port
 abbrev pub destination_conditions : Option Port → List Condition
 destination_conditions port = conditions_for port (λ found. when (is_source found.direction) condition.NotDestination)

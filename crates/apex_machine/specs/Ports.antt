@@ -1,4 +1,4 @@
--- Channels: what a call through a port gives its caller, and what the channel holds after it.
+-- Channels: what a call through a port gives its caller, and what it leaves in the channel.
 use Rattle.std.specs.Prelude.{ℕ, ◌-◌, List, [], Option, Some, None, Bool, true, false, ℤ, pos, nat_le, length, ◌||◌, if◌then◌else◌}
 use Rattle.apex_types.specs.declared.code.Code.TheVariants as code
 use Rattle.apex_types.specs.declared.object_kind.ObjectKind.{ObjectKind}
@@ -25,7 +25,7 @@ pub data Use : Type 0 where
   Receive : (time_out : ℤ) → Use
   Ask : Use
 
--- GET_QUEUING_PORT_STATUS asks the channel; the status of anything else is its partition's
+-- GET_QUEUING_PORT_STATUS asks the channel; every other status is reported by the partition
 abbrev pub asked_of : ObjectKind → Option Use
 asked_of kind.QueuingPort = Some Ask
 asked_of _ = None
@@ -58,21 +58,21 @@ abbrev pub channel_by : Option Port → Option ℕ
 channel_by None = None
 channel_by (Some port) = Some port.channel
 
--- the channel that a service goes to, if it goes through a port
+-- the channel of the port that a service goes through, if it goes through one
 abbrev pub channel_of : Partition → Request → Option ℕ
 channel_of partition request = channel_by (port_of partition request)
 
 -- sampling channels
 
--- a message is valid where its age is at most the refresh period
+-- a message is valid if its age is at most the refresh period
 abbrev pub validity : ℕ → ℕ → Stamped → ℕ
 validity now refresh last = if nat_le (now - last.stamp) refresh then 1 else 0
 
--- WRITE_SAMPLING_MESSAGE: the message takes the place of the last one, with the time of its writing
+-- WRITE_SAMPLING_MESSAGE: the message replaces the last one and is stamped with the time of its writing
 abbrev pub written : ℕ → List ℕ → Effect (Option Stamped)
 written now message = record { answer = done; next = Some (record { message = message; stamp = now }) }
 
--- what a reader gets: the last message and whether it is valid; of an empty channel nothing, which is invalid
+-- what a reader gets: the last message and whether it is valid; from an empty channel no message, and the validity is 0
 abbrev pub reading_of : ℕ → ℕ → Option Stamped → Answer
 reading_of now refresh None = record { out = out.Answer code.NoAction; val = Number (pos 0); val2 = None; val3 = None; bytes = []; woken = [] }
 reading_of now refresh (Some last) =
@@ -84,15 +84,15 @@ sampled now refresh last = record { answer = reading_of now refresh last; next =
 
 -- any channel
 
--- those that wait at a partition's end of a queuing channel: at its source to send, else to receive
+-- the processes that wait at a partition's end of a queuing channel: at its source to send, else to receive
 abbrev pub waiting_at_end : Configuration → ℕ → ℕ → Channel → List Entry
 waiting_at_end configuration number partition channel = if is_at_source configuration number partition then channel.senders else channel.receivers
 
--- GET_QUEUING_PORT_STATUS: how many messages the channel holds, and how many wait at the caller's end
+-- GET_QUEUING_PORT_STATUS: how many messages the channel holds, and how many processes wait at the caller's end
 abbrev pub channel_status : Messages → List Entry → Status
 channel_status messages waiting = record { val = length messages; val2 = Some (length waiting); val3 = None }
 
--- whether a channel is of the kind that this use wants; only a partition at one of its ends may ask for its status
+-- whether a channel is of the kind that this use needs; only a partition at one of its ends may ask for its status
 abbrev pub suits : Configuration → ℕ → ℕ → Use → Content → Bool
 suits configuration number partition (Write message) (Sampled last) = true
 suits configuration number partition Read (Sampled last) = true
@@ -101,7 +101,8 @@ suits configuration number partition (Receive time_out) (Queued messages) = true
 suits configuration number partition Ask (Queued messages) = is_at_source configuration number partition || is_at_destination configuration number partition
 suits configuration number partition _ _ = false
 
--- the use of a channel by this partition, at the caller's time; of the wrong kind it does nothing, and no such call is lawful
+-- the use of a channel by this partition, at the caller's time; on a channel of the wrong kind a use does nothing, and no such call is
+-- lawful
 abbrev pub used : Configuration → ℕ → ℕ → ℕ → Use → Channel → Content → Effect Content
 used configuration now number partition (Write message) channel (Sampled last) = effect_on Sampled (written now message)
 used configuration now number partition Read channel (Sampled last) = effect_on Sampled (sampled now (refresh_of configuration number) last)
@@ -113,7 +114,7 @@ used configuration now number partition Ask channel (Queued messages) =
     record { answer = telling (Some (channel_status messages (waiting_at_end configuration number partition channel))); next = Queued messages }
 used configuration now number partition how channel content = record { answer = done; next = content }
 
--- what a channel gives the caller of a request, by the caller's partition, and what it holds afterwards
+-- what a channel gives the caller of a request, by the caller's partition, and what the channel holds afterwards
 abbrev pub channel_effect : Configuration → ℕ → ℕ → ℕ → Option Use → Channel → Effect Content
 channel_effect configuration now number partition None channel = record { answer = done; next = channel.content }
 channel_effect configuration now number partition (Some how) channel = used configuration now number partition how channel channel.content

@@ -1,4 +1,4 @@
--- The error conditions of processes, their waits and the partition's mode.
+-- The error conditions of the services on processes, on the caller's waits and on the partition's mode.
 use Rattle.std.specs.Prelude.{ℕ, ◌-◌, List, [], ◌∷◌, ◌++◌, length, Option, Some, None, Bool, ℤ, not, is_none, is_some, nat_eq, nat_le, ◌&&◌, ◌||◌}
 use Rattle.apex_types.specs.declared.record.Who.{Who}
 use Rattle.apex_machine.specs.declared.condition.Condition.{Condition}
@@ -19,13 +19,13 @@ created_count table = length table - 1
 abbrev pub is_periodic : Process → Bool
 is_periodic process = is_some process.period
 
--- a process is suspended that another suspended, or that suspended itself
+-- a process is suspended if another process suspended it, or if it suspended itself
 abbrev pub is_suspended : Process → Bool
 is_suspended process = process.suspended || is_suspension process.wait
 
 -- process management
 
--- CREATE_PROCESS: as each creation; a priority and a period in range, and a period that suits the partition's
+-- CREATE_PROCESS: the conditions of every creation; a priority and a period in range, and a period that suits the partition's
 abbrev pub create_process_conditions : Configuration → ℕ → Partition → List ℕ → ℤ → ℤ → List Condition
 create_process_conditions configuration number partition name priority period =
     creation_conditions partition (is_taken (λ (process : Process). process.name) name partition.table)
@@ -34,19 +34,19 @@ create_process_conditions configuration number partition name priority period =
     ++ when (not (is_period period)) condition.PeriodOutOfRange
     ++ when (not (suits_period (period_of configuration number) period)) condition.PeriodNotMultiple
 
--- INITIALIZE_PROCESS_CORE_AFFINITY: a created process; not in NORMAL; one of the partition's cores
+-- INITIALIZE_PROCESS_CORE_AFFINITY: a created process; a mode other than NORMAL; one of the partition's cores
 abbrev pub affinity_conditions : Configuration → ℕ → Partition → ℤ → ℤ → List Condition
 affinity_conditions configuration number partition process core =
     when (is_none (created partition.table process)) condition.NotCreated
     ++ when (is_normal partition.mode) condition.InNormal
     ++ when (not (is_core configuration number core)) condition.CoreNotOfPartition
 
--- START: a created process, and a dormant one
+-- START: a created process that is dormant
 abbrev pub start_conditions : Option Process → List Condition
 start_conditions None = condition.NotCreated ∷ []
 start_conditions (Some process) = when process.alive condition.AlreadyStarted
 
--- STOP: a created process, not the caller, and not a dormant one
+-- STOP: a created process, other than the caller, that is not dormant
 abbrev pub stop_conditions : Who → Option Process → ℤ → List Condition
 stop_conditions who target process =
     conditions_for target (λ found. when (not found.alive) condition.AlreadyDormant) ++ when (is_number process who.proc) condition.NamesItself
@@ -55,30 +55,30 @@ stop_conditions who target process =
 abbrev pub suspension_conditions : Process → List Condition
 suspension_conditions process = when (not process.alive) condition.Dormant ++ when (is_periodic process) condition.Periodic
 
--- SUSPEND: a created process, not the caller, neither dormant nor periodic, and not yet suspended
+-- SUSPEND: a created process, other than the caller, that is neither dormant nor periodic and not yet suspended
 abbrev pub suspend_conditions : Who → Option Process → ℤ → List Condition
 suspend_conditions who target process =
     conditions_for target (λ found. suspension_conditions found ++ when (is_suspended found) condition.AlreadySuspended)
     ++ when (is_number process who.proc) condition.NamesItself
 
--- RESUME: a created process, not the caller, neither dormant nor periodic, and a suspended one
+-- RESUME: a created process, other than the caller, that is neither dormant nor periodic and is suspended
 abbrev pub resume_conditions : Who → Option Process → ℤ → List Condition
 resume_conditions who target process =
     conditions_for target (λ found. suspension_conditions found ++ when (found.alive && not (is_suspended found)) condition.NotSuspended)
     ++ when (is_number process who.proc) condition.NamesItself
 
--- SET_PRIORITY: a created process, and not a dormant one; a priority in range
+-- SET_PRIORITY: a created process that is not dormant; a priority in range
 abbrev pub set_priority_conditions : Option Process → ℤ → List Condition
 set_priority_conditions target priority =
     conditions_for target (λ found. when (not found.alive) condition.Dormant) ++ when (not (is_priority priority)) condition.PriorityOutOfRange
 
--- GET_MY_ID: not the initialising process
+-- GET_MY_ID: a caller other than the initialising process
 abbrev pub get_my_id_conditions : Who → List Condition
 get_my_id_conditions who = when (nat_eq who.proc 0) condition.InitialisingCaller
 
 -- waits of the caller
 
--- SUSPEND_SELF: a time-out that there is; an aperiodic process that may wait
+-- SUSPEND_SELF: a time-out in range; an aperiodic process that may wait
 abbrev pub suspend_self_conditions : Who → Partition → ℤ → List Condition
 suspend_self_conditions who partition time_out =
     time_out_conditions time_out
@@ -97,7 +97,7 @@ periodic_wait_conditions who partition =
 
 -- the partition's mode
 
--- SET_PARTITION_MODE: a mode that there is; not NORMAL in NORMAL, and not WARM_START in COLD_START
+-- SET_PARTITION_MODE: a mode in range; not NORMAL in NORMAL, and not WARM_START in COLD_START
 abbrev pub set_mode_conditions : Mode → ℤ → List Condition
 set_mode_conditions current mode =
     when (not (is_mode mode)) condition.ModeOutOfRange

@@ -1,4 +1,4 @@
--- What becomes of one process: by a service of its partition, by the end of its wait, by its own call.
+-- What becomes of a process: by a service of its partition, by the end of its wait, and by its own call.
 use Rattle.std.specs.Prelude.{ℕ, List, [], Option, Some, None, Bool, true, false, ℤ, ◌&&◌, if◌then◌else◌}
 use Rattle.apex_types.specs.declared.code.Code.{Code}
 use Rattle.apex_types.specs.declared.code.Code.TheVariants as code
@@ -44,7 +44,7 @@ new_process core name priority period = record {
   called_at = 0;
 }
 
--- START sets the current priority back; the process enters NORMAL at once, or waits for it   (START, section 3)
+-- START sets the current priority back to the base priority; the process enters NORMAL at once, or waits for it   (START, section 3)
 abbrev pub started : ℕ → ℕ → ℕ → Mode → Process → Process
 started place partition_period now mode process = record process {
   current_priority = process.base_priority;
@@ -53,7 +53,7 @@ started place partition_period now mode process = record process {
   ready_position = place;
 }
 
--- NORMAL lets those enter that wait for it   (SET_PARTITION_MODE, section 3)
+-- each process that waits for NORMAL enters it   (SET_PARTITION_MODE, section 3)
 abbrev pub after_normal : ℕ → ℕ → ℕ → Process → Process
 after_normal place partition_period now process =
     if waits_for_normal process.wait
@@ -66,29 +66,29 @@ stopped process = record process { alive = false; suspended = false; wait = wait
 
 -- priorities
 
--- the owner of a mutex runs with the mutex's priority, and its own is retained   (ACQUIRE_MUTEX, section 3)
+-- the owner of a mutex runs with the mutex's priority, and retains its own   (ACQUIRE_MUTEX, section 3)
 abbrev pub granted : ℕ → Process → Process
 granted priority process = record process { retained_priority = process.current_priority; current_priority = priority }
 
--- the retained priority is the current one again   (RELEASE_MUTEX, section 3)
+-- the retained priority becomes the current one again   (RELEASE_MUTEX, section 3)
 abbrev pub restored : Process → Process
 restored process = record process { current_priority = process.retained_priority }
 
--- by whether a process owned the mutex, and whether it does now
+-- a process, by whether it owned the mutex before and whether it owns it now
 abbrev pub on_ownership : Bool → Bool → ℕ → Process → Process
 on_ownership false true priority process = granted priority process
 on_ownership true false priority process = restored process
 on_ownership true true priority process = process
 on_ownership false false priority process = process
 
--- the change of a mutex changes the priority of who owns it from then on, and of who no longer does
+-- a change of a mutex changes the priority of the process that becomes its owner, and of the process that stops being its owner
 abbrev pub by_mutex : Option Mutex → (Mutex → Mutex) → ℕ → Process → Process
 by_mutex None change number process = process
 by_mutex (Some mutex) change number process =
     on_ownership (is_owner mutex.owner number) (is_owner (change mutex).owner number) mutex.priority process
 
--- what a service that names a process sets in it, by the time of its core: INITIALIZE_PROCESS_CORE_AFFINITY, START, SUSPEND,
--- RESUME and SET_PRIORITY; how STOP leaves it is said where processes are stopped
+-- what a service that names a process sets in it, by the time of its core: INITIALIZE_PROCESS_CORE_AFFINITY, START, SUSPEND, RESUME and
+-- SET_PRIORITY; another definition says how STOP leaves it
 abbrev pub set_in : ℕ → ℕ → ℕ → Mode → ProcessOperation → Process → Process
 set_in place period now mode (ProcessOperation.InitializeCoreAffinity core) process = record process { affinity = natural_of core }
 set_in place period now mode ProcessOperation.Start process = started place period now mode process
@@ -97,9 +97,9 @@ set_in place period now mode ProcessOperation.Suspend process = record process {
 set_in place period now mode ProcessOperation.Resume process = record process { suspended = false; ready_position = place }
 set_in place period now mode (ProcessOperation.SetPriority priority) process = record process { current_priority = natural_of priority; ready_position = place }
 
--- what a call sets in the processes of its partition, beside the waits that it ends and its caller's wait and outcome: a service
--- that names a process something of its target, SET_PARTITION_MODE those that wait for NORMAL, ACQUIRE_MUTEX and RELEASE_MUTEX the
--- priority of the owners. Times are those of their own cores
+-- what a call sets in the processes of its partition, apart from the waits that it ends and its caller's wait and outcome: a service that
+-- names a process sets something in its target, SET_PARTITION_MODE in those that wait for NORMAL, ACQUIRE_MUTEX and RELEASE_MUTEX the
+-- priority of the owners. Times are those of the processes' own cores
 abbrev pub set_by : ℕ → ℕ → List CoreState → Partition → ℕ → Request → ℕ → Process → Process
 set_by place period cores partition caller (request.Process given operation) number process =
     if is_number given number then set_in place period (time_of cores process.affinity) partition.mode operation process else process
@@ -110,7 +110,7 @@ set_by place period cores partition caller _ number process = process
 
 -- the end of a wait
 
--- the outcome of a service, if it owes one
+-- the outcome that a service gives its caller, if there is such a service
 abbrev pub owed : Option Service → Code → List ℕ → Option Outcome
 owed None code bytes = None
 owed (Some service) code bytes = Some (record { service = service; code = code; val = None; val2 = None; val3 = None; bytes = bytes })
@@ -123,7 +123,8 @@ service_of_wait (wait.Suspended due) = Some service.SuspendSelf
 service_of_wait (wait.At set due) = Some (service_at set)
 service_of_wait _ = None
 
--- the code with which a wait ends that falls due: TIMED_OUT where something was waited for, NO_ERROR where the time was
+-- the code with which a wait ends that falls due: TIMED_OUT if the process waited for something else than a time, NO_ERROR if it waited for
+-- a time
 abbrev pub code_when_due : Wait → Code
 code_when_due (wait.Suspended due) = code.TimedOut
 code_when_due (wait.At set due) = code.TimedOut
@@ -145,15 +146,15 @@ wait_ended place outcome process = record process {
   due = outcome;
 }
 
--- a wait that ends at a tick
+-- a process whose wait ends at a tick
 abbrev pub released : ℕ → Process → Process
 released place process = wait_ended place (owed (service_of_wait process.wait) (code_when_due process.wait) []) process
 
--- a wait that ends by a call, which may hand over a message
+-- a process whose wait a call ends, which may hand over a message
 abbrev pub woken_by : ℕ → List ℕ → Process → Process
 woken_by place message process = wait_ended place (owed (service_of_wait process.wait) code.NoError message) process
 
--- the message that a call hands to those whose waits it ends
+-- the message that a call hands to the processes whose waits it ends
 abbrev pub message_handed_over : Request → List ℕ
 message_handed_over (request.Buffer buffer (BufferOperation.Send length time_out message)) = message
 message_handed_over (request.Blackboard blackboard (BlackboardOperation.Display length message)) = message
@@ -162,13 +163,13 @@ message_handed_over _ = []
 
 -- the caller
 
--- a call that renews its caller's ready position: TIMED_WAIT with a delay of 0, PERIODIC_WAIT whose release is reached
+-- a call that renews its caller's ready position: TIMED_WAIT with a delay of 0, or PERIODIC_WAIT whose release is reached
 abbrev pub renews : Request → Bool
 renews (request.Caller (CallerOperation.TimedWait delay)) = is_over delay
 renews (request.Caller CallerOperation.PeriodicWait) = true
 renews _ = false
 
--- the last release after a call: PERIODIC_WAIT that found the next one reached takes it
+-- the last release after a call: a PERIODIC_WAIT that found the next release reached takes it
 abbrev pub release_taken : Request → Process → ℕ
 release_taken (request.Caller CallerOperation.PeriodicWait) process = next_release process
 release_taken _ process = process.last_release
@@ -194,6 +195,6 @@ caller_with place now call (out.Answer code) process = record process {
   due = Some (outcome_of call code);
 }
 
--- the caller, with its core's time noted
+-- the caller, with the time of its core noted
 abbrev pub caller_after : ℕ → ℕ → CallRecord → Process → Process
 caller_after place now call process = record (caller_with place now call call.claim.out process) { called_at = now }

@@ -6,7 +6,7 @@ use Rattle.apex_machine.specs.Configuration.{Configuration}
 use Rattle.apex_machine.specs.Demands.{FirstFails, LocalStep, demands}
 use Rattle.apex_machine.specs.Pieces.{Part, Piece, touches}
 
--- the records stand at this place and those after it
+-- the records are at this place and the places after it
 abbrev pub ArePlaced : ℕ → List Ordered → Type 0
 ArePlaced place [] = Unit {0}
 ArePlaced place (ordered ∷ others) = (ordered.pos ≡ place) × ArePlaced (suc place) others
@@ -16,7 +16,7 @@ abbrev pub AreOfCores : ℕ → List Ordered → Type 0
 AreOfCores cores [] = Unit {0}
 AreOfCores cores (ordered ∷ others) = (ordered.core < cores) × AreOfCores cores others
 
--- a record that touches the piece is its local step; another leaves its part as it was
+-- if a record touches the piece, the piece makes its local step; else its part stays as it was
 abbrev pub Goes : Bool → Configuration → Part → Ordered → Part → Type 0
 Goes true configuration old ordered new = LocalStep configuration old ordered new
 Goes false configuration old ordered new = new ≡ old
@@ -28,12 +28,12 @@ PieceRun configuration piece old (ordered ∷ others) final =
     (next : Part) × Goes (touches configuration piece ordered) configuration old ordered next
     × PieceRun configuration piece next others final
 
--- a piece refuses the record at a place, with a cause
+-- a piece rejects the record at a place, for a cause
 pub record Refusal : Type 0 where
   pub pos : ℕ
   pub cause : Cause
 
--- a piece runs over these records, and then refuses this one, which touches it, for this cause
+-- a piece runs over these records, and then rejects this one, which touches it, for this cause
 abbrev pub Refuses : Configuration → Piece → Part → List Ordered → Ordered → Cause → Type 0
 Refuses configuration piece old before ordered cause =
     (reached : Part) × PieceRun configuration piece old before reached

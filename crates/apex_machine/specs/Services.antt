@@ -1,4 +1,4 @@
--- Which calls stand within the profile, and what each service gives its caller, where no error condition holds.
+-- Which calls are within the profile, and what each service gives its caller if no error condition holds.
 use Rattle.std.specs.Prelude.{ℕ, [], ◌∷◌, Option, Some, None, Bool, true, ℤ, pos, not, nat_eq, ◌&&◌, if◌then◌else◌}
 use Rattle.apex_types.specs.declared.record.Who.{Who}
 use Rattle.apex_types.specs.declared.operation.{CallerOperation.CallerOperation, ProcessOperation.ProcessOperation}
@@ -22,8 +22,8 @@ use Rattle.apex_machine.specs.Statuses.{status_of, telling}
 abbrev pub waits_for_mutex : Table → ℕ → Bool
 waits_for_mutex table number = of_caller (λ process. is_for_mutex process.wait) (item_at table number)
 
--- where no error condition holds, these stand outside the profile: a stop of a mutex's owner, or of the initialising process by
--- itself; SUSPEND and SET_PRIORITY of a process that owns a mutex or waits for one
+-- if no error condition holds, these calls are outside the profile: a stop of a mutex's owner, or of the initialising process by itself;
+-- SUSPEND and SET_PRIORITY of a process that owns a mutex or waits for one
 abbrev pub in_profile : Who → Partition → Request → Bool
 in_profile who partition (request.Process process ProcessOperation.Stop) = not (owns_mutex partition.mutexes (natural_of process))
 in_profile who partition (request.Caller CallerOperation.StopSelf) = not (nat_eq who.proc 0) && not (owns_mutex partition.mutexes who.proc)
@@ -35,7 +35,7 @@ in_profile who partition _ = true
 
 -- what the caller gets
 
--- an answer of an object that is created
+-- the answer of an object that is created
 abbrev pub answer_by : {Object : Type 0} → Option Object → (Object → Answer) → Answer
 answer_by None gives = done
 answer_by (Some object) gives = gives object
@@ -49,9 +49,9 @@ resuming who (Some process) = if is_suspension process.wait then waking (who ∷
 abbrev pub peer : Who → ℤ → Who
 peer who process = record { part = who.part; proc = natural_of process }
 
--- what each service gives, at its caller's core's time   (section 3): a creation a new number, GET_MY_ID the caller's,
--- GET_TIME the time, GET_BUFFER_ID and its like the number of what has the name, GET_BUFFER_STATUS and its like what is reported of
--- the object; a wait with a time-out or a delay of 0 is over at once, PERIODIC_WAIT where the next release is reached; STOP_SELF and
+-- what each service gives, at the time of its caller's core   (section 3): a creation a new number, GET_MY_ID the caller's, GET_TIME the
+-- time, GET_BUFFER_ID and its counterparts the number of what has the name, GET_BUFFER_STATUS and its counterparts the status of the
+-- object; a wait with a time-out or a delay of 0 is over at once, and so is PERIODIC_WAIT if the next release is reached; STOP_SELF and
 -- SET_PARTITION_MODE do not return
 abbrev pub answer_of : ℕ → Who → Partition → Request → Answer
 answer_of now who partition (request.CreateProcess name priority period) = done_with (NewNumber (is_free partition.table))

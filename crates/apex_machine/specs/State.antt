@@ -18,7 +18,7 @@ use Rattle.apex_machine.specs.Channels.{queuing_of}
 abbrev pub Table : Type 0
 Table = List (ℕ × Process)
 
--- a buffer: the messages that it holds, the oldest first, and those that wait to send and to receive   (buffers, section 3)
+-- a buffer: the messages that it holds, the oldest first, and the processes that wait to send and to receive   (buffers, section 3)
 pub record Buffer : Type 0 where
   pub name : List ℕ
   pub size : ℕ
@@ -28,14 +28,14 @@ pub record Buffer : Type 0 where
   pub senders : List Entry
   pub receivers : List Entry
 
--- a blackboard: the message on it, if it isn't empty, and those that wait to read   (blackboards, section 3)
+-- a blackboard: the message on it, if it is not empty, and the processes that wait to read   (blackboards, section 3)
 pub record Blackboard : Type 0 where
   pub name : List ℕ
   pub size : ℕ
   pub message : Option (List ℕ)
   pub readers : List Entry
 
--- a counting semaphore: its value, its maximum, and those that wait   (semaphores, section 3)
+-- a counting semaphore: its value, its maximum, and the processes that wait   (semaphores, section 3)
 pub record Semaphore : Type 0 where
   pub name : List ℕ
   pub maximum : ℕ
@@ -43,13 +43,13 @@ pub record Semaphore : Type 0 where
   pub value : ℕ
   pub waiters : List Entry
 
--- an event: whether it is up, and those that wait for it   (events, section 3)
+-- an event: whether it is up, and the processes that wait for it   (events, section 3)
 pub record Event : Type 0 where
   pub name : List ℕ
   pub up : Bool
   pub waiters : List Entry
 
--- a mutex: its priority, the process that owns it, how often it was acquired, and those that wait   (mutexes, section 3)
+-- a mutex: its priority, the process that owns it, how often it was acquired, and the processes that wait   (mutexes, section 3)
 pub record Mutex : Type 0 where
   pub name : List ℕ
   pub priority : ℕ
@@ -89,13 +89,13 @@ pub data Content : Type 0 where
   Sampled : (last : Option Stamped) → Content
   Queued : (messages : List (List ℕ)) → Content
 
--- a channel: what it holds, and those that wait at its two ends
+-- a channel: what it holds, and the processes that wait at its two ends
 pub record Channel : Type 0 where
   pub content : Content
   pub senders : List Entry
   pub receivers : List Entry
 
--- how many records were judged, the cores, and the partitions and channels by number
+-- the number of records judged so far, the cores, and the partitions and channels by number
 pub record State : Type 0 where
   pub count : ℕ
   pub cores : List CoreState
@@ -120,7 +120,7 @@ names_one_of partition (who ∷ others) = nat_eq who.part partition || names_one
 
 -- processes and objects by number
 
--- the process or object of a number, if it is created
+-- the process or object of this number, if it is created
 abbrev pub item_at : {Item : Type 0} → List (ℕ × Item) → ℕ → Option Item
 item_at [] number = None
 item_at (entry ∷ entries) number = if nat_eq number entry.0 then Some entry.1 else item_at entries number
@@ -130,7 +130,7 @@ abbrev pub each_item : {Item : Type 0} → (ℕ → Item → Item) → List (ℕ
 each_item change [] = []
 each_item change (entry ∷ entries) = (entry.0, change entry.0 entry.1) ∷ each_item change entries
 
--- those of a kind, with the one of this number changed
+-- the processes or objects of a kind, with the one of this number changed
 abbrev pub change_at : {Item : Type 0} → ℕ → (Item → Item) → List (ℕ × Item) → List (ℕ × Item)
 change_at number change items = each_item (λ other item. if nat_eq other number then change item else item) items
 
@@ -138,12 +138,12 @@ change_at number change items = each_item (λ other item. if nat_eq other number
 abbrev pub is_free : {Item : Type 0} → List (ℕ × Item) → ℕ → Bool
 is_free items number = is_none (item_at items number)
 
--- the object of a number that a caller gives, if it is created
+-- the object of the number that a caller gives, if it is created
 abbrev pub given_object : {Object : Type 0} → List (ℕ × Object) → ℤ → Option Object
 given_object objects (pos number) = item_at objects number
 given_object objects (negsuc n) = None
 
--- the created process of a number that a caller gives; 0 is none, since nobody created the initialising process
+-- the created process of the number that a caller gives; number 0 counts as not created, since nobody created the initialising process
 abbrev pub created : Table → ℤ → Option Process
 created table (pos zero) = None
 created table (pos (suc n)) = item_at table (suc n)
@@ -171,7 +171,7 @@ name_in kind.Mutex mutex = mutex.name
 name_in kind.SamplingPort port = port.name
 name_in kind.QueuingPort port = port.name
 
--- all that is created of a kind, under its numbers
+-- all that is created of a kind, under the numbers
 abbrev pub objects_of : Partition → (kind : ObjectKind) → List (ℕ × ObjectOf kind)
 objects_of partition kind.Buffer = partition.buffers
 objects_of partition kind.Blackboard = partition.blackboards
@@ -189,7 +189,7 @@ time_of [] core = 0
 time_of (state ∷ states) zero = state.time
 time_of (state ∷ states) (suc core) = time_of states core
 
--- the process to which the last dispatch gave a core, or none where it stands idle
+-- the process to which the last dispatch gave a core, or none if the core is idle
 abbrev pub occupant_of : List CoreState → ℕ → Option Who
 occupant_of [] core = None
 occupant_of (state ∷ states) zero = state.occupant
@@ -226,7 +226,7 @@ abbrev pub first_processes : Mode → ℕ → ℕ → Table
 first_processes mode.Idle core place = []
 first_processes _ core place = (0, initialising_process core place) ∷ []
 
--- a partition as it starts in a mode at this place: with its first processes, without objects and ports   (partition modes, section 2)
+-- a partition as it starts in a mode at this place: with its first processes, and without objects and ports   (partition modes, section 2)
 abbrev pub started_partition : Mode → Configuration → ℕ → ℕ → Partition
 started_partition mode configuration number place = record {
   mode = mode;

@@ -1,4 +1,4 @@
--- What services tell of the state of an object. They leave it as it is.
+-- What services report of the state of an object. They leave the object as it is.
 use Rattle.std.specs.Prelude.{ℕ, ◌+◌, List, [], Option, Some, None, Bool, true, false, ℤ, pos, is_some, length, option_map, if◌then◌else◌}
 use Rattle.apex_types.specs.declared.code.Code.TheVariants as code
 use Rattle.apex_types.specs.declared.object_kind.ObjectKind.{ObjectKind}
@@ -10,7 +10,7 @@ use Rattle.apex_machine.specs.Answer.{Answer, Nothing, Number, Value}
 use Rattle.apex_machine.specs.Conditions.{conditions_for}
 use Rattle.apex_machine.specs.State.{Blackboard, Buffer, Event, Mutex, Partition, Port, Semaphore, given_object, objects_of}
 
--- 1 for what is so, 0 for what isn't
+-- 1 for what is true, 0 for what is not
 abbrev pub number_reported : Bool → ℕ
 number_reported true = 1
 number_reported false = 0
@@ -31,7 +31,7 @@ semaphore_status semaphore = record { val = semaphore.value; val2 = Some (length
 abbrev pub event_status : Event → Status
 event_status event = record { val = number_reported event.up; val2 = Some (length event.waiters); val3 = None }
 
--- the number of a mutex's owner, and 0 where it has none; no mutex is owned by the initialising process
+-- the number of a mutex's owner, or 0 if it has none; no mutex is owned by the initialising process
 abbrev pub owner_reported : Option ℕ → ℕ
 owner_reported None = 0
 owner_reported (Some owner) = owner
@@ -40,11 +40,11 @@ owner_reported (Some owner) = owner
 abbrev pub mutex_status : Mutex → Status
 mutex_status mutex = record { val = owner_reported mutex.owner; val2 = Some (length mutex.waiters); val3 = Some mutex.count }
 
--- GET_SAMPLING_PORT_STATUS: whether its last read gave a valid sample; nobody reads at a source
+-- GET_SAMPLING_PORT_STATUS: whether its last read gave a valid sample; no process reads at a source
 abbrev pub sampling_port_status : Port → Status
 sampling_port_status port = record { val = number_reported port.valid; val2 = None; val3 = None }
 
--- the status of the object of a kind that has this number, if it is created; that of a queuing port is its channel's to tell
+-- the status of the object of a kind that has this number, if it is created; the channel of a queuing port reports that port's status
 abbrev pub status_of : Partition → ObjectKind → ℤ → Option Status
 status_of partition kind.Buffer buffer = option_map buffer_status (given_object partition.buffers buffer)
 status_of partition kind.Blackboard blackboard = option_map blackboard_status (given_object partition.blackboards blackboard)
@@ -54,7 +54,7 @@ status_of partition kind.Mutex mutex = option_map mutex_status (given_object par
 status_of partition kind.SamplingPort port = option_map sampling_port_status (given_object partition.sampling_ports port)
 status_of partition kind.QueuingPort port = None
 
--- GET_BUFFER_STATUS and its like: a created object or port of the kind
+-- GET_BUFFER_STATUS and its counterparts: a created object or port of the kind
 abbrev pub get_status_conditions : Partition → ObjectKind → ℤ → List Condition
 get_status_conditions partition kind object = conditions_for (given_object (objects_of partition kind) object) (λ found. [])
 
@@ -73,7 +73,7 @@ abbrev pub third_reported : Option Status → Option ℤ
 third_reported None = None
 third_reported (Some status) = option_map pos status.val3
 
--- the service tells a status at once
+-- the service reports a status at once
 abbrev pub telling : Option Status → Answer
 telling status = record {
   out = out.Answer code.NoError;

@@ -1,4 +1,4 @@
--- A step of the machine: what a record must claim, and the state that it then leads to. A run is one step after another.
+-- A step of the machine: what a record must claim, and the state to which it then leads. A run is one step after another.
 use Rattle.std.specs.Prelude.{◌≡◌, ◌⊎◌, ℕ, ◌+◌, ◌≤◌, List, [], ◌∷◌, Option, Some, None, Bool, IsTrue}
 use Rattle.apex_types.specs.declared.code.Code.{Code}
 use Rattle.apex_types.specs.declared.record.Body.{Body}
@@ -45,19 +45,19 @@ ChannelConfigured configuration (Some channel) = IsTrue (has_channel configurati
 
 -- ticks
 
--- a core that has come to this time is at most the skew ahead of each core
+-- a core that has reached this time is at most the skew ahead of each core
 abbrev pub KeepsSkew : ℕ → ℕ → List CoreState → Type 0
 KeepsSkew time skew [] = Unit {0}
 KeepsSkew time skew (state ∷ states) = (time ≤ state.time + skew) × KeepsSkew time skew states
 
 -- calls and returns
 
--- the process is there, and no outcome is due to it
+-- the process exists, and no outcome is due to it
 abbrev pub HasNoneDue : Option Process → Type 0
 HasNoneDue None = ⊥
 HasNoneDue (Some process) = process.due ≡ None
 
--- the process is there, and this is its current priority
+-- the process exists, and this is its current priority
 abbrev pub HasPriority : ℕ → Option Process → Type 0
 HasPriority priority None = ⊥
 HasPriority priority (Some process) = process.current_priority ≡ priority
@@ -78,7 +78,7 @@ HasCode conditions out.Waits = ⊥
 HasCode conditions out.Never = ⊥
 HasCode conditions (out.Answer code) = IsCodeOf conditions code
 
--- where error conditions hold: one of their codes, and nothing else is claimed
+-- if error conditions hold: the outcome is one of their codes, and nothing else is claimed
 pub record IsRefused (conditions : List Condition) (claim : Claim) : Type 0 where
   pub chan : claim.chan ≡ None
   pub out : HasCode conditions claim.out
@@ -86,7 +86,7 @@ pub record IsRefused (conditions : List Condition) (claim : Claim) : Type 0 wher
   pub bytes : claim.bytes ≡ []
   pub woken : claim.woken ≡ []
 
--- where none holds and no channel is used: the outcome of the service, with its values, its message and those whose waits end
+-- if none holds and no channel is used: the outcome is the service's, with its values, its message and the processes whose waits end
 pub record IsAnswered (answer : Answer) (claim : Claim) : Type 0 where
   pub chan : claim.chan ≡ None
   pub out : claim.out ≡ answer.out
@@ -94,7 +94,7 @@ pub record IsAnswered (answer : Answer) (claim : Claim) : Type 0 where
   pub bytes : claim.bytes ≡ answer.bytes
   pub woken : NamesExactly answer.woken claim.woken
 
--- where none holds and a channel is used, which is the port's and of the service's kind: the outcome that the channel gives
+-- if none holds and a channel is used, which is the port's and of the service's kind: the outcome is the one that the channel gives
 pub record IsThrough (channel : ℕ) (suited : Bool) (answer : Answer) (claim : Claim) : Type 0 where
   pub chan : claim.chan ≡ Some channel
   pub kind : IsTrue suited
@@ -103,19 +103,19 @@ pub record IsThrough (channel : ℕ) (suited : Bool) (answer : Answer) (claim : 
   pub bytes : claim.bytes ≡ answer.bytes
   pub woken : NamesExactly answer.woken claim.woken
 
--- the outcome of a call, by its error conditions, the channel that it goes to, what its partition answers, and
--- whether a channel suits it and what that channel answers
+-- the outcome of a call, by its error conditions, the channel through which it goes, what its partition answers, and whether a channel
+-- suits it and what that channel answers
 abbrev pub HasOutcome : List Condition → Option ℕ → Answer → (ℕ → Bool) → (ℕ → Answer) → Claim → Type 0
 HasOutcome [] None answer suited through claim = IsAnswered answer claim
 HasOutcome [] (Some channel) answer suited through claim = IsThrough channel (suited channel) (through channel) claim
 HasOutcome (condition ∷ conditions) channel answer suited through claim = IsRefused (condition ∷ conditions) claim
 
--- a demand that stands only where no error condition holds
+-- a demand that applies only if no error condition holds
 abbrev pub WhereNone : List Condition → Type 0 → Type 0
 WhereNone [] Demanded = Demanded
 WhereNone (condition ∷ conditions) Demanded = Unit {0}
 
--- where no error condition holds, the call is within the profile
+-- if no error condition holds, the call is within the profile
 abbrev pub IsWithinProfile : List Condition → Who → Partition → Request → Type 0
 IsWithinProfile conditions who partition request = WhereNone conditions (IsTrue (in_profile who partition request))
 
@@ -124,7 +124,7 @@ abbrev pub channel_answer : Configuration → ℕ → ℕ → Request → (ℕ �
 channel_answer configuration now partition request channels number =
     (channel_effect configuration now number partition (use_of request) (channels number)).answer
 
--- what a return gives back
+-- the outcome that a return gives back
 abbrev pub outcome_returned : Return → Outcome
 outcome_returned ret = record { service = ret.service; code = ret.code; val = ret.val; val2 = ret.val2; val3 = ret.val3; bytes = ret.bytes }
 
@@ -135,7 +135,7 @@ pub record IsLawfulDispatch (configuration : Configuration) (state : State) (cor
   pub names : OneConfigured configuration who
   pub choice : choice configuration state core ≡ who
 
--- a tick keeps the skew, comes where the occupant is the choice, and names exactly those that fall due
+-- a tick keeps the skew, finds the choice as the occupant, and names exactly the processes that fall due
 pub record IsLawfulTick (configuration : Configuration) (state : State) (core : ℕ) (woken : List Who) : Type 0 where
   pub names : AllConfigured configuration woken
   pub skew : KeepsSkew (time_of state.cores core + 1) configuration.skew state.cores
@@ -166,14 +166,14 @@ pub record IsLawfulReturn (configuration : Configuration) (state : State) (core 
   pub choice : choice configuration state core ≡ Some ret.who
   pub due : due_of (item_at (state.partitions ret.who.part).table ret.who.proc) ≡ Some (outcome_returned ret)
 
--- what a record of each kind claims is so
+-- what a record of each kind claims is true
 abbrev pub IsLawfulBody : Configuration → State → ℕ → Body → Type 0
 IsLawfulBody configuration state core (Disp who) = IsLawfulDispatch configuration state core who
 IsLawfulBody configuration state core (Tick woken) = IsLawfulTick configuration state core woken
 IsLawfulBody configuration state core (Call call) = IsLawfulCall configuration state core call
 IsLawfulBody configuration state core (Ret ret) = IsLawfulReturn configuration state core ret
 
--- a record is lawful in a state where it stands at the next place and what it claims is so
+-- a record is lawful in a state if it is at the next place and what it claims is true
 pub record IsLawful (configuration : Configuration) (state : State) (ordered : Ordered) : Type 0 where
   pub placed : ordered.pos ≡ state.count
   pub claims : IsLawfulBody configuration state ordered.core ordered.rec.body

@@ -1,4 +1,4 @@
--- The view of a record: the numbers that a user's relation can speak of. The piece that judges the record has it from its part.
+-- The view of a record: the numbers that a user's relation can speak of. The piece that judges the record reads the view from its part.
 use Rattle.std.specs.Prelude.{ℕ, ◌+◌, ◌-◌, List, [], ◌∷◌, length, Option, Some, None, ℤ, pos, negsuc, nat_eq, if◌then◌else◌}
 use Rattle.apex_types.specs.declared.record.Body.{Body}
 use Rattle.apex_types.specs.declared.record.Body.TheVariants.{Call, Ret, Disp, Tick}
@@ -17,11 +17,11 @@ use Rattle.apex_machine.specs.Configuration.{Configuration}
 use Rattle.apex_machine.specs.State.{State, Table, item_at, time_of}
 use Rattle.apex_machine.specs.Step.{Run}
 
--- a field that the record hasn't
+-- a field that the record does not have
 abbrev pub absent : ℤ
 absent = negsuc 0
 
--- a value that a record claims
+-- a value that a record claims, as a field
 abbrev pub value_number : Option ℤ → ℤ
 value_number None = absent
 value_number (Some value) = value
@@ -89,7 +89,7 @@ core_view kind core time who woken = record {
   woken = pos woken;
 }
 
--- the view of a record in a run of the machine: from the state before it
+-- the view of a record in a run of the machine, read from the state before the record
 abbrev pub view_by : State → ℕ → Body → View
 view_by state core (Call call) = call_view core (time_of state.cores core) call
 view_by state core (Ret ret) =
@@ -106,7 +106,7 @@ abbrev pub run_views : (configuration : Configuration) (state : State) (records 
 run_views configuration state [] final run = []
 run_views configuration state (ordered ∷ others) final run = view_of state ordered ∷ run_views configuration run.0 others final run.2
 
--- the view that a partition gives: of its own calls and returns
+-- the view that a partition gives of each of its own calls and returns
 abbrev pub partition_view : ℕ → List CoreState → Table → ℕ → Body → Option View
 partition_view number cores table core (Call call) =
     if nat_eq call.who.part number then Some (call_view core (time_of cores core) call) else None
@@ -114,7 +114,7 @@ partition_view number cores table core (Ret ret) =
     if nat_eq ret.who.part number then Some (return_view core (time_of cores core) (item_at table ret.who.proc) ret) else None
 partition_view number cores table core _ = None
 
--- the view that the module gives: of dispatches and ticks
+-- the view that the module gives of each dispatch and tick
 abbrev pub module_view : List CoreState → ℕ → Body → Option View
 module_view cores core (Disp who) = Some (core_view 2 core (time_of cores core) who 0)
 module_view cores core (Tick woken) = Some (core_view 3 core (time_of cores core + 1) None (length woken))

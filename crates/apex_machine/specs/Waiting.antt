@@ -1,4 +1,4 @@
--- Waiting sets: who goes on first, who enters and who leaves. One rule serves all of them.
+-- Waiting sets: which process is first, which one enters and which ones leave. One rule serves all sets.
 use Rattle.std.specs.Prelude.{◌≡◌, ◌⊎◌, ◌<◌, ℕ, List, [], ◌∷◌, ◌++◌, Option, Some, None, Bool, true, false, ℤ, pos, negsuc, nat_eq, nat_lt, ◌&&◌, ◌||◌, if◌then◌else◌, is_some, Contains}
 use Rattle.apex_types.specs.declared.code.Code.TheVariants as code
 use Rattle.apex_types.specs.declared.discipline.Discipline.{Discipline}
@@ -24,39 +24,39 @@ use Rattle.apex_machine.specs.declared.state.WaitingSet.TheVariants as set
 use Rattle.apex_machine.specs.Arguments.{natural_of, restart_given}
 use Rattle.apex_machine.specs.State.{is_named}
 
--- who goes on first
+-- the first of a set
 
--- the test whether one entry goes on before another
+-- the test whether one entry precedes another
 abbrev pub precedes : Discipline → Entry → Entry → Bool
 precedes discipline.Fifo one other = nat_lt one.place other.place
 precedes discipline.Priority one other =
     nat_lt other.priority one.priority || (nat_eq one.priority other.priority && nat_lt one.place other.place)
 
--- the entry that goes on before, of one and what another walk has found
+-- of this entry and the one found among the others, if any, the one that precedes
 abbrev pub sooner_entry : Discipline → Entry → Option Entry → Option Entry
 sooner_entry discipline entry None = Some entry
 sooner_entry discipline entry (Some other) = if precedes discipline other entry then Some other else Some entry
 
--- the entry before which none of a set goes on, found by a walk from its end
+-- the entry of a set that no other precedes, found by a walk from the end of the set
 abbrev pub first_waiter : Discipline → List Entry → Option Entry
 first_waiter discipline [] = None
 first_waiter discipline (entry ∷ entries) = sooner_entry discipline entry (first_waiter discipline entries)
 
--- one entry precedes another in a waiting set: by place where the set is first in, first out; by priority, and among equals
--- by place, where it goes by priority   (QUEUING_DISCIPLINE, section 3)
+-- one entry precedes another in a waiting set: by place if the set is first in, first out; by priority, and among equals by place, if it
+-- goes by priority   (QUEUING_DISCIPLINE, section 3)
 abbrev pub Precedes : Discipline → Entry → Entry → Type 0
 Precedes discipline.Fifo one other = one.place < other.place
 Precedes discipline.Priority one other =
     (other.priority < one.priority) ⊎ ((one.priority ≡ other.priority) × (one.place < other.place))
 
--- the first of a waiting set: it stands in the set, and no other precedes it
+-- the first of a waiting set: it is in the set, and no other precedes it
 pub record IsFirst (discipline : Discipline) (entries : List Entry) (entry : Entry) : Type 0 where
-  pub stands : Contains entries entry
+  pub is_member : Contains entries entry
   pub first : (other : Entry) → Contains entries other → ¬ Precedes discipline other entry
 
 -- where a call waits
 
--- the waiting set at which the caller of a request waits, where it does; a port's is that of its channel
+-- the waiting set in which the caller of a request waits, if it waits in one; a port's set is that of its channel
 abbrev pub set_of : Request → Option ℕ → Option WaitingSet
 set_of (request.Buffer buffer (BufferOperation.Send length time_out message)) chan = Some (set.BufferSenders (natural_of buffer))
 set_of (request.Buffer buffer (BufferOperation.Receive time_out)) chan = Some (set.BufferReceivers (natural_of buffer))
@@ -68,7 +68,7 @@ set_of (request.QueuingPort port (QueuingOperation.Send length time_out message)
 set_of (request.QueuingPort port (QueuingOperation.Receive time_out)) (Some channel) = Some (set.ChannelReceivers channel)
 set_of _ chan = None
 
--- the service of those who wait in a set
+-- the service for which the processes of a set wait
 abbrev pub service_at : WaitingSet → Service
 service_at (set.BufferSenders number) = service.SendBuffer
 service_at (set.BufferReceivers number) = service.ReceiveBuffer
@@ -79,7 +79,7 @@ service_at (set.MutexWaiters number) = service.AcquireMutex
 service_at (set.ChannelSenders channel) = service.SendQueuingMessage
 service_at (set.ChannelReceivers channel) = service.ReceiveQueuingMessage
 
--- whether these are one waiting set
+-- whether these are the same waiting set
 abbrev pub is_same_set : WaitingSet → WaitingSet → Bool
 is_same_set (set.BufferSenders one) (set.BufferSenders other) = nat_eq one other
 is_same_set (set.BufferReceivers one) (set.BufferReceivers other) = nat_eq one other
@@ -91,22 +91,22 @@ is_same_set (set.ChannelSenders one) (set.ChannelSenders other) = nat_eq one oth
 is_same_set (set.ChannelReceivers one) (set.ChannelReceivers other) = nat_eq one other
 is_same_set _ _ = false
 
--- whether it is this one, if any
+-- whether there is a set, and it is this one
 abbrev pub is_the_set : WaitingSet → Option WaitingSet → Bool
 is_the_set wanted None = false
 is_the_set wanted (Some found) = is_same_set found wanted
 
--- whether a wait is one in this set
+-- whether a wait is in this set
 abbrev pub is_in : WaitingSet → Wait → Bool
 is_in wanted (wait.At found due) = is_same_set found wanted
 is_in wanted _ = false
 
--- whether a process stands that waits in this set; who waits is alive
+-- whether a process exists and waits in this set; a process that waits is alive
 abbrev pub waits_at : WaitingSet → Option Process → Bool
 waits_at wanted None = false
 waits_at wanted (Some process) = process.alive && is_in wanted process.wait
 
--- who enters
+-- what enters
 
 -- whether a call waits
 abbrev pub is_waiting : Out → Bool
@@ -127,7 +127,7 @@ message_of (request.SamplingPort port (SamplingOperation.Write length message)) 
 message_of (request.QueuingPort port (QueuingOperation.Send length time_out message)) = message
 message_of _ = []
 
--- the entry of a caller: with its priority at the call, and at the place of the call
+-- the entry of a caller: with its priority at the call, the place of the call and the message that it sends
 abbrev pub entry_of : ℕ → CallRecord → Entry
 entry_of place call = record { who = call.who; priority = call.claim.prio; place = place; message = message_of call.request }
 
@@ -135,20 +135,20 @@ entry_of place call = record { who = call.who; priority = call.claim.prio; place
 abbrev pub enters : CallRecord → WaitingSet → Bool
 enters call wanted = is_waiting call.claim.out && is_the_set wanted (set_of call.request call.claim.chan)
 
--- who leaves
+-- what leaves
 
--- the process that a service stops, beside its caller
+-- the process that a service stops, other than its caller
 abbrev pub stop_of : Request → Option ℤ
 stop_of (request.Process process ProcessOperation.Stop) = Some process
 stop_of _ = None
 
--- whether this is the process to be stopped, if any is
+-- whether this is the process that is stopped, if one is
 abbrev pub is_target : Option ℤ → ℕ → Bool
 is_target None number = false
 is_target (Some (pos target)) number = nat_eq number target
 is_target (Some (negsuc n)) number = false
 
--- whether a call stops a process: STOP that is done stops its target, which is of the caller's partition
+-- whether a call stops a process: a STOP that is done stops its target, which is of the caller's partition
 abbrev pub stops : CallRecord → Who → Bool
 stops call who = is_no_error call.claim.out && (nat_eq who.part call.who.part && is_target (stop_of call.request) who.proc)
 
@@ -166,16 +166,16 @@ restart_of call = restart_by call.request call.claim.out
 abbrev pub restarts : CallRecord → ℕ → Bool
 restarts call number = is_some (restart_of call) && nat_eq number call.who.part
 
--- whether a call ends the wait of a process: it restarts its partition, names it, or stops it
+-- whether a call ends the wait of a process: it restarts the process's partition, names the process, or stops it
 abbrev pub ends_wait : CallRecord → Who → Bool
 ends_wait call who = restarts call who.part || (is_named who call.claim.woken || stops call who)
 
--- the entries of those who don't leave
+-- the entries of the processes that do not leave
 abbrev pub without : (Who → Bool) → List Entry → List Entry
 without leaves [] = []
 without leaves (entry ∷ entries) = if leaves entry.who then without leaves entries else entry ∷ without leaves entries
 
--- a waiting set after a record: whose wait ends leaves it, and a caller that waits there enters it
+-- a waiting set after a record: a process whose wait ends leaves it, and a caller that waits in it enters it
 abbrev pub set_after : ℕ → Body → WaitingSet → List Entry → List Entry
 set_after place (Disp who) wanted entries = entries
 set_after place (Ret ret) wanted entries = entries

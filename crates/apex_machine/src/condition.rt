@@ -5,8 +5,8 @@ ghost use Rattle.apex_machine.specs.Conditions.{code_of};
 
 use apex_types::Code;
 
-/// An error condition of a service (ARINC 653 Part 1, section 3). Services that have the same condition with the same code
-/// share it; where the code differs by service, there are two.
+/// An error condition of a service (ARINC 653 Part 1, section 3). Services that have the same condition with the same code share it. If the
+/// code differs by service, there are two conditions.
 #[derive(Clone, Copy, Debug, PartialEq, Eq)]
 pub enum Condition {
     NotCreated,
@@ -50,7 +50,7 @@ pub enum Condition {
     NoSuchName,
 }
 
-// What is known of a condition.
+// What is known about a condition.
 #[derive(Clone, Copy)]
 struct ConditionRow {
     condition: Condition,
@@ -58,7 +58,7 @@ struct ConditionRow {
     text: &'static str,
 }
 
-// A row: the condition, its code, and in words what holds where it does.
+// A row: the condition, its code, and the words for what is true when it holds.
 macro_rules! row {
     ($condition:ident => $code:ident, $text:literal) => {
         ConditionRow {
@@ -71,16 +71,16 @@ macro_rules! row {
 
 // The conditions, in the order of the enum.
 const CONDITIONS: [ConditionRow; 39] = [
-    row!(NotCreated => InvalidParam, "nothing of this number and kind is created"),
+    row!(NotCreated => InvalidParam, "nothing of this kind has this number"),
     row!(TimeOutOutOfRange => InvalidParam, "the time-out is below -1"),
     row!(MayNotWait => InvalidMode, "the caller is the initialising process or the owner of a mutex, which may not wait"),
     row!(InNormal => InvalidMode, "the mode is NORMAL"),
     row!(NameTaken => NoAction, "the name is taken"),
-    row!(AllCreated => InvalidConfig, "as many are created as are configured"),
-    row!(PriorityOutOfRange => InvalidParam, "the priority is not 1 to 239"),
+    row!(AllCreated => InvalidConfig, "all that are configured have been created"),
+    row!(PriorityOutOfRange => InvalidParam, "the priority is not from 1 to 239"),
     row!(PeriodOutOfRange => InvalidParam, "the period is neither -1 nor above 0"),
-    row!(PeriodNotMultiple => InvalidConfig, "the period is no multiple of the partition's"),
-    row!(CoreNotOfPartition => InvalidConfig, "the core is none of the partition's"),
+    row!(PeriodNotMultiple => InvalidConfig, "the period is not a multiple of the partition's period"),
+    row!(CoreNotOfPartition => InvalidConfig, "the core is not one of the partition's"),
     row!(AlreadyStarted => NoAction, "the process is not dormant"),
     row!(NamesItself => InvalidParam, "the number is the caller's own"),
     row!(AlreadyDormant => NoAction, "the process is already dormant"),
@@ -92,24 +92,24 @@ const CONDITIONS: [ConditionRow; 39] = [
     row!(PeriodicCaller => InvalidMode, "the caller is periodic"),
     row!(AperiodicCaller => InvalidMode, "the caller is aperiodic"),
     row!(DelayOutOfRange => InvalidParam, "the delay is below 0"),
-    row!(ModeOutOfRange => InvalidParam, "the mode is not 0 to 3"),
-    row!(AlreadyNormal => NoAction, "the mode is NORMAL already"),
-    row!(WarmStartInColdStart => InvalidMode, "the mode is COLD_START, from which WARM_START is not entered"),
-    row!(SizeOutOfRange => InvalidParam, "the size is not 1 to 8,192"),
-    row!(CapacityOutOfRange => InvalidParam, "the number of messages is not 1 to 1,024"),
-    row!(DisciplineOutOfRange => InvalidParam, "the discipline is not 0 or 1"),
-    row!(MaximumOutOfRange => InvalidParam, "the maximum is not 1 to 32,767"),
+    row!(ModeOutOfRange => InvalidParam, "the mode is not from 0 to 3"),
+    row!(AlreadyNormal => NoAction, "the mode is already NORMAL"),
+    row!(WarmStartInColdStart => InvalidMode, "the mode is COLD_START, from which WARM_START cannot be entered"),
+    row!(SizeOutOfRange => InvalidParam, "the size is not from 1 to 8,192"),
+    row!(CapacityOutOfRange => InvalidParam, "the number of messages is not from 1 to 1,024"),
+    row!(DisciplineOutOfRange => InvalidParam, "the discipline is neither 0 nor 1"),
+    row!(MaximumOutOfRange => InvalidParam, "the maximum is not from 1 to 32,767"),
     row!(ValueOutOfRange => InvalidParam, "the value is below 0 or above the maximum"),
-    row!(NotAsConfigured => InvalidConfig, "no port of this name is configured like this"),
+    row!(NotAsConfigured => InvalidConfig, "no port of this name has such a configuration"),
     row!(EmptyMessage => InvalidParam, "the length is below 1"),
     row!(LongerThanObject => InvalidParam, "the length is above the size of the object"),
-    row!(OwnsAnother => InvalidMode, "the caller owns a mutex of another number"),
+    row!(OwnsAnother => InvalidMode, "the caller owns another mutex"),
     row!(AboveCeiling => InvalidMode, "the caller's current priority is above the mutex's"),
     row!(NotOwner => InvalidMode, "the caller is not the owner"),
     row!(LongerThanPort => InvalidConfig, "the length is above the size of the port"),
-    row!(NotSource => InvalidMode, "the port is no source"),
-    row!(NotDestination => InvalidMode, "the port is no destination"),
-    row!(NoSuchName => InvalidConfig, "nothing of this kind has the name"),
+    row!(NotSource => InvalidMode, "the port is not a source"),
+    row!(NotDestination => InvalidMode, "the port is not a destination"),
+    row!(NoSuchName => InvalidConfig, "nothing of this kind has this name"),
 ];
 
 impl Condition {
@@ -121,14 +121,14 @@ impl Condition {
         &CONDITIONS[self as usize]
     }
 
-    /// The return code of a call that is refused for the condition.
+    /// The return code of a call that is refused for this condition.
     pub fn code(self) -> Code
         ensures { result ≡ code_of self }
     {
         self.row().code
     }
 
-    /// What holds where the condition does, in words.
+    /// What is true when the condition holds, in words.
     pub fn text(self) -> &'static str {
         self.row().text
     }

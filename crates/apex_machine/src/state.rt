@@ -18,7 +18,7 @@ pub enum Direction {
     Destination,
 }
 
-/// A waiting set, by the object of the process's own partition, or by the channel, at which its processes wait.
+/// A waiting set, named by the object of the process's own partition, or by the channel, at which its processes wait.
 #[derive(Clone, Copy, Debug, PartialEq, Eq)]
 pub enum WaitingSet {
     BufferSenders(u32),
@@ -36,7 +36,7 @@ pub enum WaitingSet {
 pub enum Wait {
     /// It waits for nothing.
     Nothing,
-    /// It was started before its partition is in the mode NORMAL.
+    /// It was started before its partition entered the mode NORMAL, and waits for that.
     NormalMode,
     /// It is periodic, and waits for its first release at this time.
     FirstRelease(u64),
@@ -46,21 +46,21 @@ pub enum Wait {
     PeriodicRelease(u64),
     /// It suspended itself: it waits until it is resumed, or until this time.
     Suspended(Option<u64>),
-    /// It stands in a waiting set, until it is woken or until this time.
+    /// It waits in a waiting set, until it is woken or until this time.
     At(WaitingSet, Option<u64>),
 }
 
-/// An entry of a waiting set: who waits, with the priority and at the place of its call.
+/// An entry of a waiting set: the process that waits, with its priority at its call and the place of the call.
 #[derive(Clone, Debug, Drop)]
 pub struct Entry {
     pub who: Who,
     pub priority: u8,
     pub place: Place,
-    /// What a sender waits with; empty where nothing is sent.
+    /// The message of a sender; empty if the process sends nothing.
     pub message: Message,
 }
 
-/// What a service owes its caller: the return that has to come before the caller's next call.
+/// What is due to a caller from a service: the return that must come before the caller's next call.
 #[derive(Clone, Debug, Drop)]
 pub struct Outcome {
     pub service: Service,
@@ -83,13 +83,13 @@ pub struct Process {
     pub retained_priority: u8,
     /// The core on which it runs.
     pub affinity: CoreId,
-    /// None where it is aperiodic.
+    /// None if it is aperiodic.
     pub period: Option<u64>,
     /// The release for which it last waited, or which it last found reached.
     pub last_release: u64,
-    /// False where it is dormant.
+    /// False if it is dormant.
     pub alive: bool,
-    /// Another process suspended it, and none resumed it since.
+    /// Another process suspended it, and none has resumed it since.
     pub suspended: bool,
     pub wait: Wait,
     /// The place of the record at which it last became ready, or was put behind the others of its priority.
@@ -107,7 +107,7 @@ pub struct CoreState {
     pub occupant: Option<Who>,
 }
 
-/// What GET_BUFFER_STATUS and its like tell of an object or a port, in the order in which they tell it.
+/// What GET_BUFFER_STATUS and its counterparts report of an object or a port, in the order of the values.
 #[derive(Clone, Copy, Debug, PartialEq, Eq)]
 pub struct Status {
     pub val: u64,

@@ -1,4 +1,4 @@
--- The request that the arguments of a call make.
+-- The request that a service and the values of a call's arguments make.
 use Rattle.std.specs.Prelude.{ℕ, ℤ, pos, ◌≡◌, ◌⊎◌, ◌+ℤ◌, ◌*ℤ◌, List}
 use Rattle.std.specs.Int.{int_div_euclid, int_rem_euclid}
 use Rattle.apex_types.specs.declared.service.Service.{Service}
@@ -8,20 +8,20 @@ use Rattle.apex_types.specs.declared.operation.{BlackboardOperation.BlackboardOp
 use Rattle.apex_types.specs.declared.request.Request.{Request}
 use Rattle.apex_types.specs.declared.request.Request.TheVariants as request
 
--- the direction in the third number of CREATE_QUEUING_PORT: its remainder by 2
+-- the direction in the third number of CREATE_QUEUING_PORT: the number's remainder by 2
 abbrev pub direction_in : ℤ → ℤ
 direction_in number = int_rem_euclid number (pos 2)
 
--- the discipline in it: its half, rounded down
+-- the discipline in it: half of the number, rounded down
 abbrev pub discipline_in : ℤ → ℤ
 discipline_in number = int_div_euclid number (pos 2)
 
--- a number is its direction, 0 or 1, and twice its discipline
+-- the number is the direction, 0 or 1, plus twice the discipline
 abbrev pub DirectionAndDisciplineAreOneNumber : Type 0
 DirectionAndDisciplineAreOneNumber = (number : ℤ) →
     ((direction_in number ≡ pos 0) ⊎ (direction_in number ≡ pos 1)) × (number ≡ direction_in number +ℤ pos 2 *ℤ discipline_in number)
 
--- the request of a service, from n1, n2, n3, the name and the message; what the service does not take is not used
+-- the request of a service, from n1, n2, n3, the name and the message; arguments that the service does not take are not used
 unfoldable pub request_of : Service → ℤ → ℤ → ℤ → List ℕ → List ℕ → Request
 request_of service.CreateProcess n1 n2 n3 name message = request.CreateProcess name n1 n2
 request_of service.InitializeProcessCoreAffinity n1 n2 n3 name message = request.Process n1 (ProcessOperation.InitializeCoreAffinity n2)

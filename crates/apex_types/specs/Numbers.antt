@@ -1,4 +1,4 @@
--- The numbers by which a view tells codes and outcomes.
+-- The numbers by which a view gives codes and outcomes.
 use Rattle.std.specs.Prelude.{ℕ}
 use Rattle.apex_types.specs.declared.code.Code.{Code}
 use Rattle.apex_types.specs.declared.code.Code.TheVariants as code

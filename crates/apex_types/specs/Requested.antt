@@ -8,7 +8,7 @@ use Rattle.apex_types.specs.declared.request.Request.TheVariants as request
 use Rattle.apex_types.specs.declared.service.Service.{Service}
 use Rattle.apex_types.specs.declared.service.Service.TheVariants as service
 
--- the kind of what is to be created
+-- the kind of what a creation creates
 abbrev pub kind_of : NewObject → ObjectKind
 kind_of (NewObject.Buffer size capacity discipline) = kind.Buffer
 kind_of (NewObject.Blackboard size) = kind.Blackboard
@@ -18,7 +18,7 @@ kind_of (NewObject.Mutex priority discipline) = kind.Mutex
 kind_of (NewObject.SamplingPort size direction refresh) = kind.SamplingPort
 kind_of (NewObject.QueuingPort size capacity direction discipline) = kind.QueuingPort
 
--- the services that create one of a kind, and report the number of what has a name and the status of one of the kind
+-- the services that create one of a kind, report the number of what has a name, and report the status of one of the kind
 abbrev pub services_of : ObjectKind → KindServices
 services_of kind.Buffer = record { creation = service.CreateBuffer; id = service.GetBufferId; status = service.GetBufferStatus }
 services_of kind.Blackboard = record { creation = service.CreateBlackboard; id = service.GetBlackboardId; status = service.GetBlackboardStatus }
@@ -28,7 +28,7 @@ services_of kind.Mutex = record { creation = service.CreateMutex; id = service.G
 services_of kind.SamplingPort = record { creation = service.CreateSamplingPort; id = service.GetSamplingPortId; status = service.GetSamplingPortStatus }
 services_of kind.QueuingPort = record { creation = service.CreateQueuingPort; id = service.GetQueuingPortId; status = service.GetQueuingPortStatus }
 
--- the service that asks this of a process
+-- the service that requests this operation of a process
 abbrev pub process_service : ProcessOperation → Service
 process_service (ProcessOperation.InitializeCoreAffinity core) = service.InitializeProcessCoreAffinity
 process_service ProcessOperation.Start = service.Start
@@ -37,7 +37,7 @@ process_service ProcessOperation.Suspend = service.Suspend
 process_service ProcessOperation.Resume = service.Resume
 process_service (ProcessOperation.SetPriority priority) = service.SetPriority
 
--- the service by which a process asks this for itself
+-- the service by which a process requests this operation for itself
 abbrev pub caller_service : CallerOperation → Service
 caller_service CallerOperation.StopSelf = service.StopSelf
 caller_service (CallerOperation.SuspendSelf time_out) = service.SuspendSelf
@@ -46,39 +46,39 @@ caller_service (CallerOperation.TimedWait delay) = service.TimedWait
 caller_service CallerOperation.PeriodicWait = service.PeriodicWait
 caller_service CallerOperation.GetTime = service.GetTime
 
--- the service that asks this of a buffer
+-- the service that requests this operation of a buffer
 abbrev pub buffer_service : BufferOperation → Service
 buffer_service (BufferOperation.Send length time_out message) = service.SendBuffer
 buffer_service (BufferOperation.Receive time_out) = service.ReceiveBuffer
 
--- the service that asks this of a blackboard
+-- the service that requests this operation of a blackboard
 abbrev pub blackboard_service : BlackboardOperation → Service
 blackboard_service (BlackboardOperation.Display length message) = service.DisplayBlackboard
 blackboard_service (BlackboardOperation.Read time_out) = service.ReadBlackboard
 blackboard_service BlackboardOperation.Clear = service.ClearBlackboard
 
--- the service that asks this of a semaphore
+-- the service that requests this operation of a semaphore
 abbrev pub semaphore_service : SemaphoreOperation → Service
 semaphore_service (SemaphoreOperation.Wait time_out) = service.WaitSemaphore
 semaphore_service SemaphoreOperation.Signal = service.SignalSemaphore
 
--- the service that asks this of an event
+-- the service that requests this operation of an event
 abbrev pub event_service : EventOperation → Service
 event_service EventOperation.Set = service.SetEvent
 event_service EventOperation.Reset = service.ResetEvent
 event_service (EventOperation.Wait time_out) = service.WaitEvent
 
--- the service that asks this of a mutex
+-- the service that requests this operation of a mutex
 abbrev pub mutex_service : MutexOperation → Service
 mutex_service (MutexOperation.Acquire time_out) = service.AcquireMutex
 mutex_service MutexOperation.Release = service.ReleaseMutex
 
--- the service that asks this of a sampling port
+-- the service that requests this operation of a sampling port
 abbrev pub sampling_service : SamplingOperation → Service
 sampling_service (SamplingOperation.Write length message) = service.WriteSamplingMessage
 sampling_service SamplingOperation.Read = service.ReadSamplingMessage
 
--- the service that asks this of a queuing port
+-- the service that requests this operation of a queuing port
 abbrev pub queuing_service : QueuingOperation → Service
 queuing_service (QueuingOperation.Send length time_out message) = service.SendQueuingMessage
 queuing_service (QueuingOperation.Receive time_out) = service.ReceiveQueuingMessage

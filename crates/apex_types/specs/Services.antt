@@ -1,4 +1,4 @@
--- What is known of a service, by its row in the table.
+-- What is known about a service, from its row in the table.
 use Rattle.std.specs.Prelude.{ℕ, List, [], ◌∷◌, ◌+◌, Bool, true, false, if◌then◌else◌}
 use Rattle.apex_types.specs.declared.format.Format.{Format}
 use Rattle.apex_types.specs.declared.format.Format.TheVariants as format
@@ -13,7 +13,7 @@ use Rattle.apex_types.specs.contracts.service.ServicePartialEq.TheImpl as servic
 abbrev pub Row : Type 0
 Row = ServiceRow (record { now : List ℕ })
 
--- the first of these rows that is the service's; a service that none of them has would have no name and take nothing
+-- the first of these rows that is the service's; if there were none, the service would have no name and take nothing
 abbrev pub row_among : List Row → Service → Row
 row_among [] service = record {
   service = service;
@@ -27,7 +27,7 @@ row_among (row ∷ rows) service = if services.eq-value.it row.service service t
 unfoldable pub row_of : Service → Row
 row_of service = row_among SERVICES service
 
--- the name is that of the standard's APEX interface   (ARINC 653 Part 1, section 3)
+-- the name that the standard's APEX interface gives the service   (ARINC 653 Part 1, section 3)
 abbrev pub name_of : Service → List ℕ
 name_of service = (row_of service).name.now
 
@@ -35,12 +35,12 @@ name_of service = (row_of service).name.now
 abbrev pub arguments_of : Service → Arguments
 arguments_of service = (row_of service).arguments
 
--- whether rows of a format name a service: those of format 1 the services that came with it, those of format 2 all
+-- whether rows of a format can name a service: rows of format 1 name the services that came with it, rows of format 2 all services
 abbrev pub is_in : Format → Service → Bool
 is_in format.One service = formats.eq-value.it (row_of service).since format.One
 is_in format.Two service = true
 
--- the place among these rows, counted from 1, of the first that is the service's
+-- the place among these rows, counted from 1, of the first row that is the service's
 abbrev pub place_among : List Row → Service → ℕ
 place_among [] service = 1
 place_among (row ∷ rows) service = if services.eq-value.it row.service service then 1 else 1 + place_among rows service

@@ -17,7 +17,7 @@ pub enum Code {
 }
 
 impl Code {
-    /// The name under which records give the code, in ASCII.
+    /// The name that records give the code, in ASCII.
     pub fn name(self) -> &'static [u8]
         ensures { result.now ≡ name_of self }
     {
@@ -32,7 +32,7 @@ impl Code {
         }
     }
 
-    /// The number by which views tell the code, from 0 on.
+    /// The number by which views give the code, from 0 on.
     pub fn number(self) -> u8
         ensures { result ≡ code_number self }
     {

@@ -6,12 +6,12 @@ ghost use Rattle.apex_types.specs.Services.{is_in};
 
 use crate::service::Service;
 
-/// The format of a recording. Its first row tells it.
+/// The format of a recording, which its first row gives.
 #[derive(Clone, Copy, Debug, PartialEq, Eq)]
 pub enum Format {
-    /// Each row has sixteen fields. None names a service that tells the number or the state of an object or a port.
+    /// Each row has sixteen fields. No row can name a service that reports the number or the status of an object or a port.
     One,
-    /// Each row has eighteen: a second and a third value come after the others. A row can name any service.
+    /// Each row has eighteen fields: a second and a third value come after the others. A row can name any service.
     Two,
 }
 
@@ -26,7 +26,7 @@ impl Format {
         }
     }
 
-    /// Whether its rows name this service.
+    /// Whether its rows can name this service.
     pub fn names(self, service: Service) -> bool
         ensures { result ≡ is_in self service }
     {

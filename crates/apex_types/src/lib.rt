@@ -1,7 +1,11 @@
 //! The plain types of a recording: numbers, codes, services and their arguments, records, causes, and views of records.
 //!
-//! Promises: a number reads back as it was made; a request is that of its service and its arguments' values; a text, a message
-//! and a list of processes are seen by contracts as lists; a place is below the number of records that sixteen cores can give.
+//! Promises: a number reads back as it was made; a request is that of its service and its arguments' values; contracts see a text, a
+//! message and a list of processes as lists; a place is below the number of records that sixteen cores can record.
+//!
+//! The crate has the numbers of cores, partitions, processes, channels and places; names, messages and lists of processes; codes, services,
+//! requests, records and causes; views of records with their fields, and the numbers that a view uses for services, codes and outcomes.
+//! Contracts see a number type as its number.
 #![tactic(auto)]
 
 mod cause;

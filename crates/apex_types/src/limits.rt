@@ -1,5 +1,5 @@
-// The limits of the numbers in a recording, an order, a configuration, a check and a rules file: one name each, which
-// contracts, definitions and code cite.
+// The limits of the numbers in a recording, an order, a configuration, a check and a rules file. Each has one name, which contracts,
+// definitions and code cite.
 
 // Recordings and orders.
 
@@ -9,7 +9,7 @@ pub const MOST_CORES: usize = 16;
 /// A recording has at most this many records.
 pub const MOST_RECORDS: u32 = 4_294_967_295;
 
-/// How many places an order has: those of the most cores, with the most records each.
+/// The number of places of an order: those of the most cores, with the most records each.
 pub const PLACE_COUNT: u64 = MOST_CORES as u64 * MOST_RECORDS as u64;
 
 /// The greatest number of a process, an object or a port.
@@ -62,12 +62,12 @@ pub const MOST_OBJECTS: u32 = 64;
 /// A partition has at most this many ports of each kind.
 pub const MOST_PORTS: usize = 64;
 
-/// The greatest period, major frame, skew or window length that is configured, in ticks.
+/// The greatest period, major frame, skew or window length that may be configured, in ticks.
 pub const GREATEST_SPAN: u32 = 4_294_967_295;
 
 // Checks.
 
-/// The greatest number that an option of the command line gives.
+/// The greatest number that an option of the command line accepts.
 pub const GREATEST_OPTION: u32 = 4_294_967_295;
 
 /// At most this many workers judge.

@@ -125,7 +125,7 @@ impl ChanId {
     }
 }
 
-/// A place in the proposed order, from 0. The most cores with the most records each bound it.
+/// A place in the proposed order, from 0. It is below the number of records of the most cores with the most records each.
 #[derive(Clone, Copy, Debug, PartialEq, Eq, PartialOrd, Ord, Hash)]
 pub struct Place(u64);
 

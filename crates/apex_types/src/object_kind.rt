@@ -5,7 +5,7 @@ ghost use Rattle.apex_types.specs.Requested.{services_of};
 
 use crate::service::Service;
 
-/// The services that all kinds have.
+/// The services that every kind has.
 #[derive(Clone, Copy, Debug, PartialEq, Eq)]
 pub struct KindServices {
     /// Creates one of the kind.
@@ -29,7 +29,7 @@ pub enum ObjectKind {
 }
 
 impl ObjectKind {
-    /// The services that create one of this kind, and report its number and its status.
+    /// The services that create one of this kind, report its number and report its status.
     pub fn services(self) -> KindServices
         ensures { result ≡ services_of self }
     {

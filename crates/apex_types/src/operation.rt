@@ -1,4 +1,4 @@
-// The operations of the services, by what they are about.
+// The operations of the services, by what they apply to.
 
 ghost use Rattle.std.specs.Prelude.{◌≡◌};
 ghost use Rattle.apex_types.specs.Requested as requested;
@@ -7,7 +7,7 @@ use crate::object_kind::ObjectKind;
 use crate::service::Service;
 use crate::text::Message;
 
-/// What is asked of a process that the caller names by its number.
+/// What a caller requests of a process that it names by its number.
 #[derive(Debug, Drop)]
 pub enum ProcessOperation {
     /// INITIALIZE_PROCESS_CORE_AFFINITY
@@ -19,7 +19,7 @@ pub enum ProcessOperation {
     SetPriority { priority: i64 },
 }
 
-/// What a process asks for itself.
+/// What a process requests for itself.
 #[derive(Debug, Drop)]
 pub enum CallerOperation {
     StopSelf,
@@ -30,7 +30,8 @@ pub enum CallerOperation {
     GetTime,
 }
 
-/// An object or port that is to be created, as its caller wants it. SOURCE is 0 and DESTINATION is 1; FIFO is 0 and PRIORITY is 1.
+/// An object or port to be created, with the parameters that its caller gives. SOURCE is 0 and DESTINATION is 1; FIFO is 0 and PRIORITY is
+/// 1.
 #[derive(Debug, Drop)]
 pub enum NewObject {
     Buffer {
@@ -64,7 +65,7 @@ pub enum NewObject {
     },
 }
 
-/// What is asked of a buffer.
+/// What a caller requests of a buffer.
 #[derive(Debug, Drop)]
 pub enum BufferOperation {
     Send {
@@ -77,7 +78,7 @@ pub enum BufferOperation {
     },
 }
 
-/// What is asked of a blackboard.
+/// What a caller requests of a blackboard.
 #[derive(Debug, Drop)]
 pub enum BlackboardOperation {
     Display { length: i64, message: Message },
@@ -85,14 +86,14 @@ pub enum BlackboardOperation {
     Clear,
 }
 
-/// What is asked of a semaphore.
+/// What a caller requests of a semaphore.
 #[derive(Debug, Drop)]
 pub enum SemaphoreOperation {
     Wait { time_out: i64 },
     Signal,
 }
 
-/// What is asked of an event.
+/// What a caller requests of an event.
 #[derive(Debug, Drop)]
 pub enum EventOperation {
     Set,
@@ -100,21 +101,21 @@ pub enum EventOperation {
     Wait { time_out: i64 },
 }
 
-/// What is asked of a mutex.
+/// What a caller requests of a mutex.
 #[derive(Debug, Drop)]
 pub enum MutexOperation {
     Acquire { time_out: i64 },
     Release,
 }
 
-/// What is asked of the channel of a sampling port.
+/// What a caller requests of the channel of a sampling port.
 #[derive(Debug, Drop)]
 pub enum SamplingOperation {
     Write { length: i64, message: Message },
     Read,
 }
 
-/// What is asked of the channel of a queuing port.
+/// What a caller requests of the channel of a queuing port.
 #[derive(Debug, Drop)]
 pub enum QueuingOperation {
     Send {

@@ -19,7 +19,7 @@ pub struct Who {
     pub proc: ProcId,
 }
 
-/// The processes whose wait ends by a record, in rising order of partition and process, so that none stands twice.
+/// The processes whose waits a record ends, in rising order of partition and process, so that no process is listed twice.
 #[derive(Debug, Drop)]
 pub struct Woken {
     named: Vec<Who>,
@@ -46,7 +46,7 @@ impl Woken {
         Woken { named }
     }
 
-    /// The list of no process. Takes no memory.
+    /// The empty list. Takes no memory.
     pub fn none(alloc: Global) -> Woken
         ensures { result ≡ [] }
     {
@@ -76,7 +76,7 @@ pub enum Out {
 }
 
 impl Out {
-    /// The number by which views tell the outcome: that of its code, 7 for a call that waits, 8 for one that does not return.
+    /// The number by which views give the outcome: that of its code, 7 for a call that waits, 8 for one that does not return.
     pub fn number(self) -> u8
         ensures { result ≡ out_number self }
     {
@@ -88,8 +88,8 @@ impl Out {
     }
 }
 
-/// What a call claims of the machine: the caller's current priority, the outcome with its values and its message, the
-/// channel of the port, and the processes whose wait ends.
+/// What a call claims of the machine: the caller's current priority, the outcome with its values and its message, the channel of the port,
+/// and the processes whose waits end.
 #[derive(Debug, Drop)]
 pub struct Claim {
     pub prio: u8,
@@ -102,7 +102,7 @@ pub struct Claim {
     pub woken: Woken,
 }
 
-/// A call of a service: the atomic moment of it.
+/// A call of a service, which is one atomic moment.
 #[derive(Debug, Drop)]
 pub struct Call {
     pub who: Who,
@@ -127,9 +127,9 @@ pub struct Return {
 pub enum Body {
     Call(Call),
     Ret(Return),
-    /// The core is given to this process, or stands idle.
+    /// The core is given to this process, or is idle.
     Disp(Option<Who>),
-    /// The core's time rises by one tick, and these waits end.
+    /// The core's time rises by one tick, and the waits of these processes end.
     Tick(Woken),
 }
 

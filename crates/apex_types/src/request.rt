@@ -13,8 +13,8 @@ use crate::operation::{
 use crate::service::Service;
 use crate::text::{Message, Name};
 
-/// A service with its arguments, by what it is about. Where it is about a process, an object or a port, the first is the
-/// number of that. Numbers are as the caller gave them, in range or not; times are in ticks, sizes and lengths in bytes.
+/// A service with its arguments, grouped by what it applies to. If it applies to a process, an object or a port, the first argument is that
+/// one's number. Numbers are as the caller gave them, in range or not. Times are in ticks, sizes and lengths in bytes.
 #[derive(Debug, Drop)]
 pub enum Request {
     CreateProcess {
@@ -24,11 +24,11 @@ pub enum Request {
     },
     /// START and all other services that name a process.
     Process(i64, ProcessOperation),
-    /// STOP_SELF and all other services that a process asks for itself.
+    /// STOP_SELF and all other services that a process requests for itself.
     Caller(CallerOperation),
     /// SET_PARTITION_MODE, with the mode.
     SetPartitionMode(i64),
-    /// CREATE_BUFFER and its like.
+    /// CREATE_BUFFER and its counterparts.
     Create(Name, NewObject),
     Buffer(i64, BufferOperation),
     Blackboard(i64, BlackboardOperation),
@@ -37,9 +37,9 @@ pub enum Request {
     Mutex(i64, MutexOperation),
     SamplingPort(i64, SamplingOperation),
     QueuingPort(i64, QueuingOperation),
-    /// GET_BUFFER_ID and its like, by the kind of what is asked for.
+    /// GET_BUFFER_ID and its counterparts, by kind.
     GetId(ObjectKind, Name),
-    /// GET_BUFFER_STATUS and its like, by the kind of what is asked about.
+    /// GET_BUFFER_STATUS and its counterparts, by kind.
     GetStatus(ObjectKind, i64),
 }
 
@@ -54,7 +54,7 @@ pub struct ArgumentValues {
 }
 
 impl Request {
-    /// The request of a service from the values of its arguments. What the service does not take is not used.
+    /// The request of a service from the values of its arguments. Arguments that the service does not take are not used.
     #[tactic(auto, unfolding(crate::specs::Arguments::request_of))]
     pub fn new(service: Service, values: ArgumentValues) -> Request
         ensures { result ≡ request_of service values.n1 values.n2 values.n3 values.name values.message }

@@ -64,20 +64,20 @@ pub enum Service {
 /// The arguments of a service: the fields that a call of it fills.
 #[derive(Clone, Copy, Debug)]
 pub struct Arguments {
-    /// How many of n1, n2, n3, from the first on.
+    /// How many of n1, n2 and n3 it takes, from the first on.
     pub numbers: u8,
-    /// Whether a name.
+    /// Whether it takes a name.
     pub name: bool,
-    /// Whether a message, of which n2 is the length.
+    /// Whether it takes a message, whose length is n2.
     pub message: bool,
 }
 
-/// What is known of a service. The type of its name is a parameter, since definitions can cite a constant only where no
-/// struct of it declares a reference.
+/// What is known about a service. The type of its name is a parameter: a definition can cite a constant only if none of the constant's
+/// structs declares a reference.
 #[derive(Clone, Copy)]
 pub struct ServiceRow<Name> {
     pub service: Service,
-    /// The name under which records give the service, in ASCII.
+    /// The name that records give the service, in ASCII.
     pub name: Name,
     pub arguments: Arguments,
     /// The first format of recordings that has the service.
@@ -115,7 +115,7 @@ macro_rules! row {
     };
 }
 
-/// The services, in the order of the enum. Views and rules know a service by its place here, counted from 1.
+/// The services, in the order of the enum. Views and rules identify a service by its place here, counted from 1.
 pub const SERVICES: [ServiceRow<&'static [u8]>; 51] = [
     row!(CreateProcess => b"CREATE_PROCESS", 2, NAME, One),
     row!(InitializeProcessCoreAffinity => b"INITIALIZE_PROCESS_CORE_AFFINITY", 2, NOTHING, One),
@@ -181,7 +181,7 @@ impl Service {
         &SERVICES[self as usize]
     }
 
-    /// The name under which records give the service, in ASCII.
+    /// The name that records give the service, in ASCII.
     pub fn name(self) -> &'static [u8]
         ensures { result.now ≡ name_of self }
     {
@@ -202,7 +202,7 @@ impl Service {
         self.row().since
     }
 
-    /// The number by which views tell the service, from 1 on.
+    /// The number by which views give the service, from 1 on.
     pub fn number(self) -> u8
         ensures { result ≡ service_number self }
     {

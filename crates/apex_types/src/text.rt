@@ -27,7 +27,7 @@ impl Name {
         Name { bytes }
     }
 
-    /// The name without a byte. Takes no memory.
+    /// The empty name. Takes no memory.
     pub fn empty(alloc: Global) -> Name
         ensures { result ≡ [] }
     {
@@ -54,7 +54,7 @@ impl Clone for Name {
     }
 }
 
-/// A message, by its bytes. Where a record names none it is empty.
+/// A message, by its bytes. It is empty if the record has none.
 #[derive(Debug, Drop)]
 pub struct Message {
     bytes: Vec<u8>,
@@ -76,7 +76,7 @@ impl Message {
         Message { bytes }
     }
 
-    /// The message without a byte. Takes no memory.
+    /// The empty message. Takes no memory.
     pub fn empty(alloc: Global) -> Message
         ensures { result ≡ [] }
     {

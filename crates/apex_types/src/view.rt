@@ -8,11 +8,11 @@ ghost use Rattle.apex_types.specs.Fields.{field_of};
 pub enum Field {
     /// The kind of the record: 0 a call, 1 a return, 2 a dispatch, 3 a tick.
     Kind,
-    /// The core whose record it is.
+    /// The core of the record.
     Core,
     /// The time of that core after the record, in ticks.
     Time,
-    /// The partition of the process that calls or returns, or is dispatched.
+    /// The partition of the process that calls, returns or is dispatched.
     Part,
     /// The number of that process in its partition.
     Proc,
@@ -24,13 +24,13 @@ pub enum Field {
     Out,
     /// The value that goes with the outcome.
     Val,
-    /// At a return: how long ago its call was, in ticks.
+    /// At a return: the time since the process's last call, in ticks.
     Elapsed,
-    /// How many processes the record names whose wait ends.
+    /// How many processes the record names whose waits end.
     Woken,
 }
 
-/// The view of a record. A field that the record has not is -1; where it names nobody `woken` is 0.
+/// The view of a record. A field that the record does not have is -1. `woken` is 0 if the record names no process.
 #[derive(Clone, Copy, Debug, PartialEq, Eq)]
 pub struct View {
     pub kind: i64,

@@ -32,7 +32,7 @@ value_of : {A E : Type 0} (given : Option A) (fault : E) (value : A) → Ok valu
 value_of None fault value is = cc
 value_of (Some found) fault value is = cc
 
--- an option's want is no value
+-- a required option is refused only if it is missing
 none_of : {A E : Type 0} (given : Option A) (fault e : E) → Err e ≡ ok_or given fault → given ≡ None
 none_of None fault e is = refl
 none_of (Some found) fault e is = cc

@@ -18,7 +18,7 @@ whole_or_longer limit text = elim (leb_tells (length text) limit) [
       inr (lt-ltb limit (length (take (limit + 1) text)) (omega (arith, cut)), lt-ltb limit (length text) longer)
 ]
 
--- where all longer texts are read alike, a text that is cut after the longest is read as the whole one
+-- if all longer texts are read alike, a text that is cut after the longest is read as the whole one
 cut_reads : {A : Type 0} (reading : List ℕ → A) (refusal : A) → ((text : List ℕ) → nat_lt LONGEST_CONFIGURATION (length text) ≡ true → reading text ≡ refusal)
     → (text : List ℕ) → reading (take (LONGEST_CONFIGURATION + 1) text) ≡ reading text
 cut_reads reading refusal refused text = elim (whole_or_longer LONGEST_CONFIGURATION text) [
@@ -26,7 +26,7 @@ cut_reads reading refusal refused text = elim (whole_or_longer LONGEST_CONFIGURA
   | inr (cut, longer) ↦ refused (take (LONGEST_CONFIGURATION + 1) text) cut ∙ sym (refused text longer)
 ]
 
--- what was read of a reader that is cut, where its bytes are known
+-- what was read from a reader that is cut, if its bytes are known
 pub first_read : (known : Option (List ℕ)) (limit : ℕ) (before after : List ℕ) → before ≡ []
     → IfSome (option_map (take limit) known) (λ text. after ≡ before ++ text) → IfSome known (λ text. after ≡ take limit text)
 first_read None limit before after none read = tt

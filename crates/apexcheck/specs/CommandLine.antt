@@ -8,15 +8,15 @@ use Rattle.clap.specs.declared.builder.action.ArgAction.TheVariants.{Append, Set
 abbrev pub option_of : List ℕ → Rule
 option_of name = record (new_rule name) { long = Some name; action = Some Set }
 
--- the option of this name, which has none
+-- the flag of this name, which has no value
 abbrev pub flag_of : List ℕ → Rule
 flag_of name = record (new_rule name) { long = Some name; action = Some SetTrue }
 
--- an option that has to be given
+-- an option that is required
 abbrev pub wanted : Rule → Rule
 wanted rule = record rule { required = true }
 
--- the recordings, of which there is one at least
+-- the recordings, at least one
 abbrev pub recordings : Rule
 recordings = record (new_rule (codes "core")) {
   required = true;
@@ -24,15 +24,15 @@ recordings = record (new_rule (codes "core")) {
   action = Some Append;
 }
 
--- no word for help is taken
+-- no word for help is accepted
 abbrev pub without_help : App → App
 without_help app = record app { top = record app.top { disable_help_flag = true } }
 
--- no word is taken
+-- an app that accepts no words
 abbrev pub no_words : App
 no_words = without_help (new_app (codes "apexcheck"))
 
--- the options for the texts of a run, and for how it is checked
+-- the options that name the texts of a run and say how it is checked
 abbrev pub options_of_a_check : App
 options_of_a_check = with_rule (with_rule (with_rule (with_rule no_words
     (wanted (option_of (codes "config"))))
@@ -40,7 +40,7 @@ options_of_a_check = with_rule (with_rule (with_rule (with_rule no_words
     (wanted (option_of (codes "workers"))))
     (option_of (codes "depth"))
 
--- the options for rules, and for what is reported
+-- the options for rules, and those for what is reported
 abbrev pub options : App
 options = with_rule (with_rule (with_rule (with_rule (with_rule (with_rule options_of_a_check
     (option_of (codes "max-elapsed")))
@@ -50,7 +50,7 @@ options = with_rule (with_rule (with_rule (with_rule (with_rule (with_rule optio
     (flag_of (codes "quiet")))
     (option_of (codes "sarif"))
 
--- the words of a run over files: each option once at most, and the recordings
+-- the words of a run over files: each option at most once, and the recordings
 abbrev pub command_line : App
 command_line = with_rule options recordings
 

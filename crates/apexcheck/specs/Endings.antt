@@ -13,13 +13,13 @@ use Rattle.apexcheck.specs.declared.usage.UsageFault.{UsageFault}
 use Rattle.apexcheck.specs.declared.usage.UsageFault.TheVariants as usage
 use Rattle.apexcheck.specs.declared.ending.Ending.TheVariants.{Checked, BadUsage, Unopened, BadRules, BadRule, Version}
 
--- that of an outcome, 0 for the version, and 2 for what kept the check from being made
+-- the status of an outcome, 0 for the version, and 2 for what kept the check from running
 abbrev pub exit_status_of : Ending → ℕ
 exit_status_of (Checked outcome last) = outcome_status_of outcome
 exit_status_of Version = 0
 exit_status_of _ = 2
 
--- the name of a fault of a rule, or of a text of rules
+-- the name of a fault of a rule, or of a rules file
 abbrev pub rule_fault_name : RuleFault → List ℕ
 rule_fault_name rule.NotToml = codes "NotToml"
 rule_fault_name rule.TooMany = codes "TooMany"
@@ -32,15 +32,15 @@ rule_fault_name rule.UnknownName = codes "UnknownName"
 rule_fault_name rule.Empty = codes "Empty"
 rule_fault_name rule.TooDeep = codes "TooDeep"
 
--- the lines of the last records, where they are asked for
-abbrev pub lines_behind : Option (List LastItem) → List ℕ
-lines_behind None = []
-lines_behind (Some items) = last_lines items
+-- the lines of the last records, if they are requested
+abbrev pub lines_after : Option (List LastItem) → List ℕ
+lines_after None = []
+lines_after (Some items) = last_lines items
 
--- the report of an outcome with the last records after it where they are asked for, the refusal of what kept the check from being
--- made, or the version
+-- the report of an outcome, followed by the last records if they are requested; the refusal of what kept the check from running; or the
+-- version
 abbrev pub text_of : Ending → List ℕ
-text_of (Checked outcome last) = report_of outcome ++ lines_behind last
+text_of (Checked outcome last) = report_of outcome ++ lines_after last
 text_of BadUsage = codes "REFUSED usage\n"
 text_of Unopened = codes "REFUSED open\n"
 text_of (BadRules which) = codes "REFUSED rules fault=" ++ (rule_fault_name which ++ codes "\n")
@@ -48,16 +48,16 @@ text_of (BadRule number which) =
     codes "REFUSED rules rule=" ++ (decimal number ++ (codes " fault=" ++ (rule_fault_name which ++ codes "\n")))
 text_of Version = codes "apexcheck 0.1.0\n"
 
--- the end by want of memory before the check, which is the check's own, and after which nothing is reported
+-- the end by a lack of memory before the check, which counts as the check's own, and after which nothing is reported
 abbrev pub out_of_memory : Ending
 out_of_memory = Checked (Err fault.Memory) None
 
--- the end that a refusal of the command line is: want of memory is the check's own
+-- the end by a refusal of the command line; a lack of memory counts as the check's own
 abbrev pub refused_words : UsageFault → Ending
 refused_words usage.Usage = BadUsage
 refused_words usage.Memory = out_of_memory
 
--- the end that a refusal of a text of rules is: want of memory is the check's own
+-- the end by a refusal of a rules file; a lack of memory counts as the check's own
 abbrev pub refused_by : RulesFault → Ending
 refused_by (rules.File which) = BadRules which
 refused_by (rules.Rule number which) = BadRule number which

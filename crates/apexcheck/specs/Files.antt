@@ -12,26 +12,26 @@ use Rattle.apexcheck.specs.declared.usage.FilesAsked.{FilesAsked}
 use Rattle.apexcheck.specs.Endings.{out_of_memory}
 use Rattle.apexcheck.specs.Ruled.{IsRuledEnding}
 
--- the end where the files are not all there: want of memory is the check's own
+-- the end if not all files could be opened; a lack of memory counts as the check's own
 abbrev pub ending_of : OpenFault → Ending
 ending_of Unopened = ending.Unopened
 ending_of Memory = out_of_memory
 
--- what is known of opened texts, by what is known of each, and by whether reading them can fail
+-- what is known of opened texts, from what is known of each, and from whether reading them can fail
 abbrev pub given_of : {S : Type 0} → (S → Option (List ℕ)) → Bool → Opened S → Given
 given_of known can_fail opened = given_by opened.config.items (map known opened.cores.items) can_fail (known opened.order) can_fail
 
--- a run over opened texts ends as it is asked for
+-- a run over opened texts ends as it was requested
 abbrev pub EndsAsAsked : {S : Type 0} → (S → Option (List ℕ)) → Bool → Opened S → FilesAsked → Ending → Type 0
 EndsAsAsked known can_fail opened asked ending =
     IsRuledEnding (given_of known can_fail opened) (in_order asked.options) (option_map (λ text. text.items) opened.rules) asked.settings asked.last ending
 
--- a file was opened for each recording that is named, and the rules' text is there if one is named
+-- a file was opened for each recording that is named, and the rules file if one is named
 pub record AreOpened {S : Type 0} (names : FileNames) (opened : Opened S) : Type 0 where
   pub cores : vec_len opened.cores ≡ vec_len names.cores
   pub rules : is_some opened.rules ≡ is_some names.rules
 
--- a run over the files that are asked for: they are not all there, or were opened, and it ends as is asked for
+-- a run over the requested files: not all of them could be opened; or they were opened, and it ends as it was requested
 abbrev pub IsOfFiles : {S : Type 0} → (S → Option (List ℕ)) → Bool → FilesAsked → Ending → Type 0
 IsOfFiles {S} known can_fail asked ending =
     ((fault : OpenFault) × (ending ≡ ending_of fault))

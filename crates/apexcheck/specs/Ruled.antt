@@ -1,4 +1,4 @@
--- What a check under the rules of options and of a text answers, and how its run ends.
+-- What a check under the rules of options and of a rules file answers, and how its run ends.
 use Rattle.std.specs.Prelude.{◌≡◌, ◌⊎◌, ◌++◌, ℕ, Bool, true, false, List, [], Option, Some, None, Result, Ok, Err, map}
 use Rattle.apex_types.specs.declared.view.View.{View}
 use Rattle.report.specs.declared.fault.CheckFault.{CheckFault}
@@ -18,44 +18,44 @@ use Rattle.apexcheck.specs.declared.ending.Ending.{Ending}
 use Rattle.apexcheck.specs.declared.ending.Ending.TheVariants.{Checked}
 use Rattle.apexcheck.specs.Endings.{out_of_memory, refused_by}
 
--- the rules that a text says, or where the walk over it stops; there are none where there is no text
+-- the rules of a rules file, or where the walk over it stops; there are none if there is no file
 abbrev pub walk_given : Option (List ℕ) → Result (List SaidRule) RulesRefusal
 walk_given None = Ok []
 walk_given (Some text) = walk_of text
 
--- the rules that a text says, or its first fault
+-- the rules of a rules file, or its first fault
 abbrev pub rules_given : Option (List ℕ) → Result (List SaidRule) RulesFault
 rules_given text = without_key (walk_given text)
 
--- relations hold of exactly the views of which rules of a text say so, one for each, in their order
+-- relations hold for exactly the views for which the rules of a file say so, one relation for each rule, in their order
 abbrev pub HoldInTurn : List SaidRule → List Relation → Type 0
 HoldInTurn rules relations = (view : View) → map (λ relation. meets relation view) relations ≡ map (λ rule. rule.holds view) rules
 
--- relations say what options ask for, and after that what rules of a text say
+-- relations say what options request, followed by what the rules of a file say
 abbrev pub SayBoth : List RuleOption → List SaidRule → List Relation → Type 0
 SayBoth options rules relations =
-    (front : List Relation) × (behind : List Relation) × (relations ≡ front ++ behind) × SayInTurn options front × HoldInTurn rules behind
+    (front : List Relation) × (those_after : List Relation) × (relations ≡ front ++ those_after) × SayInTurn options front × HoldInTurn rules those_after
 
--- the answer, and the last records that it leaves, are those of these inputs under relations that say what the options ask for, and
--- after that what the rules of a text say, in their order; want of memory outranks it, and has no last records
+-- the answer, and the last records that it leaves, are those of these inputs under relations that say what the options request, followed by
+-- what the rules of the file say, in their order; a lack of memory outranks them, and leaves no last records
 abbrev pub AnswersRuled : Given → List RuleOption → List SaidRule → Settings → Result Verdict CheckFault → List LastItem → Type 0
 AnswersRuled given options rules settings result last =
     ((result ≡ Err Memory) × (last ≡ []))
     ⊎ ((relations : List Relation) × SayBoth options rules relations × AnswersWith given relations settings result last)
 
--- the last records stand in an end where they are asked for, and in no other
+-- the last records are in an end if they are requested, and in no other
 abbrev pub where_asked : Bool → List LastItem → Option (List LastItem)
 where_asked true last = Some last
 where_asked false last = None
 
--- the end by what the rules' text is: its first refusal, else the answer under its rules, with the last records if they are asked for
+-- the end for a rules file: its first refusal, else the answer under its rules, with the last records if they are requested
 abbrev pub IsEndingBy : Result (List SaidRule) RulesFault → Given → List RuleOption → Settings → Bool → Ending → Type 0
 IsEndingBy (Err fault) given options settings asked ending = ending ≡ refused_by fault
 IsEndingBy (Ok rules) given options settings asked ending =
     (outcome : Result Verdict CheckFault) × (last : List LastItem) × (ending ≡ Checked outcome (where_asked asked last))
     × AnswersRuled given options rules settings outcome last
 
--- the end of a run over these inputs, with the rules' text if there is one, and with the last records if they are asked for; want of
+-- the end of a run over these inputs, with the rules file if there is one, and with the last records if they are requested; a lack of
 -- memory outranks it
 abbrev pub IsRuledEnding : Given → List RuleOption → Option (List ℕ) → Settings → Bool → Ending → Type 0
 IsRuledEnding given options rules settings asked ending =

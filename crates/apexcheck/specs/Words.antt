@@ -1,4 +1,4 @@
--- What the words of a command line ask for.
+-- What the words of a command line request.
 use Rattle.std.specs.Prelude.{◌≡◌, ℕ, List, [], ◌∷◌, Option, Some, None, Bool, true, false, bytes_eq, codes, map, option_and_then, option_map, string_bytes}
 use Rattle.clap.specs.Matches.{raw_values}
 use Rattle.clap.specs.Words.{Row, all_of, first_of, first_value, matched_of, one_of}
@@ -10,7 +10,7 @@ use Rattle.apexcheck.specs.declared.usage.FileNames.{FileNames}
 use Rattle.apexcheck.specs.declared.usage.FilesAsked.{FilesAsked}
 use Rattle.apexcheck.specs.Settings.{settings_of}
 
--- after the program's own name stands `--version` alone
+-- after the program's own name comes only `--version`
 abbrev pub asks_version : List (List ℕ) → Bool
 asks_version (name ∷ word ∷ []) = bytes_eq word (codes "--version")
 asks_version _ = false
@@ -23,14 +23,14 @@ pub record AreNamed (found : Found) (names : FileNames) : Type 0 where
   pub cores : Some (map string_bytes names.cores.items) ≡ option_map raw_values (matched_of found (codes "core"))
   pub sarif : option_map string_bytes names.sarif ≡ first_value found (codes "sarif")
 
--- whether an option that has no value is given, by the text that the parser has for it
+-- whether a flag is given, from the text that the parser has for it
 pub record Tells (text : Option (List ℕ)) (given : Bool) : Type 0 where
   pub is_given : text ≡ Some (codes "true") → given ≡ true
   pub is_not : text ≡ Some (codes "false") → given ≡ false
   pub is_unknown : text ≡ None → given ≡ false
 
--- what is asked for is what the words give: the files by their options and the recordings in their order, the rules, the settings,
--- and what is reported
+-- what is requested is what the words give: the files by their options, the recordings in their order, the rules, the settings, and what is
+-- reported
 pub record AsksFor (given : List Row) (asked : FilesAsked) : Type 0 where
   pub config : Some (string_bytes asked.names.config) ≡ first_of (codes "config") given
   pub rules : option_map string_bytes asked.names.rules ≡ first_of (codes "rules") given
@@ -42,7 +42,7 @@ pub record AsksFor (given : List Row) (asked : FilesAsked) : Type 0 where
   pub last : Tells (one_of (codes "last") given) asked.last
   pub quiet : Tells (one_of (codes "quiet") given) asked.quiet
 
--- a run over files is asked for, the one that the words give
+-- a run over files is requested, the one that the words give
 abbrev pub AsksForFiles : List Row → Asked → Type 0
 AsksForFiles given (Files asked) = AsksFor given asked
 AsksForFiles given _ = ⊥

@@ -15,8 +15,8 @@ LacksFiles found =
     ⊎ (first_value found (codes "order") ≡ None)
     ⊎ (option_map raw_values (matched_of found (codes "core")) ≡ None)
 
--- the run that the words ask for is incomplete: a file is not named, or the options of the rules or those of the settings have other
--- values than they can have
+-- the run that the words request is incomplete: a file is not named, or an option of the rules or of the settings has a value that it
+-- cannot have
 abbrev pub IsIncomplete : List Row → Type 0
 IsIncomplete given =
     (first_of (codes "config") given ≡ None)
@@ -25,6 +25,6 @@ IsIncomplete given =
     ⊎ (values_of (first_of (codes "max-elapsed") given) (first_of (codes "forbid") given) ≡ None)
     ⊎ (option_and_then (λ workers. settings_of workers (first_of (codes "depth") given)) (first_of (codes "workers") given) ≡ None)
 
--- a command line is wrong: the parser does not take its words, or the run that they ask for is incomplete
+-- a command line is wrong: the parser does not accept its words, or the run that they request is incomplete
 abbrev pub IsWrong : List (List ℕ) → Type 0
 IsWrong words = (¬ IsTrue (takes command_line words)) ⊎ IsIncomplete (found_in words)

@@ -13,10 +13,10 @@ use std::time::{Clock, Duration};
 use std::{fs, io};
 use wording::Words;
 
-/// How many milliseconds a read may go on after the answer is known before it is reported.
+/// How many milliseconds a read may continue after the answer is known before it is reported.
 const PATIENCE: u64 = 1_000;
 
-/// How many bytes the stack of the thread has that tells it.
+/// The stack size, in bytes, of the thread that reports it.
 const STACK: usize = 262_144;
 
 // How far a check has come.
@@ -27,7 +27,7 @@ enum Stage {
     Over,
 }
 
-/// The certificate and the recordings of a run, with the files of which a read goes on, and how far the check has come.
+/// The certificate and the recordings of a run, with those that are being read, and how far the check has come.
 #[derive(Drop)]
 pub struct Awaited {
     alloc: Global,
@@ -38,8 +38,7 @@ pub struct Awaited {
 }
 
 impl Awaited {
-    /// These files, of which none is read yet. None where all are regular files, whose reads end by themselves, or where memory
-    /// is refused.
+    /// These files, none of which is being read yet. None if all are regular files, whose reads end by themselves, or if memory is refused.
     pub fn new<R: Files>(rt: &R, alloc: Global, names: &FileNames) -> Option<Arc<Awaited>> {
         let is_pipe = |name: &String| !is_regular(rt, name.as_str());
         if !is_pipe(&names.order) && !names.cores.iter().any(is_pipe) {
@@ -68,7 +67,7 @@ impl Awaited {
         Ok(Arc::new(alloc, files)?)
     }
 
-    // Sets whether a read of the file of this number goes on.
+    // Sets whether the file of this number is being read.
     fn set_reading(&self, index: usize, is_reading: bool) {
         if let Some(reading) = self.reading.get(index) {
             reading.store(is_reading, Ordering::SeqCst);
@@ -86,7 +85,7 @@ impl Awaited {
         self.changed.notify_all();
     }
 
-    // Waits until the answer is known, and tells which files are still being read a second later, if the check is not over then.
+    // Waits until the answer is known, and reports which files are still being read a second later, if the check is not over by then.
     fn tell_awaited<R: Clock + Eprint + Wait>(&self, rt: &R) {
         let patience = Duration::from_millis(PATIENCE);
         let stage = self.changed.wait_while(rt, self.stage.lock(rt), |stage| {
@@ -103,16 +102,16 @@ impl Awaited {
             if reading.load(Ordering::SeqCst) {
                 let mut words = Words::new(self.alloc);
                 words.say(format_args!(
-                    "the answer is known, and is printed once {name} gives more or ends"
+                    "the answer is known, and will be printed once {name} sends more or ends"
                 ));
-                // Standard error only helps a person, so that a failure there changes nothing.
+                // Standard error only helps a person, so a failure there changes nothing.
                 let _ = rt.eprintln(format_args!("apexcheck: {}", words.shown(false)));
             }
         }
     }
 }
 
-// Whether reads of the file of this name end by themselves, as those of one do that is not there.
+// Whether reads of the file of this name end by themselves, as those of a missing file do.
 fn is_regular<R: Files>(rt: &R, name: &str) -> bool {
     match fs::metadata(rt, name) {
         Ok(metadata) => metadata.is_file(),
@@ -120,7 +119,7 @@ fn is_regular<R: Files>(rt: &R, name: &str) -> bool {
     }
 }
 
-/// The thread that tells which of these files are awaited. None where there are no files, or where there can be no thread.
+/// The thread that reports which of these files are awaited. None if there are no files, or if no thread can be started.
 pub fn watch<R>(rt: &R, files: &Option<Arc<Awaited>>) -> Option<JoinHandle<()>>
 where
     R: Clock + Eprint + Threads + Wait + Copy + Send + 'static,
@@ -133,7 +132,7 @@ where
         .ok()
 }
 
-/// Ends the thread that tells which of these files are awaited: the check is over.
+/// Ends the thread that reports which of these files are awaited: the check is over.
 pub fn end_watch<R: Threads + Wait>(
     rt: &R,
     files: &Option<Arc<Awaited>>,
@@ -147,7 +146,7 @@ pub fn end_watch<R: Threads + Wait>(
     }
 }
 
-/// Another hold of these files, where there are such.
+/// Another handle of these files, if there are any.
 pub fn copy_of(files: &Option<Arc<Awaited>>) -> Option<Arc<Awaited>> {
     match files {
         Some(files) => Arc::try_clone(files).ok(),
@@ -155,7 +154,7 @@ pub fn copy_of(files: &Option<Arc<Awaited>>) -> Option<Arc<Awaited>> {
     }
 }
 
-/// A source whose file is marked while a read of it goes on.
+/// A source whose file is marked while it is being read.
 #[derive(Drop)]
 pub struct Observed<S> {
     inner: S,
@@ -175,7 +174,7 @@ impl<S> Observed<S> {
         }
     }
 
-    // Sets whether a read goes on.
+    // Sets whether the file is being read.
     fn mark(&self, is_reading: bool) {
         if let Some(files) = &self.files {
             files.set_reading(self.index, is_reading);
@@ -192,7 +191,7 @@ impl<S: TextSource> TextSource for Observed<S> {
 
     ghost fails_where_it_can = { λ observed failed. S.fails_where_it_can observed.inner failed };
 
-    /// Reads from the source underneath.
+    /// Reads from the inner source.
     fn read_some(&mut self, buf: &mut [u8]) -> io::Result<usize> {
         self.mark(true);
         let outcome = self.inner.read_some(buf);

@@ -1,4 +1,4 @@
-// What a person sees of a check while it goes on.
+// What a person sees of a check while it runs.
 
 use crate::awaited::Awaited;
 use crate::progress::Progress;
@@ -15,7 +15,7 @@ pub struct Course<'a, R> {
 }
 
 impl<'a, R: Clock + Eprint> Course<'a, R> {
-    /// The course of a check of these files that begins now. Its progress is shown where that is wanted.
+    /// The course of a check of these files that begins now. Its progress is shown if that is wanted.
     pub fn new(rt: &'a R, is_wanted: bool, files: Option<Arc<Awaited>>) -> Course<'a, R> {
         Course {
             rt,
@@ -24,7 +24,7 @@ impl<'a, R: Clock + Eprint> Course<'a, R> {
         }
     }
 
-    /// Clears what is shown, before other text is.
+    /// Clears what is shown, before other text is shown.
     pub fn clear(&self) {
         self.progress.clear();
     }

@@ -3,7 +3,7 @@
 ghost use Rattle.std.specs.Prelude.{◌≡◌, ◌≢◌, ◌<◌, ◌++◌, OnErr, OnOk};
 ghost use Rattle.report.specs.Text.{report_of};
 ghost use Rattle.apexcheck.specs.declared.ending.Ending.TheVariants.{BadRule, BadRules};
-ghost use Rattle.apexcheck.specs.Endings.{exit_status_of, lines_behind, out_of_memory, text_of, refused_by, refused_words, rule_fault_name};
+ghost use Rattle.apexcheck.specs.Endings.{exit_status_of, lines_after, out_of_memory, text_of, refused_by, refused_words, rule_fault_name};
 ghost use Rattle.sink.specs.Written.{IsCut, IsWritten};
 
 use crate::usage::UsageFault;
@@ -13,30 +13,30 @@ use rules_file::{RuleFault, RulesFault};
 use sink::{Sink, WriteFault, WriterSink, put_all, put_parts};
 use std::io::Write;
 
-/// The exit status where the text could not be written.
+/// The exit status if the text could not be written.
 pub const UNWRITTEN: u8 = 4;
 
 /// How a run ends.
 #[derive(Drop)]
 pub enum Ending {
-    /// The check came to an outcome. Want of memory before the check is the check's own `Memory`.
+    /// The check reached an outcome. A lack of memory before the check counts as the check's own `Memory`.
     Checked {
         outcome: Result<Verdict, CheckFault>,
-        /// The last records before the place of a No, where they are asked for.
+        /// The last records before the place of a No, if they are requested.
         last: Option<Last>,
     },
     /// The words of the command line are not those of the usage.
     BadUsage,
-    /// A file could not be opened, or the configuration or the text of rules could not be read.
+    /// A file could not be opened, or the configuration or the rules file could not be read.
     Unopened,
-    /// The text of rules has this fault, outside of its rules.
+    /// The rules file has this fault, outside its rules.
     BadRules(RuleFault),
-    /// The rule of this number of the text, counted from 0, has this fault.
+    /// The rule of this number in the rules file, counted from 0, has this fault.
     BadRule {
         rule: usize,
         fault: RuleFault,
     },
-    /// The version was asked for.
+    /// The version was requested.
     Version,
 }
 
@@ -51,7 +51,7 @@ pub fn status_of(ending: &Ending) -> u8
     }
 }
 
-/// The end by want of memory before the check.
+/// The end by a lack of memory before the check.
 pub fn out_of_memory() -> Ending
     ensures { result ≡ out_of_memory }
 {
@@ -61,7 +61,7 @@ pub fn out_of_memory() -> Ending
     }
 }
 
-/// The end that a refusal of the command line is. Want of memory is the check's own.
+/// The end by a refusal of the command line. A lack of memory counts as the check's own.
 pub fn refused_words(fault: UsageFault) -> Ending
     ensures { result ≡ refused_words fault }
 {
@@ -71,7 +71,7 @@ pub fn refused_words(fault: UsageFault) -> Ending
     }
 }
 
-/// The end that a refusal of a text of rules is. Want of memory is the check's own.
+/// The end by a refusal of a rules file. A lack of memory counts as the check's own.
 pub fn refused_by(fault: RulesFault) -> Ending
     ensures { result ≡ refused_by fault }
 {
@@ -82,7 +82,7 @@ pub fn refused_by(fault: RulesFault) -> Ending
     }
 }
 
-// The name of a fault of a rule, or of a text of rules.
+// The name of a fault of a rule, or of a rules file.
 fn name_of_rule_fault(fault: RuleFault) -> &'static [u8]
     ensures { result.now ≡ rule_fault_name fault }
 {
@@ -100,12 +100,11 @@ fn name_of_rule_fault(fault: RuleFault) -> &'static [u8]
     }
 }
 
-/// Puts out the text of an end: its line, and after the report of an outcome the last records where they are asked for. Takes no
-/// memory.
+/// Writes the text of an end: its line, and after the report of an outcome the last records if they are requested. Takes no memory.
 ///
 /// # Errors
 ///
-/// `WriteFault` where the sink failed. Then the first bytes of the text went out, and no others.
+/// `WriteFault` if the sink failed. Then the first bytes of the text went out, and no others.
 pub fn write_ending<W: Sink>(w: &mut W, ending: &Ending) -> Result<(), WriteFault>
     ensures whole { OnOk result (IsWritten (W.bytes w.old) (text_of ending.now) (W.bytes w.new)) }
     ensures same { OnOk result (W.failures w.new ≡ W.failures w.old) }
@@ -122,15 +121,15 @@ pub fn write_ending<W: Sink>(w: &mut W, ending: &Ending) -> Result<(), WriteFaul
     }
 }
 
-// Puts out the report of an outcome, and after it a line for each of the last records where they are asked for.
+// Writes the report of an outcome, followed by a line for each of the last records if they are requested.
 fn write_outcome<W: Sink>(
     w: &mut W,
     outcome: &Result<Verdict, CheckFault>,
     last: &Option<Last>,
 ) -> Result<(), WriteFault>
-    ensures whole { OnOk result (IsWritten (W.bytes w.old) (report_of outcome.now ++ lines_behind last.now) (W.bytes w.new)) }
+    ensures whole { OnOk result (IsWritten (W.bytes w.old) (report_of outcome.now ++ lines_after last.now) (W.bytes w.new)) }
     ensures same { OnOk result (W.failures w.new ≡ W.failures w.old) }
-    ensures cut { OnErr result (IsCut (W.bytes w.old) (report_of outcome.now ++ lines_behind last.now) (W.bytes w.new)) }
+    ensures cut { OnErr result (IsCut (W.bytes w.old) (report_of outcome.now ++ lines_after last.now) (W.bytes w.new)) }
     ensures failed { OnErr result (W.failures w.old < W.failures w.new) }
 {
     write_report(w, outcome)?;
@@ -140,7 +139,7 @@ fn write_outcome<W: Sink>(
     }
 }
 
-// Puts out the refusal of a text of rules for this fault.
+// Writes the refusal of a rules file for this fault.
 fn write_bad_rules<W: Sink>(w: &mut W, fault: RuleFault) -> Result<(), WriteFault>
     ensures whole { OnOk result (IsWritten (W.bytes w.old) (text_of (BadRules fault)) (W.bytes w.new)) }
     ensures same { OnOk result (W.failures w.new ≡ W.failures w.old) }
@@ -153,7 +152,7 @@ fn write_bad_rules<W: Sink>(w: &mut W, fault: RuleFault) -> Result<(), WriteFaul
     )
 }
 
-// Puts out the refusal of the rule of this number for this fault.
+// Writes the refusal of the rule of this number for this fault.
 fn write_bad_rule<W: Sink>(w: &mut W, rule: usize, fault: RuleFault) -> Result<(), WriteFault>
     ensures whole { OnOk result (IsWritten (W.bytes w.old) (text_of (BadRule rule fault)) (W.bytes w.new)) }
     ensures same { OnOk result (W.failures w.new ≡ W.failures w.old) }
@@ -173,11 +172,10 @@ fn write_bad_rule<W: Sink>(w: &mut W, rule: usize, fault: RuleFault) -> Result<(
     )
 }
 
-/// Puts out the text of an end through a writer that is flushed then, and gives the exit status of the run. Takes no
-/// memory.
+/// Writes the text of an end through a writer, flushes the writer, and returns the exit status of the run. Takes no memory.
 ///
-/// It is the status of the end where the whole text went out, and `UNWRITTEN` where the writer failed. Then the first bytes of the
-/// text went out, and no others.
+/// This is the status of the end if the whole text went out, and `UNWRITTEN` if the writer failed. Then the first bytes of the text went
+/// out, and no others.
 pub fn conclude<W: Write + Drop>(output: &mut WriterSink<W>, ending: &Ending) -> u8
     ensures status { result ≢ UNWRITTEN → result ≡ exit_status_of ending.now }
     ensures whole { result ≢ UNWRITTEN → IsWritten output.old.bytes (text_of ending.now) output.new.bytes }

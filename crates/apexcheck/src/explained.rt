@@ -1,4 +1,4 @@
-// The answer in words, on standard error, after its line. It decides nothing: a failure there, or want of memory, ends the words alone.
+// The answer in words, on standard error, after its line. It decides nothing: a failure there, or a lack of memory, ends only the words.
 
 use crate::ending::Ending;
 use crate::explainer::Explainer;
@@ -65,7 +65,7 @@ fn explain_files<'a, R: Files<File = F> + Eprint, F: Read + Write + Drop>(
 // Prints the words, if there are any, with their parts in colours or without.
 fn tell(rt: &impl Eprint, words: &Words, in_colour: bool) {
     if !words.is_empty() {
-        // Standard error only helps a person, so that a failure there changes nothing.
+        // Standard error only helps a person, so a failure there changes nothing.
         let _ = rt.eprintln(format_args!("apexcheck: {}", words.shown(in_colour)));
     }
 }
@@ -74,10 +74,7 @@ fn tell(rt: &impl Eprint, words: &Words, in_colour: bool) {
 fn unknown_keys(alloc: Global, names: &FileNames, explainer: &Explainer) -> Words {
     let mut words = Words::new(alloc);
     if !explainer.unknown_keys().is_empty() {
-        words.say(format_args!(
-            "{}: these keys are not known and are ignored:",
-            names.config
-        ));
+        words.say(format_args!("{}: these keys are unknown and ignored:", names.config));
         words.append(explainer.unknown_keys());
     }
     words

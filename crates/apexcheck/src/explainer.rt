@@ -1,4 +1,4 @@
-// What explains the end of a run to a person. It is gathered while the run goes on, and printed after the line.
+// What explains the end of a run to a person. It is gathered during the run, and printed after the line.
 
 use crate::terminal::Terminal;
 use crate::usage::FileNames;
@@ -59,7 +59,7 @@ impl Explainer {
         &self.note
     }
 
-    /// The keys of the configuration that are not known, empty where each is.
+    /// The unknown keys of the configuration; empty if every key is known.
     pub fn unknown_keys(&self) -> &Words {
         &self.unknown_keys
     }
@@ -69,7 +69,7 @@ impl Explainer {
         self.unopened.as_deref()
     }
 
-    /// The rule that is broken: that of an option by its words, another by its name. Empty if none is.
+    /// The rule that is broken: a rule of an option by its words, any other by its name. Empty if none is broken.
     pub fn broken_rule(&self) -> &Words {
         &self.broken_rule
     }
@@ -93,7 +93,7 @@ impl Explainer {
     /// Notes which rule is broken, by its number and its words or its name, and at which place.
     pub fn note_broken(&mut self, place: u64, rule: usize, name: impl Display + Drop) {
         self.broken_rule.say(name);
-        self.note.say(format_args!("the record in place {place} breaks rule {rule}: "));
+        self.note.say(format_args!("the record at place {place} breaks rule {rule}: "));
         self.note.append(&self.broken_rule);
     }
 
@@ -101,7 +101,7 @@ impl Explainer {
     pub fn keep_last(&mut self, last: &Last) {
         for index in 0..last.len() {
             if let Some(item) = last.get(index) {
-                // Where memory is refused there are fewer of them.
+                // If memory is refused, there are fewer of them.
                 let _ = self.last.push(*item);
             }
         }
@@ -127,13 +127,13 @@ impl Explainer {
         self.compression = Compression::of(config);
     }
 
-    /// Adds the fields of the record's view that this relation names, where the record breaks a rule.
+    /// Adds the fields of the record's view that this relation mentions, if the record breaks a rule.
     pub fn tell_fields(&mut self, relation: &Relation) {
         self.explanation.tell_fields(relation);
     }
 }
 
-// The word that names no field, where a rules file with this text is refused for it.
+// The word that is not the name of a field, if a rules file with this text is refused for it.
 fn unknown_word(alloc: Global, fault: RulesFault, text: Option<&[u8]>) -> Option<String> {
     match fault {
         RulesFault::Rule {
@@ -144,7 +144,7 @@ fn unknown_word(alloc: Global, fault: RulesFault, text: Option<&[u8]>) -> Option
     }
 }
 
-// How a text is compressed, where there is one.
+// How a text is compressed, if there is one.
 fn compression_of(text: Option<&[u8]>) -> Option<Compression> {
     Compression::of(text?)
 }

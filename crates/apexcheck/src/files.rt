@@ -25,11 +25,11 @@ use std::rt::Clock;
 use std::sync::{Arc, Wait};
 use std::thread::Threads;
 
-/// Opens the files of a run and checks what they hold. The configuration is read first, then the text of rules, if one is
-/// named; then the order is opened, then the recordings, core 0 first. The text of rules is judged after that.
+/// Opens the files of a run and checks what they hold. The configuration is read first, then the rules file, if one is named; then the
+/// order is opened, then the recordings, core 0 first. The rules file is judged after that.
 ///
-/// The explainer receives what explains the end: which file can't be opened or read and why, why the rules file is refused,
-/// which rule is broken, the record at the place of a No, and the keys of the configuration that are not known.
+/// The explainer receives what explains the end: which file cannot be opened or read and why, why the rules file is refused, which rule is
+/// broken, the record at the place of a No, and the unknown keys of the configuration.
 pub fn check_files<R, F>(rt: &R, asked: &FilesAsked, explainer: &mut Explainer) -> Ending
 where
     R: Files<File = F> + Clock + Eprint + AllocGlobal,
@@ -44,7 +44,7 @@ where
     }
 }
 
-// The end of a run whose files are not all there.
+// The end of a run if not all its files could be opened.
 fn end_by(fault: OpenFault) -> Ending
     ensures { result ≡ ending_of fault }
 {
@@ -54,8 +54,8 @@ fn end_by(fault: OpenFault) -> Ending
     }
 }
 
-// What is opened for a check. The order and the recordings are read as the check goes on, in pieces of 8 KiB: the reader
-// of rows has that buffer of its own.
+// What is opened for a check. The order and the recordings are read during the check, in pieces of 8 KiB: the reader of rows has a buffer
+// of that size.
 #[derive(Drop)]
 struct Opened<S> {
     config: Vec<u8>,
@@ -96,8 +96,8 @@ impl<F: Read + Drop + Send + 'static> Opened<Observed<Watched<F>>> {
 }
 
 impl<S: TextSource + Drop + Send + 'static> Opened<S> {
-    // Judges the text of rules, and then checks the others under the rules of the options and of the text. The last records
-    // before the place of a No are in the end where they are asked for. The explainer receives what explains the end.
+    // Judges the rules file, and then checks the other files under the rules of the options and of the rules file. The end has the last
+    // records before the place of a No if they are requested. The explainer receives what explains the end.
     fn check<R>(
         self,
         rt: &R,
@@ -152,14 +152,14 @@ impl<S: TextSource + Drop + Send + 'static> Opened<S> {
     }
 }
 
-// The last records, where they are asked for.
+// The last records, if they are requested.
 fn where_asked(asked: bool, last: Last) -> Option<Last>
     ensures { result ≡ where_asked asked last }
 {
     if asked { Some(last) } else { None }
 }
 
-// The text of rules in the file of this name, if one is named.
+// The text of the rules file of this name, if one is named.
 fn open_rules<R: Files<File = F>, F: Read + Drop>(
     rt: &R,
     alloc: Global,
@@ -216,9 +216,9 @@ pub fn open<R: Files<File = F>, F: Read + Drop>(rt: &R, name: &str) -> io::Resul
     OpenOptions::new().read(true).open(rt, name)
 }
 
-// The text that a reader gives, or its first bytes where it is longer than a configuration or a text of rules may be: these
-// configure what the whole text does, and say the rules that it does. Of a longer one the byte after the most is enough to
-// see that it is longer: `check` and `rules_file::read` refuse it as `TooMany`. Both have one limit.
+// The text that a reader gives, or only its first bytes if it is longer than a configuration or a rules file may be. These bytes configure
+// the same as the whole text, and give the same rules. Of a longer text, one byte above the limit is enough to show that it is longer:
+// `check` and `rules_file::read` refuse it as `TooMany`. Both have the same limit.
 fn read_text<R: Read + Drop>(alloc: Global, reader: R) -> io::Result<Vec<u8>>
     ensures first { IfOk result (λ read. IfSome (R.remaining reader) (λ text. read.items ≡ take (LONGEST_CONFIGURATION + 1) text)) }
     ensures configures { IfOk result (λ read. IfSome (R.remaining reader) (λ text. configuration_of read.items ≡ configuration_of text)) }
@@ -230,16 +230,16 @@ fn read_text<R: Read + Drop>(alloc: Global, reader: R) -> io::Result<Vec<u8>>
     Ok(text)
 }
 
-// Why the files of a run are not all there.
+// Why not all files of a run could be opened.
 #[derive(Clone, Copy, Debug, PartialEq, Eq)]
 enum OpenFault {
-    // One can't be opened, or the configuration or the text of rules can't be read.
+    // A file cannot be opened, or the configuration or the rules file cannot be read.
     Unopened,
-    // Memory was refused on the way.
+    // Memory was refused.
     Memory,
 }
 
-// The answer of the system for the file of this name. A refusal other than want of memory is noted for a person.
+// The answer of the system for the file of this name. A refusal other than a lack of memory is noted for a person.
 fn reported<T: Drop>(
     explainer: &mut Explainer,
     name: &str,

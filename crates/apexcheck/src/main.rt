@@ -1,10 +1,22 @@
-//! The program: checks recordings against a configuration and a proposed order, and prints one line. After a No the last records
-//! before its place follow, where they are asked for.
+//! The program: checks recordings against a configuration and a proposed order, and prints one line. After a No, the last records before
+//! its place follow if they are requested.
 //!
-//! Promises: what is printed is the text of how the run ended, and the exit status is the one of that end; where the
-//! output could not be written, the status is the one that says so. A run under options that ask for rules and a text of rules
-//! ends by the text's first refusal, or by the outcome of relations that say what the options ask for and then what the rules
-//! of the text say; after it stand the last records before the place of a No, where they are asked for, and else nothing.
+//! Promises: what is printed is the text of how the run ended, and the exit status is that of the end; if the output could not be written,
+//! the status says so. A run with options that request rules and with a rules file ends with the file's first refusal, or with the outcome
+//! under relations that say what the options request and then what the rules of the file say. After it come the last records before the
+//! place of a No, if they are requested, and otherwise nothing.
+//!
+//! The options of the command line are a definition (`CommandLine.antt`). What words ask for is what the parser finds in them for these
+//! options (`Words.antt`). Workers and depth are passed on as they are given, and the check refuses what is out of range. `main` first
+//! reserves the stack that a run may need. At the end it writes the line, then the explanation (`explain`), and then the log of `--sarif`.
+//! No rule of the machine is here.
+//!
+//! `Opened` holds what was opened. Its `check` judges the rules file (`read_rules`), then checks under the relations of the options,
+//! followed by clones of the file's relations (`check_ruled`). `check_files` opens the files and passes on the answer of `check`.
+//!
+//! `Explainer` gathers what explains the end. It is the witness of the check, and notes which file cannot be opened, why a rules file is
+//! refused, which rule is broken, and which keys of the configuration are unknown. What a person sees while the check goes on is a
+//! `Course`, which is the gate of the check: its progress, and the files that hold up a known answer (`Awaited`).
 #![tactic(auto)]
 
 mod awaited;
@@ -37,7 +49,7 @@ use std::thread::Threads;
 use terminal::Terminal;
 use usage::{Asked, UsageFault};
 
-/// How many bytes of the main thread's stack are touched at once.
+/// How many bytes of the main thread's stack are touched in one step.
 const STEP: usize = 16_384;
 
 /// How many of these steps a run may need, with its explanation: half a megabyte.
@@ -57,26 +69,26 @@ fn main(rt: HostRuntime) -> ExitCode {
     let status = conclude(&mut output, &ending);
     explain(&rt, alloc, &asked, &ending, &explainer, status);
     if status == UNWRITTEN {
-        // Standard error only helps a person, so that a failure there changes nothing.
+        // Standard error only helps a person, so a failure there changes nothing.
         let _ = rt.eprintln("apexcheck: standard output could not be written");
     }
     ExitCode::from(status)
 }
 
-// Touches so many steps of the stack, and gives 1. Threads may take up the rest of the address space later: the stack could not
-// grow then, and the system would end the program by a signal where memory is to be refused.
+// Touches this many steps of the stack, and returns 1. Threads may take up the rest of the address space later. The stack could not grow
+// then, and the system would end the program by a signal, although memory should be refused.
 fn reserve_stack(steps: usize) -> u8 {
     let mut room = [1u8; STEP];
     room[steps % STEP] = 1;
     if steps == 0 {
         return 1;
     }
-    // What is below is reached while this step is in use, and read from it afterwards.
+    // The steps below are reached while this one is in use, and it is read afterwards.
     room[usize::from(reserve_stack(steps - 1))]
 }
 
-// Does what the command line asks for. The words are judged first, then the files are opened, then the text of rules is
-// judged, then comes the check.
+// Does what the command line requests. The words are judged first, then the files are opened, then the rules file is judged, and then the
+// check runs.
 fn run<R>(
     rt: &R,
     alloc: Global,

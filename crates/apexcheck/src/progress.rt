@@ -1,11 +1,11 @@
-// How far a check has come, on standard error while it goes on.
+// How far a check has come, on standard error while it runs.
 
 use apex_types::limits::LARGEST_ROUND;
 use std::rt::Clock;
 use std::sync::atomic::{AtomicU64, Ordering};
 use std::time::Instant;
 
-/// How many milliseconds there are at least between two lines.
+/// The least number of milliseconds between two lines.
 const PAUSE: u64 = 500;
 
 /// The piece that is claimed once in each round: the module.
@@ -14,7 +14,7 @@ const MODULE: usize = 0;
 // What clears a line: it is longer than any of them.
 const BLANK: &str = "\r                                                            \r";
 
-/// Shows how many records are judged, and how many in a second, where that is wanted.
+/// Shows how many records have been judged, and how many in a second, if that is wanted.
 ///
 /// It sees the rounds begin. All of them but the last have the same number of records.
 #[derive(Drop)]
@@ -22,12 +22,12 @@ pub struct Progress<'a, R> {
     rt: &'a R,
     start: Option<Instant>,
     rounds: AtomicU64,
-    // The milliseconds from the start to the last line, 0 where there was none.
+    // The milliseconds from the start to the last line, or 0 if there was none.
     shown: AtomicU64,
 }
 
 impl<'a, R: Clock + Eprint> Progress<'a, R> {
-    /// The progress of a check that begins now. It shows nothing where that is not wanted, or where there is no clock.
+    /// The progress of a check that begins now. It shows nothing if that is not wanted, or if there is no clock.
     pub fn new(rt: &'a R, is_wanted: bool) -> Progress<'a, R> {
         Progress {
             rt,
@@ -53,7 +53,7 @@ impl<'a, R: Clock + Eprint> Progress<'a, R> {
     /// Clears the line, if there is one, before other text is shown.
     pub fn clear(&self) {
         if self.shown.swap(0, Ordering::SeqCst) > 0 {
-            // Standard error only helps a person, so that a failure there changes nothing.
+            // Standard error only helps a person, so a failure there changes nothing.
             let _ = self.rt.eprint(BLANK);
         }
     }

@@ -1,4 +1,4 @@
-// The check under the rules that options ask for and those of a text.
+// The check under the rules of options and of a rules file.
 
 ghost use Rattle.std.specs.Prelude.{[], ◌≡◌, IfOk, map, option_map};
 ghost use Rattle.rules_file.specs.Reading.{GivesPlaced, said};
@@ -16,7 +16,7 @@ use std::sync::Wait;
 use std::thread::Threads;
 use user_rules::Relation;
 
-/// The rules that a text gives, in its order; none where there is no text. A refusal has the key at which the walk over the text stops.
+/// The rules of a rules file, in its order; none if there is no file. A refusal has the key at which the walk over the text stops.
 pub fn read_rules(alloc: Global, text: Option<&[u8]>) -> Result<Vec<NamedRule>, RulesRefusal>
     ensures { GivesPlaced (λ rules. map said rules.items) result (walk_given (option_map (λ text. text.now) text.entry)) }
 {
@@ -26,11 +26,11 @@ pub fn read_rules(alloc: Global, text: Option<&[u8]>) -> Result<Vec<NamedRule>, 
     }
 }
 
-/// Checks these inputs under rules: those that these options ask for, numbered in their order, and the named ones after them. It
-/// is carried out as the settings say, and the gate sees it go on.
+/// Checks these inputs under rules: those that these options request, numbered in their order, and the named ones after them. The check is
+/// carried out as the settings say, and the gate sees its progress.
 ///
-/// Leaves the last records before the place of a No or of a broken rule in `last`, where none were before, and none after any other
-/// answer. The witness receives what is at that place.
+/// Leaves the last records before the place of a No or of a broken rule in `last`, if that was empty, and none after any other answer. The
+/// witness receives what is at that place.
 pub fn check_ruled<T, R, C, G, V>(
     rt: T,
     alloc: Global,
@@ -57,7 +57,7 @@ where
     check_relations(rt, alloc, inputs, relations, options, last, witness)
 }
 
-// The relations that options ask for, and after them those of rules.
+// The relations that options request, followed by those of rules.
 fn all_relations(
     alloc: Global,
     options: &[RuleOption],
@@ -66,8 +66,8 @@ fn all_relations(
     ensures { IfOk result (λ relations. SayBoth options.now (map said rules.now) relations.items) }
 {
     let mut relations = relations_of(alloc, options)?;
-    let mut behind = relations_in(alloc, rules)?;
-    relations.append(&mut behind)?;
+    let mut those_after = relations_in(alloc, rules)?;
+    relations.append(&mut those_after)?;
     Ok(relations)
 }
 
@@ -82,8 +82,8 @@ fn relations_in(alloc: Global, rules: &[NamedRule]) -> Result<Vec<Relation>, All
     Ok(relations)
 }
 
-/// Notes which rule is broken, if one is: that of an option by its words, one of a text by its name; and the fields of the
-/// record's view that it reads, where memory is not refused for that.
+/// Notes which rule is broken, if one is: a rule of an option by its words, a rule of a file by its name; and the fields of the record's
+/// view that it reads, if memory for that is not refused.
 pub fn note_broken(
     explainer: &mut Explainer,
     alloc: Global,

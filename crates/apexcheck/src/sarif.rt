@@ -1,4 +1,4 @@
-// The outcome as a SARIF log, in the file that `--sarif` names. It decides nothing, as the words on standard error.
+// The outcome as a SARIF log, in the file that `--sarif` names. Like the words on standard error, it decides nothing.
 
 use crate::ending::Ending;
 use crate::explainer::Explainer;
@@ -20,7 +20,7 @@ use std::{fs, io};
 /// The version of the program that wrote a log.
 const VERSION: &str = "0.1.0";
 
-/// How many records before a place are shown at most.
+/// The most records before a place that are shown.
 const MOST_EARLIER: usize = 8;
 
 /// How many names are tried for the file that becomes the log.
@@ -56,14 +56,14 @@ pub fn write_log<'a, R: Files<File = F>, F: Read + Write + Drop>(
     write_whole(files.rt, alloc, name, text.as_str())
 }
 
-// Where the result is, in a text of its own: no file, or a line of one if it is known.
+// Where the result is, as an owned text: no file, or a line of one if it is known.
 #[derive(Drop)]
 struct OwnPlace {
     file: Option<String>,
     line: Option<u64>,
 }
 
-// The rule of a result, in texts of its own.
+// The rule of a result, as owned texts.
 #[derive(Drop)]
 struct OwnRule {
     id: String,
@@ -72,7 +72,7 @@ struct OwnRule {
 }
 
 impl OwnRule {
-    // The result of this rule. A message that was refused memory is what the rule demands.
+    // The result of this rule. If memory for the message was refused, the message is what the rule demands.
     fn finding<'a>(&'a self, message: &'a str, place: &'a OwnPlace) -> Finding<'a> {
         let help = self.help.as_str();
         let location = match &place.file {
@@ -94,7 +94,7 @@ impl OwnRule {
     }
 }
 
-// The rule of the result. None after a Yes, and where memory ran out.
+// The rule of the result. None after a Yes, or if memory ran out.
 fn rule_of(
     alloc: Global,
     ending: &Ending,
@@ -168,7 +168,7 @@ fn rule_of_cause(alloc: Global, cause: Cause) -> Result<OwnRule, AllocError> {
     })
 }
 
-// The rule of the user that is broken.
+// The user's rule that is broken.
 fn rule_of_user(alloc: Global, explainer: &Explainer) -> Result<OwnRule, AllocError> {
     let name = explainer.broken_rule().shown(false);
     Ok(OwnRule {
@@ -192,7 +192,7 @@ fn rule_of_fault<D: Debug + Display>(
     }))
 }
 
-// What was noted, and why the answer is no Yes.
+// What was noted, and why the answer is not Yes.
 fn message_of(
     alloc: Global,
     explainer: &Explainer,
@@ -235,7 +235,7 @@ fn place_in(alloc: Global, file: Option<&str>, line: Option<u64>) -> Result<OwnP
     Ok(OwnPlace { file, line })
 }
 
-// What kept the records from being judged, where that is no result.
+// What kept the records from being judged, if that is not a result.
 fn notice_of<'a>(ending: &Ending, message: &'a str) -> Option<&'a str> {
     match ending {
         Ending::Checked {
@@ -270,7 +270,7 @@ fn earlier_records<'a, R: Files<File = F>, F: Read + Drop>(
     Ok(earlier)
 }
 
-// Adds the lines to the records of one core, whose numbers follow one another.
+// Adds the lines to the records of one core, whose numbers are successive.
 fn add_lines<R: Files<File = F>, F: Read + Drop>(
     files: &RunFiles<'_, R>,
     core: usize,
@@ -293,7 +293,7 @@ fn add_lines<R: Files<File = F>, F: Read + Drop>(
     }
 }
 
-// The kind of a record, as a recording has it.
+// The kind of a record, by its name in recordings.
 fn name_of_kind(kind: Kind) -> &'static str {
     match kind {
         Kind::Call => "call",
@@ -321,7 +321,7 @@ fn write_whole<R: Files<File = F>, F: Write + Drop>(
     Err(io::Error::from(ErrorKind::AlreadyExists))
 }
 
-// Writes a text to a new file and gives it its name. Where that fails the new file is removed.
+// Writes a text to a new file and gives it its name. If that fails, the new file is removed.
 fn fill_and_rename<R: Files, F: Write + Drop>(
     rt: &R,
     mut file: F,
@@ -336,7 +336,7 @@ fn fill_and_rename<R: Files, F: Write + Drop>(
         Err(e) => Err(e),
     };
     if done.is_err() {
-        // What failed is reported; that the new file stays is all that could be added.
+        // The failure is reported; the only thing to add would be that the new file is left.
         let _ = fs::remove_file(rt, new_name);
     }
     done

@@ -1,4 +1,4 @@
-// How the command line says that a check is carried out.
+// How the command line says to carry out a check.
 
 ghost use Rattle.std.specs.Prelude.{◌≡◌, option_map};
 ghost use Rattle.apex_types.specs.declared.limits.TheConstants.{GREATEST_OPTION};
@@ -9,11 +9,11 @@ use apex_types::limits::GREATEST_OPTION;
 use csv_rows::read_decimal;
 use report::Settings;
 
-/// The depth where no `--depth` is given.
+/// The depth if no `--depth` is given.
 pub const USUAL_DEPTH: usize = 64;
 
-/// The settings that the text of `--workers` gives, and that of `--depth` if there is one. None where one of them is no number
-/// from 0 to 4,294,967,295 in canonical decimal. Takes no memory.
+/// The settings that the text of `--workers` gives, and that of `--depth` if there is one. None if one of them is not a number from 0 to
+/// 4,294,967,295 in canonical decimal. Takes no memory.
 pub fn read_settings(workers: &[u8], depth: Option<&[u8]>) -> Option<Settings>
     ensures { result ≡ settings_of workers.now (option_map (λ text. text.now) depth.entry) }
 {

@@ -1,4 +1,4 @@
-// The run that stands in the program, which is checked where the command line has no words.
+// The run that is stored in the program, which is checked if the command line has no words.
 
 ghost use Rattle.std.specs.Prelude.{[], ◌∷◌, Some, false};
 ghost use Rattle.report.specs.Answers.{Answers, given_by};
@@ -56,7 +56,7 @@ const SETTINGS: Settings = Settings {
     depth: USUAL_DEPTH,
 };
 
-/// Checks the run that stands in the program, by one worker, as if no `--depth` were given. Memory comes where memory was refused.
+/// Checks the stored run, with one worker, as if no `--depth` were given. Memory if memory was refused.
 pub fn check_stored<T>(rt: T, alloc: Global) -> Result<Verdict, CheckFault>
 where
     T: Threads + Wait + Sync + Copy + Send + 'static,

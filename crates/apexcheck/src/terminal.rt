@@ -23,7 +23,7 @@ impl Terminal {
     }
 }
 
-// Whether the environment asks for no colours. A text that cannot be read is one.
+// Whether the environment requests no colours. A text that cannot be read does so too.
 fn refuses_colours(rt: &(impl Env + AllocGlobal)) -> bool {
     match env::var(rt, "NO_COLOR") {
         Ok(text) => !text.is_empty(),

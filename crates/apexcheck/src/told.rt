@@ -1,4 +1,4 @@
-// Why the answer is no Yes: in words, and where, if that is in a file. The files of a run are read once more for it.
+// Why the answer is not Yes: in words, and where, if that is in a file. The files of a run are read again for it.
 
 ghost use Rattle.std.specs.Prelude.{◌≡◌, map, option_map, slice_get, string_bytes};
 
@@ -21,7 +21,7 @@ use std::fs::Files;
 use std::io::Read;
 use wording::{Count, Words};
 
-/// Why the answer is no Yes: in words, the file that they are about, and the row there, if it is found once more.
+/// Why the answer is not Yes: in words, with the file that they are about, and the row there, if it is found again.
 #[derive(Drop)]
 pub struct Told<'a> {
     pub words: Words,
@@ -56,7 +56,7 @@ impl<'a> Told<'a> {
     }
 }
 
-/// The files of a run, which are read once more.
+/// The files of a run, which are read again.
 #[derive(Drop)]
 pub struct RunFiles<'a, R> {
     pub rt: &'a R,
@@ -65,7 +65,7 @@ pub struct RunFiles<'a, R> {
 }
 
 impl<'a, R: Files<File = F>, F: Read + Drop> RunFiles<'a, R> {
-    /// Why the answer is no Yes. None after a Yes, and where only a note says why.
+    /// Why the answer is not Yes. None after a Yes, or if only a note says why.
     pub fn told_of(&self, ending: &Ending, explainer: &Explainer) -> Option<Told<'a>> {
         let Ending::Checked { outcome, .. } = ending else {
             return None;
@@ -77,7 +77,7 @@ impl<'a, R: Files<File = F>, F: Read + Drop> RunFiles<'a, R> {
             }
             Err(CheckFault::Memory) => {
                 let mut words = Words::new(self.alloc);
-                words.say("out of memory: the records were not judged to their end");
+                words.say("out of memory: not all records were judged");
                 Some(Told::of(words))
             }
             Err(CheckFault::Arguments(fault)) => Some(Told::of(words_of_arguments(
@@ -135,7 +135,7 @@ impl<'a, R: Files<File = F>, F: Read + Drop> RunFiles<'a, R> {
         Some(told)
     }
 
-    // Tells in which files and lines the records at these places are.
+    // Reports in which files and lines the records at these places are.
     fn tell_places(&self, words: &mut Words, places: &[u64]) {
         let mut rising = places.to_vec(self.alloc).unwrap_or(Vec::new(self.alloc));
         rising.sort_unstable();
@@ -187,13 +187,13 @@ impl<'a, R: Files<File = F>, F: Read + Drop> RunFiles<'a, R> {
         }
     }
 
-    // Where a row is: its file and its line, or its number where it is not found once more.
+    // Where a row is: its file and its line, or its number if it is not found again.
     fn told_of_row(&self, name: &'a str, number: u64) -> Told<'a> {
         let mut words = Words::new(self.alloc);
         let row = self.row_of(name, number);
         match &row {
             Some(row) => words.say(format_args!("{name}, line {}: ", row.line)),
-            None => words.say(format_args!("{name}, row {number}, counted from 0: ")),
+            None => words.say(format_args!("{name}, row {number} (counted from 0): ")),
         }
         Told {
             words,
@@ -202,7 +202,7 @@ impl<'a, R: Files<File = F>, F: Read + Drop> RunFiles<'a, R> {
         }
     }
 
-    // The row of this number in the file of this name, read once more. None where it is no regular file: a pipe gives its text once.
+    // The row of this number in the file of this name, read again. None if it is not a regular file: a pipe gives its text only once.
     fn row_of(&self, name: &str, number: u64) -> Option<FoundRow> {
         if !self.is_regular(name) {
             return None;
@@ -227,7 +227,7 @@ impl<'a, R: Files<File = F>, F: Read + Drop> RunFiles<'a, R> {
         }
     }
 
-    // How the file of this name is compressed, if it is. None where it is no regular file.
+    // How the file of this name is compressed, if it is. None if it is not a regular file.
     fn compression_of(&self, name: &str) -> Option<Compression> {
         if !self.is_regular(name) {
             return None;
@@ -242,7 +242,7 @@ impl<'a, R: Files<File = F>, F: Read + Drop> RunFiles<'a, R> {
         }
     }
 
-    // Whether a file can be read once more.
+    // Whether a file can be read again.
     fn is_regular(&self, name: &str) -> bool {
         match fs::metadata(self.rt, name) {
             Ok(metadata) => metadata.is_file(),
@@ -307,7 +307,7 @@ fn words_of_arguments(alloc: Global, fault: ArgumentFault, recordings: usize) ->
             words.say("--depth must be a number from 1 to 4096");
         }
         ArgumentFault::ReaderCount => words.say(format_args!(
-            "there are {}; expected one for each of the configuration's cores",
+            "the command line names {}; expected one for each configured core",
             Count(recordings, "recording")
         )),
     }

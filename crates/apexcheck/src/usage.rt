@@ -22,14 +22,14 @@ use std::rt::Env;
 use std::{env, io};
 use wording::Words;
 
-/// What a person reads whose command line is refused.
+/// What is printed for a person whose command line is refused.
 pub const USAGE: &str = "usage: apexcheck --config FILE --order FILE --workers N [OPTION]... CORE...
        apexcheck --version
        apexcheck
 
 Checks the recordings of the cores of an ARINC 653 module, in one proposed
-order, and prints the answer in one line. Without words, it checks a small run
-of its own.
+order, and prints the answer in one line. Without arguments, it checks a small
+run of its own.
 
 Inputs:
   --config FILE      the configuration of the module (required)
@@ -51,31 +51,31 @@ Output:
                      place, at most 8
   --quiet            do not explain the answer on standard error
   --sarif FILE       write the outcome to FILE as a SARIF 2.1.0 log
-  --version          print the version; this must be the only word";
+  --version          print the version; this must be the only argument";
 
-/// What the command line asks for.
+/// What the command line requests.
 #[derive(Debug, Drop)]
 pub enum Asked {
-    /// There are no words: the run that stands in the program.
+    /// There are no words: the stored run.
     StoredRun,
     /// The one word is `--version`.
     Version,
-    /// The run whose texts stand in files.
+    /// The run whose texts are in files.
     Files(FilesAsked),
 }
 
-/// A run over files, as the command line asks for it.
+/// A run over files, as the command line requests it.
 #[derive(Debug, Drop)]
 pub struct FilesAsked {
     /// The files that hold its texts.
     pub names: FileNames,
-    /// The rules that are asked for by options of their own.
+    /// The rules that are requested by options of their own.
     pub options: RuleOptions,
     /// How the check is carried out.
     pub settings: Settings,
-    /// Whether the last records before the place of a No are asked for.
+    /// Whether the last records before the place of a No are requested.
     pub last: bool,
-    /// Whether standard error is not to explain why the answer is no Yes.
+    /// Whether standard error should not explain why the answer is not Yes.
     pub quiet: bool,
 }
 
@@ -84,7 +84,7 @@ pub struct FilesAsked {
 pub struct FileNames {
     /// The configuration.
     pub config: String,
-    /// The text of rules, if there is one.
+    /// The rules file, if there is one.
     pub rules: Option<String>,
     /// The certificate, which proposes the order.
     pub order: String,
@@ -94,16 +94,16 @@ pub struct FileNames {
     pub sarif: Option<String>,
 }
 
-/// Why a command line says nothing that can be done.
+/// Why a command line requests nothing that can be done.
 #[derive(Clone, Copy, Debug, PartialEq, Eq)]
 pub enum UsageFault {
-    /// The words are not those of the usage. A word that is no UTF-8 text is none of them.
+    /// The words are not those of the usage. A word that is not UTF-8 is not one of them.
     Usage,
-    /// Memory was refused on the way.
+    /// Memory was refused.
     Memory,
 }
 
-/// Reads the words that the program was given.
+/// Reads the words that were given to the program.
 pub fn from_words(rt: &(impl Env + AllocGlobal), alloc: Global) -> Result<Asked, UsageFault> {
     let words: Vec<String> = match env::args(rt) {
         Ok(words) => words.collect(alloc)?,
@@ -113,7 +113,7 @@ pub fn from_words(rt: &(impl Env + AllocGlobal), alloc: Global) -> Result<Asked,
     read_words(alloc, words.as_slice())
 }
 
-/// Prints what is wrong with the words that the program was given, in colours or without, and how it is used.
+/// Prints what is wrong with the words that were given to the program, in colours or without, and its usage.
 pub fn tell_usage(rt: &(impl Env + Eprint + AllocGlobal), alloc: Global, in_colour: bool) {
     let mut reported = Words::new(alloc);
     match env::args(rt) {
@@ -122,14 +122,14 @@ pub fn tell_usage(rt: &(impl Env + Eprint + AllocGlobal), alloc: Global, in_colo
                 tell_command_line(&mut reported, words.as_slice());
             }
         }
-        Err(_) => reported.say("a word is no UTF-8 text"),
+        Err(_) => reported.say("an argument is not valid UTF-8"),
     }
-    // Standard error only helps a person, so that a failure there changes nothing.
+    // Standard error only helps a person, so a failure there changes nothing.
     let _ = rt.eprintln(format_args!("apexcheck: {}", reported.shown(in_colour)));
     let _ = rt.eprintln(USAGE);
 }
 
-// Reads what these words ask for, of which the first is the program's own name.
+// Reads what these words request. The first word is the program's own name.
 fn read_words(alloc: Global, words: &[String]) -> Result<Asked, UsageFault>
     ensures stored { length words.now ≤ 1 → result ≡ Ok Asked.StoredRun }
     ensures version { asks_version (map string_bytes words.now) ≡ true → result ≡ Ok Asked.Version }
@@ -143,7 +143,7 @@ fn read_words(alloc: Global, words: &[String]) -> Result<Asked, UsageFault>
     }
 }
 
-// Whether the one word after the program's own name asks for the version.
+// Whether the one word after the program's own name requests the version.
 fn is_version(words: &[String]) -> bool
     ensures { result ≡ asks_version (map string_bytes words.now) }
 {
@@ -153,7 +153,7 @@ fn is_version(words: &[String]) -> bool
     }
 }
 
-// A run over files, as the words ask for it. The first word is the program's own name.
+// A run over files, as the words request it. The first word is the program's own name.
 fn run_over_files(alloc: Global, words: &[String]) -> Result<Asked, UsageFault>
     ensures asked { IfOk result (AsksForFiles (found_in (map string_bytes words.now))) }
     ensures refused { IfErr result (λ fault. fault ≡ UsageFault.Usage → IsWrong (map string_bytes words.now)) }
@@ -161,7 +161,7 @@ fn run_over_files(alloc: Global, words: &[String]) -> Result<Asked, UsageFault>
     Ok(Asked::Files(files_asked(alloc, words)?))
 }
 
-// The files, the rules and the settings that the words ask for.
+// The files, the rules and the settings that the words request.
 fn files_asked(alloc: Global, words: &[String]) -> Result<FilesAsked, UsageFault>
     ensures asked { IfOk result (AsksFor (found_in (map string_bytes words.now))) }
     ensures refused { IfErr result (λ fault. fault ≡ UsageFault.Usage → IsWrong (map string_bytes words.now)) }
@@ -202,7 +202,7 @@ fn settings_asked(matches: &ArgMatches<'_>) -> Result<Settings, UsageFault>
     read_settings(workers, depth).ok_or(UsageFault::Usage)
 }
 
-// Whether the last records are asked for.
+// Whether the last records are requested.
 fn asks_last(matches: &ArgMatches<'_>) -> bool
     ensures given { one_text (found_of matches.now) (codes "last") ≡ Some (codes "true") → result ≡ true }
     ensures not_given { one_text (found_of matches.now) (codes "last") ≡ Some (codes "false") → result ≡ false }
@@ -211,7 +211,7 @@ fn asks_last(matches: &ArgMatches<'_>) -> bool
     matches.get_flag("last")
 }
 
-// Whether no explanation is asked for.
+// Whether no explanation is requested.
 fn asks_quiet(matches: &ArgMatches<'_>) -> bool
     ensures given { one_text (found_of matches.now) (codes "quiet") ≡ Some (codes "true") → result ≡ true }
     ensures not_given { one_text (found_of matches.now) (codes "quiet") ≡ Some (codes "false") → result ≡ false }
@@ -220,7 +220,7 @@ fn asks_quiet(matches: &ArgMatches<'_>) -> bool
     matches.get_flag("quiet")
 }
 
-// The values of the options that ask for rules.
+// The values of the options that request rules.
 fn rule_options(matches: &ArgMatches<'_>) -> Result<RuleOptions, UsageFault>
     ensures { result ≡ ok_or (values_of (first_value (found_of matches.now) (codes "max-elapsed")) (first_value (found_of matches.now) (codes "forbid"))) UsageFault.Usage }
 {
@@ -229,7 +229,7 @@ fn rule_options(matches: &ArgMatches<'_>) -> Result<RuleOptions, UsageFault>
     RuleOptions::read(max_elapsed, forbidden).ok_or(UsageFault::Usage)
 }
 
-// The text that an option is given, if it is.
+// The text that is given to an option, if there is one.
 fn text_of<'a>(matches: &ArgMatches<'a>, name: &str) -> Option<&'a [u8]>
     ensures { option_map (λ text. text.now) result ≡ first_value (found_of matches.now) name.now }
 {
@@ -260,7 +260,7 @@ fn file_names(alloc: Global, matches: &ArgMatches<'_>) -> Result<FileNames, Usag
     }
 }
 
-// Names of files of their own.
+// Owned names of files.
 fn owned_names(
     alloc: Global,
     config: &str,
@@ -284,7 +284,7 @@ fn owned_names(
     })
 }
 
-// A name of its own, if a file is named.
+// An owned name, if a file is named.
 fn owned_if_named(alloc: Global, name: Option<&str>) -> Result<Option<String>, AllocError>
     ensures { IfOk result (λ owned. option_map string_bytes owned ≡ option_map (λ name. name.now) name.entry) }
 {
@@ -294,7 +294,7 @@ fn owned_if_named(alloc: Global, name: Option<&str>) -> Result<Option<String>, A
     }
 }
 
-// Texts of their own, each as it stands.
+// Owned texts, unchanged.
 fn owned(alloc: Global, texts: &[&str]) -> Result<Vec<String>, AllocError>
     ensures { IfOk result (λ owned. map string_bytes owned.items ≡ map (λ text. text.now) texts.now) }
 {
@@ -305,7 +305,7 @@ fn owned(alloc: Global, texts: &[&str]) -> Result<Vec<String>, AllocError>
     Ok(owned)
 }
 
-// The words of a run over files: no option twice, and CORE once or more.
+// The words of a run over files: no option twice, and at least one CORE.
 fn command<'a>(alloc: Global) -> Result<Command<'a>, AllocError>
     ensures { IfOk result (λ command. app_of command ≡ command_line) }
 {
@@ -324,7 +324,7 @@ fn command<'a>(alloc: Global) -> Result<Command<'a>, AllocError>
         .arg(recordings(alloc))
 }
 
-// The recordings, of which there is one at least.
+// The recordings, at least one.
 fn recordings<'a>(alloc: Global) -> Arg<'a>
     ensures rule { rule_of result ≡ recordings }
     ensures local { result.global ≡ false }
@@ -343,7 +343,7 @@ fn option<'a>(alloc: Global, name: &'static str) -> Arg<'a>
     Arg::new(alloc, name).long(name).action(ArgAction::Set)
 }
 
-// The option of this name, which has none.
+// The flag of this name, which has no value.
 fn flag<'a>(alloc: Global, name: &'static str) -> Arg<'a>
     ensures rule { rule_of result ≡ flag_of name.now }
     ensures local { result.global ≡ false }

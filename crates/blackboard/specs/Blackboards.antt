@@ -8,7 +8,7 @@ use Rattle.apex_machine.specs.State.{Blackboard}
 use Rattle.wait_set.specs.declared.object.Actor.{Actor}
 use Rattle.wait_set.specs.Actors.{joined_by, left_by}
 
--- those who wait to read after an operation: READ_BLACKBOARD adds a caller that waits
+-- the processes that wait to read after an operation: READ_BLACKBOARD adds a caller that waits
 abbrev pub readers_after : Actor → BlackboardOperation → Claim → List Entry → List Entry
 readers_after actor (BlackboardOperation.Display length message) claim entries = left_by claim entries
 readers_after actor (BlackboardOperation.Read time_out) claim entries = joined_by actor claim [] entries

@@ -15,7 +15,7 @@ use std::alloc::{AllocError, Global};
 use std::marker::Model;
 use wait_set::{Actor, ApexObject, Given, Named, Owners, WaitSet};
 
-/// A blackboard: the greatest size of its messages, the message on it, if it isn't empty, and those that wait to read.
+/// A blackboard: the greatest size of its messages, the message on it, if it is not empty, and the processes that wait to read.
 #[derive(Drop)]
 pub struct Blackboard {
     alloc: Global,
@@ -34,7 +34,7 @@ impl Model for Blackboard {
 }
 
 impl Blackboard {
-    /// The empty blackboard, at which nobody waits. Its messages have at most `size` bytes. Takes no memory.
+    /// The empty blackboard, at which no process waits. Its messages have at most `size` bytes. Takes no memory.
     pub fn new(alloc: Global, name: Name, size: u16) -> Blackboard
         ensures { result ≡ record { name = name; size = size; message = None; readers = [] } }
     {
@@ -54,21 +54,21 @@ impl Blackboard {
         self.size
     }
 
-    /// The message on it, or None where it is empty.
+    /// The message on it, or None if it is empty.
     pub fn message(&self) -> Option<&Message>
         ensures { option_copied result ≡ self.now.message }
     {
         self.message.as_ref()
     }
 
-    /// Those that wait to read.
+    /// The processes that wait to read.
     pub fn readers(&self) -> &WaitSet
         ensures { result.now.entries ≡ self.now.readers }
     {
         &self.readers
     }
 
-    /// GET_BLACKBOARD_STATUS: whether a message is on it, and how many wait. Takes no memory.
+    /// GET_BLACKBOARD_STATUS: whether a message is on it, and how many processes wait. Takes no memory.
     pub fn status(&self) -> Status
         ensures { result ≡ blackboard_status self.now }
     {
@@ -101,7 +101,7 @@ impl ApexObject for Blackboard {
 
     fn answer(&self, _actor: &Actor, operation: &BlackboardOperation) -> Given<'_> {
         match (operation, &self.message) {
-            // The message is on the blackboard, and all who wait for one get it.
+            // The message is on the blackboard, and all processes that wait for one get it.
             (BlackboardOperation::Display { .. }, _) => Given::waking_all(&self.readers),
             (BlackboardOperation::Read { .. }, Some(message)) => {
                 Given::giving(message.as_bytes(), None)

@@ -1,10 +1,12 @@
-//! Blackboards, with their operations as the definitions have them.
+//! Blackboards, with the operations of the definitions.
 //!
-//! Promises: a blackboard is seen as the definitions' own; an operation on it is accepted exactly where the claim is what the
-//! definitions' rule gives its caller, and leaves the blackboard that the rule leaves, its waiting set too; else nothing has
-//! changed. Only a message that is displayed and a reader that waits take memory.
+//! Promises: contracts see a blackboard as that of the definitions. An operation on it is accepted exactly if the claim is what the
+//! definitions' rule gives its caller, and leaves the blackboard that the rule leaves, including its waiting set; else nothing has changed.
+//! Only a message that is displayed and a reader that waits take memory.
 //!
-//! A blackboard needs no partition around it. A recording of a single one can be judged by it alone:
+//! Contracts see its name too. What it reports of itself is a `Status` (`status`).
+//!
+//! A blackboard requires no partition. It alone can judge a recording of a single blackboard:
 //!
 //! ```text
 //! let mut board = Blackboard::new(alloc, name, 100);

@@ -28,12 +28,12 @@ buffer_of name size queue = record {
 abbrev pub answer : Actor → BufferOperation → Buffer → Answer
 answer actor operation found = (buffer_effect operation found).answer
 
--- those who wait to send after an operation: SEND_BUFFER adds a caller that waits, with its message
+-- the processes that wait to send after an operation: SEND_BUFFER adds a caller that waits, with its message
 abbrev pub senders_after : Actor → BufferOperation → Claim → List Entry → List Entry
 senders_after actor (BufferOperation.Send length time_out message) claim entries = joined_by actor claim message entries
 senders_after actor (BufferOperation.Receive time_out) claim entries = left_by claim entries
 
--- those who wait to receive after an operation: RECEIVE_BUFFER adds a caller that waits
+-- the processes that wait to receive after an operation: RECEIVE_BUFFER adds a caller that waits
 abbrev pub receivers_after : Actor → BufferOperation → Claim → List Entry → List Entry
 receivers_after actor (BufferOperation.Send length time_out message) claim entries = left_by claim entries
 receivers_after actor (BufferOperation.Receive time_out) claim entries = joined_by actor claim [] entries

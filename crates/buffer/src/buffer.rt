@@ -11,7 +11,8 @@ use std::alloc::{AllocError, Global};
 use std::marker::Model;
 use wait_set::{Actor, ApexObject, Given, Named, Owners};
 
-/// A buffer: its name, the greatest size of its messages, and the queue of them, whose senders and receivers wait by one discipline.
+/// A buffer: its name, the greatest size of its messages, and the queue of its messages, whose senders and receivers wait by one
+/// discipline.
 #[derive(Drop)]
 pub struct Buffer {
     name: Name,
@@ -32,10 +33,10 @@ impl Model for Buffer {
 }
 
 impl Buffer {
-    /// The buffer without a message, at which nobody waits. Its messages have at most `size` bytes, and it holds at most
-    /// `capacity` of them.
+    /// The buffer with no message, at which no process waits. Its messages have at most `size` bytes, and it holds at most `capacity` of
+    /// them.
     ///
-    /// AllocError where memory for their places is refused. No other operation takes memory for a place.
+    /// AllocError if memory for their places is refused. No other operation takes memory for a place.
     pub fn new(
         alloc: Global,
         name: Name,
@@ -59,21 +60,21 @@ impl Buffer {
         self.size
     }
 
-    /// How many messages it holds at most.
+    /// The most messages that it holds.
     pub fn capacity(&self) -> usize
         ensures { result ≡ self.now.capacity }
     {
         self.queue.capacity()
     }
 
-    /// The queue of its messages, with those that wait at it.
+    /// The queue of its messages, with the processes that wait at it.
     pub fn queue(&self) -> &MessageQueue
         ensures { rules.buffer_of self.now.name self.now.size result.now ≡ self.now }
     {
         &self.queue
     }
 
-    /// GET_BUFFER_STATUS: how many messages it holds, and how many wait to send or to receive. Takes no memory.
+    /// GET_BUFFER_STATUS: how many messages it holds, and how many processes wait to send or to receive. Takes no memory.
     pub fn status(&self) -> Status
         ensures { result ≡ buffer_status self.now }
     {

@@ -1,11 +1,14 @@
-//! Buffers, with their operations as the definitions have them.
+//! Buffers, with the operations of the definitions.
 //!
-//! Promises: a buffer is seen as the definitions' own; an operation on it is accepted exactly where the claim is what the
-//! definitions' rule gives its caller, and leaves the buffer that the rule leaves, both its waiting sets too; else nothing has
-//! changed. The places of its messages are taken once, when it is made. A message is copied once, where the buffer holds it
-//! or its sender waits with it; the message of a sender that moves up is not copied again.
+//! Promises: contracts see a buffer as that of the definitions. An operation on it is accepted exactly if the claim is what the
+//! definitions' rule gives its caller, and leaves the buffer that the rule leaves, including both waiting sets; else nothing has changed.
+//! Memory for the places of its messages is taken once, when it is made. A message is copied once, when the buffer holds it or its sender
+//! waits with it; the message of a sender that moves up is not copied again.
 //!
-//! A buffer needs no partition around it. A recording of a single one can be judged by it alone:
+//! A buffer is a queue of messages with one discipline for both its sets. Contracts see its name too, and what it reports of itself is a
+//! `Status` (`status`).
+//!
+//! A buffer requires no partition. It alone can judge a recording of a single buffer:
 //!
 //! ```text
 //! let mut buffer = Buffer::new(alloc, name, 100, 1, Discipline::Fifo)?;

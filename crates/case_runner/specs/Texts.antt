@@ -1,8 +1,8 @@
 -- Texts in parts.
 use Rattle.std.specs.Prelude.{◌≡◌, ◌≢◌, ◌⊎◌, ◌++◌, ◌∷◌, ℕ, List, [], All}
 
--- a text in two parts: what stands before its first byte that is `end`, and what stands after that byte; where there is
--- no such byte, all of it and nothing
+-- a text in two parts: what comes before its first byte that is `end`, and what comes after that byte; if there is no such byte, the whole
+-- text and nothing
 pub record IsSplit (end : ℕ) (text before after : List ℕ) : Type 0 where
   pub not_before : All (λ byte. byte ≢ end) before
   pub parts : (text ≡ before ++ end ∷ after) ⊎ (text ≡ before) × (after ≡ [])

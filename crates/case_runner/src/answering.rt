@@ -18,7 +18,7 @@ use std::io::Cursor;
 use std::sync::Wait;
 use std::thread::Threads;
 
-/// The texts of a check: the configuration, one recording for each core and the certificate; and the options that ask for its rules.
+/// The texts of a check: the configuration, one recording for each core and the certificate; and the options that request its rules.
 #[derive(Clone, Copy, Debug)]
 pub struct Texts<'a> {
     pub config: &'a [u8],
@@ -27,7 +27,7 @@ pub struct Texts<'a> {
     pub options: &'a [RuleOption],
 }
 
-/// What came of a check.
+/// What a check reported.
 #[derive(Debug, Drop)]
 pub struct Answer {
     /// The line of the report, without its line feed.
@@ -38,8 +38,8 @@ pub struct Answer {
     pub status: u64,
 }
 
-/// The line that has to come, without its line feed, the lines of the last records if a case names them, each with its line feed,
-/// and the exit status that belongs to it.
+/// The expected line, without its line feed, the lines of the last records if a case names them, each with its line feed, and the exit
+/// status that belongs to it.
 #[derive(Clone, Copy, Debug)]
 pub struct Expected<'a> {
     pub line: &'a [u8],
@@ -58,7 +58,7 @@ impl Answer {
     }
 }
 
-// Whether these are the lines that have to come, if there are such.
+// Whether these are the expected lines, if lines are expected.
 fn has_lines(lines: &[u8], expected: Option<&[u8]>) -> bool
     ensures { IsTrue result ↔ IfSome (option_map (λ wanted. wanted.now) expected.entry) (λ wanted. lines.now ≡ wanted) }
 {
@@ -68,7 +68,7 @@ fn has_lines(lines: &[u8], expected: Option<&[u8]>) -> bool
     }
 }
 
-/// The answer of the check for these texts, run in this manner.
+/// The answer of the check for these texts, run in this way.
 pub fn answer_to<T>(
     rt: T,
     alloc: Global,

@@ -1,4 +1,4 @@
-// An archive: a text in sections, each below a line `-- HEADING --`.
+// An archive: a text in sections, each under a line `-- HEADING --`.
 
 ghost use Rattle.std.specs.Prelude.{◌≡◌, ◌++◌, ◌≤◌, IfSome, codes, length};
 
@@ -8,13 +8,13 @@ use std::alloc::{AllocError, Global};
 /// A section of an archive.
 #[derive(Clone, Copy, Debug)]
 pub struct Section<'a> {
-    /// What stands between the dashes of its heading.
+    /// What is between the dashes of its heading.
     pub heading: &'a [u8],
-    /// The lines below the heading, up to the next one. Empty lines at their end are no part of it.
+    /// The lines under the heading, up to the next one. Empty lines at their end are not part of it.
     pub body: &'a [u8],
 }
 
-/// The sections of an archive, in its order. What stands before the first heading is a comment.
+/// The sections of an archive, in its order. What comes before the first heading is a comment.
 #[tactic(auto, using(crate::proofs::Texts::after_is_shorter))]
 pub fn sections(alloc: Global, archive: &[u8]) -> Result<Vec<Section<'_>>, AllocError> {
     let mut found = Vec::new(alloc);

@@ -1,4 +1,4 @@
-// A case: the texts of a check, and what has to come of them.
+// A case: the texts of a check, and what is expected of them.
 
 use crate::answering::Expected;
 use crate::archive::Section;
@@ -10,7 +10,7 @@ use csv_rows::read_decimal;
 use rule_options::{RuleOption, RuleOptions};
 use std::alloc::{AllocError, AllocFailed, Global};
 
-/// What has to come where a recording ends after so many bytes, up to the next cut.
+/// What is expected if a recording ends after this many bytes, up to the next cut.
 #[derive(Clone, Copy, Debug)]
 pub struct Cut<'a> {
     pub bytes: usize,
@@ -20,7 +20,7 @@ pub struct Cut<'a> {
 /// Why a case cannot be run.
 #[derive(Clone, Copy, Debug, PartialEq, Eq)]
 pub enum CaseFault {
-    /// A heading is none of those that an archive may have.
+    /// A heading is not one of those that an archive may have.
     UnknownHeading,
     /// A change is at a line that the text does not have.
     NoSuchLine,
@@ -28,17 +28,17 @@ pub enum CaseFault {
     CoreBelowMissing,
     /// The rules are not options with their values, each at most once.
     NoRules,
-    /// There is no one line that has to come.
+    /// There is not exactly one expected line.
     NoReport,
     /// There is no number of a status.
     NoStatus,
-    /// The cuts are not a rising list from 0 to the end of the recording at most.
+    /// The cuts are not a rising list from 0 to at most the end of the recording.
     NoCuts,
     /// Memory was refused.
     Memory,
 }
 
-/// The texts of a check, and what has to come of them, as the sections so far say it.
+/// The texts of a check, and what is expected of them, as far as the sections so far say it.
 #[derive(Drop)]
 pub struct Case<'a> {
     alloc: Global,
@@ -54,7 +54,7 @@ pub struct Case<'a> {
 }
 
 impl<'a> Case<'a> {
-    /// A case of which no section has said anything: an empty configuration and no recording.
+    /// A case before any section: an empty configuration and no recording.
     pub fn new(alloc: Global) -> Case<'a> {
         Case {
             alloc,
@@ -122,7 +122,7 @@ impl<'a> Case<'a> {
         &self.recordings
     }
 
-    /// The certificate. Where none is given, it names the records of core 0 in their own order.
+    /// The certificate. If none is given, it names the records of core 0 in their own order.
     pub fn order_text(&self) -> Result<Vec<u8>, CaseFault> {
         let mut order = Vec::new(self.alloc);
         match &self.order {
@@ -138,7 +138,7 @@ impl<'a> Case<'a> {
         Ok(order)
     }
 
-    /// The options that ask for rules, in the order in which their rules are numbered.
+    /// The options that request rules, in the order in which their rules are numbered.
     #[tactic(auto, using(crate::proofs::Texts::after_is_shorter))]
     pub fn rules(&self) -> Result<Vec<RuleOption>, CaseFault> {
         let (mut max_elapsed, mut forbidden) = (None, None);
@@ -167,7 +167,7 @@ impl<'a> Case<'a> {
         self.named
     }
 
-    /// What has to come of the whole texts. None where only cuts are given.
+    /// What is expected of the whole texts. None if only cuts are given.
     pub fn expected(&self) -> Result<Option<Expected<'a>>, CaseFault> {
         match (self.report, self.cuts) {
             (Some(report), _) => {
@@ -191,7 +191,7 @@ impl<'a> Case<'a> {
         }
     }
 
-    /// What has to come where the recording of core 0 is cut.
+    /// What is expected if the recording of core 0 is cut.
     #[tactic(auto, using(crate::proofs::Texts::after_is_shorter))]
     pub fn cuts(&self) -> Result<Vec<Cut<'a>>, CaseFault> {
         let mut cuts: Vec<Cut<'a>> = Vec::new(self.alloc);

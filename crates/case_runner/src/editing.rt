@@ -34,7 +34,7 @@ pub fn apply(text: &mut Vec<u8>, change: Change, lines: &[u8]) -> Result<(), Edi
     Ok(())
 }
 
-// Puts lines in the place of one.
+// Replaces a line by lines.
 fn replace_line(text: &mut Vec<u8>, number: usize, lines: &[u8]) -> Result<(), EditFault> {
     let start = line_start(text, number).ok_or(EditFault::NoSuchLine)?;
     let (before, from) = text.split_at(start);
@@ -50,7 +50,7 @@ fn replace_line(text: &mut Vec<u8>, number: usize, lines: &[u8]) -> Result<(), E
     Ok(())
 }
 
-// Puts lines so many times after a text. Each `@` in them is the number of its line.
+// Appends lines to a text this many times. Each `@` in them is the number of its line.
 fn push_times(text: &mut Vec<u8>, count: usize, lines: &[u8]) -> Result<(), AllocError> {
     let mut number = line_count(text);
     for _ in 0..count {
@@ -64,7 +64,7 @@ fn push_times(text: &mut Vec<u8>, count: usize, lines: &[u8]) -> Result<(), Allo
     Ok(())
 }
 
-// Puts a byte after a text, or for `@` this number.
+// Appends a byte to a text, or this number for `@`.
 fn push_numbered(text: &mut Vec<u8>, byte: u8, number: usize) -> Result<(), AllocError> {
     if byte == b'@' {
         text.extend_from_slice(Buffer::new().format(number).as_bytes())?;
@@ -74,7 +74,7 @@ fn push_numbered(text: &mut Vec<u8>, byte: u8, number: usize) -> Result<(), Allo
     Ok(())
 }
 
-// Where the line of this number begins: at the end of the text for the line after its last.
+// Where the line of this number begins: for the line after the last one, at the end of the text.
 #[tactic(auto, using(crate::proofs::Texts::after_is_shorter))]
 fn line_start(text: &[u8], number: usize) -> Option<usize>
     ensures { IfSome result (λ start. start ≤ length text.now) }

@@ -8,8 +8,7 @@ pub const LINE_FEED: u8 = b'\n';
 /// What ends a word.
 pub const SPACE: u8 = b' ';
 
-/// The part before the first byte that is `end`, and what follows that byte. Where there is none, the whole text
-/// and nothing.
+/// The part before the first byte that is `end`, and what follows that byte. If there is none, the whole text and nothing.
 pub fn split_at_byte(text: &[u8], end: u8) -> (&[u8], &[u8])
     ensures { IsSplit end text.now result.0.now result.1.now }
 {

@@ -13,25 +13,25 @@ const LAST_SETTING: u64 = 1_000_000;
 /// What the lines of a section are.
 #[derive(Clone, Copy, Debug)]
 pub enum Heading<'a> {
-    /// `case NAME`: a comment; the sections after it, up to the next case, are the case's own.
+    /// `case NAME`: a comment; the sections after it, up to the next case, belong to the case.
     Case(&'a [u8]),
-    /// `config.toml`, `core0.csv` and on, `order.csv`: a text of the check, or a change in one.
+    /// `config.toml`, `core0.csv` and so on, `order.csv`: a text of the check, or a change in one.
     Text(TextName, Change),
-    /// `rules`: the options of the program that ask for rules.
+    /// `rules`: the options of the program that request rules.
     Rules,
     /// `workers N`: how many workers judge, in all checks of the case.
     Workers(usize),
-    /// `depth N`: how many records of a core wait at most until they are judged, in all checks of the case.
+    /// `depth N`: the most records of a core that wait until they are judged, in all checks of the case.
     Depth(usize),
-    /// `report`: the line that has to come.
+    /// `report`: the expected line.
     Report,
-    /// `last`: the lines of the last records, which have to come after it.
+    /// `last`: the lines of the last records that are expected after it.
     Last,
     /// `status`: the exit status that belongs to it.
     Status,
-    /// `said`, `said of NAME..`: the words that the built program must say of it, which is tested elsewhere.
+    /// `said`, `said of NAME..`: the words that the built program must say about it, which another test checks.
     Said,
-    /// `cuts of core0.csv`: the lines that have to come where the recording of that core is cut.
+    /// `cuts of core0.csv`: the lines that are expected if the recording of that core is cut.
     Cuts,
 }
 
@@ -40,7 +40,7 @@ pub enum Heading<'a> {
 pub enum TextName {
     /// `config.toml`
     Config,
-    /// `core0.csv` and on, by the core.
+    /// `core0.csv` and so on, by the core.
     Core(usize),
     /// `order.csv`
     Order,
@@ -51,16 +51,16 @@ pub enum TextName {
 pub enum Change {
     /// Its lines are the text.
     Whole,
-    /// `line N`: they stand in the place of that line.
+    /// `line N`: they replace that line.
     Line(usize),
     /// `from line N`: they replace that line and all after it.
     FromLine(usize),
-    /// `N times`: they are appended to the text so many times, and each `@` in them is the number of its line.
+    /// `N times`: they are appended to the text this many times, and each `@` in them is the number of its line.
     Times(usize),
 }
 
 impl<'a> Heading<'a> {
-    /// What a heading says. None where it is none of these.
+    /// What a heading says. None if it is none of these.
     pub fn of(heading: &'a [u8]) -> Option<Heading<'a>> {
         if heading == b"rules".as_slice() {
             return Some(Heading::Rules);

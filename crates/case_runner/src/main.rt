@@ -1,8 +1,17 @@
-//! The program that runs worked cases: recordings in files, each with the line and the status that a check has to answer.
-//! It ends with status 0 where there was a case and all were answered as their files expect, and else with 1.
+//! The program that runs worked cases: recordings in files, each with the line and the status that a check must answer. It ends with status
+//! 0 if there was a case and all were answered as their files expect, and otherwise with 1.
 //!
-//! Promises: what a case is compared with is the line and the status of an outcome that its texts have under its rules, with the
-//! settings of the check.
+//! Promises: a case is compared with the line and the status of an outcome that its texts have under its rules, with the settings of the
+//! check.
+//!
+//! A case is data: a file in `data/` holds recordings in sections, each with the line and the status that a check must answer, and its
+//! variants. `data/README.md` says how a file is written, and anybody can run a file of their own. One proved runner reads them all, so a
+//! new case costs no proof. It calls `check_relations`, `write_report` and `write_last` over readers in memory, in rounds of several sizes,
+//! by several workers and at several depths, and finally `check_plain` over all records at once (`plain.rt`). It reports each case that is
+//! answered otherwise.
+//!
+//! A case may also have the words that `apexcheck` must print on standard error. The runner passes over them, and `.ci/run_said` looks for
+//! them in what the built program prints.
 #![tactic(auto)]
 
 mod answering;

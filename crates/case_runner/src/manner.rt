@@ -1,4 +1,4 @@
-// How a case is checked: in what rounds, by how many workers, and how far ahead its recordings are read.
+// How a case is checked: in which rounds, by how many workers, and how far ahead its recordings are read.
 
 ghost use Rattle.std.specs.Prelude.{◌≡◌, ◌≤◌, IfSome, None, Some};
 ghost use Rattle.apex_types.specs.declared.limits.TheConstants.{LARGEST_ROUND};
@@ -31,7 +31,7 @@ impl Rounds {
         }
     }
 
-    // The settings of a check in such rounds, where its case names none.
+    // The settings of a check in such rounds, if its case names none.
     fn settings(self) -> Settings
         ensures { argument_fault_of result ≡ None }
     {
@@ -44,17 +44,17 @@ impl Rounds {
     }
 }
 
-/// The settings that a case names. They may be such as a check refuses.
+/// The settings that a case names. They may be some that a check refuses.
 #[derive(Clone, Copy, Debug)]
 pub struct Named {
     /// How many workers judge.
     pub workers: Option<usize>,
-    /// How many records of a core wait at most until they are judged.
+    /// The most records of a core that wait until they are judged.
     pub depth: Option<usize>,
 }
 
 impl Named {
-    /// As these name, but with one worker where they name none.
+    /// As these name, but with one worker if they name none.
     pub fn by_one_worker(self) -> Named
         ensures workers { result.workers ≡ Some (unwrap_or self.workers 1) }
         ensures depth { result.depth ≡ self.depth }
@@ -65,7 +65,7 @@ impl Named {
         }
     }
 
-    /// How a check of the case is run in these rounds: with the settings that it names, and else with those of the rounds.
+    /// How a check of the case is run in these rounds: with the settings that it names, and otherwise with those of the rounds.
     pub fn in_rounds(self, rounds: Rounds) -> Manner
         ensures rounds { result.rounds ≡ rounds }
         ensures workers { IfSome self.workers (λ workers. result.settings.workers ≡ workers) }

@@ -22,10 +22,10 @@ use verdict_merge::check_plain;
 // How far ahead the recordings are read.
 const DEPTH: usize = 64;
 
-/// What `check_plain` answers for these texts over the records that they place, whatever refuses the rest of them, and under the
-/// rules that their options ask for. There are no last records.
+/// What `check_plain` answers for these texts over the records that they place, whatever the rest is refused for, and under the rules that
+/// their options request. There are no last records.
 ///
-/// The answer to a configuration that is refused, or that has another number of cores, is an empty line with status 2.
+/// For a configuration that is refused, or that has another number of cores, the answer is an empty line with status 2.
 pub fn answer_at_once<T>(rt: T, alloc: Global, texts: Texts<'_>) -> Result<Answer, AllocError>
 where
     T: Threads + Wait + Sync + Copy + Send + 'static,
@@ -54,7 +54,7 @@ where
     })
 }
 
-// The verdict under this configuration, or None where it has another number of cores.
+// The verdict under this configuration, or None if it has another number of cores.
 fn verdict_under<T>(
     rt: T,
     alloc: Global,
@@ -75,7 +75,7 @@ where
     Ok(Some(verdict_over(alloc, texts.options, config, &records)?))
 }
 
-// All records that this certificate places, whatever refuses the rest.
+// All records that this certificate places, whatever the rest is refused for.
 fn records_of<T: Threads + Wait + Copy + Send + 'static>(
     rt: T,
     alloc: Global,
@@ -97,7 +97,7 @@ fn records_of<T: Threads + Wait + Copy + Send + 'static>(
     }
 }
 
-// The verdict over these records under the rules that the options ask for, each of which is its own test.
+// The verdict over these records under the rules that the options request, each of which is its own test.
 fn verdict_over(
     alloc: Global,
     options: &[RuleOption],

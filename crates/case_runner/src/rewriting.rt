@@ -9,8 +9,8 @@ use std::alloc::{AllocError, Global};
 // How many commas a row of format 1 has.
 const COMMAS: usize = 15;
 
-/// The recordings in format 2: each row of a recording in format 1 has two empty fields more. A recording whose first row has not
-/// the fields of format 1 stays as it is.
+/// The recordings in format 2: each row of a recording in format 1 has two more fields, which are empty. A recording whose first row does
+/// not have the fields of format 1 stays as it is.
 pub fn in_format_2(alloc: Global, recordings: &[Vec<u8>]) -> Result<Vec<Vec<u8>>, AllocError> {
     let mut rewritten = Vec::new(alloc);
     for recording in recordings {

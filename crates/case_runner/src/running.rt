@@ -22,13 +22,13 @@ use std::thread::Threads;
 /// Why a run ends before its last case.
 #[derive(Clone, Copy, Debug, PartialEq, Eq)]
 pub enum RunFault {
-    /// What was to be reported could not be written.
+    /// A report could not be written.
     Unwritten,
     /// Memory was refused.
     Memory,
 }
 
-/// Runs the cases of these files. Reports each case that fails and why, and at last how many there were.
+/// Runs the cases of these files. Reports each case that fails and why, and finally how many there were.
 ///
 /// Whether there was a case, and all were answered as expected.
 pub fn run_files<R, W>(rt: R, output: &mut W, names: &[String]) -> Result<bool, RunFault>
@@ -122,7 +122,7 @@ struct Difference<'a> {
     found: Answer,
 }
 
-// By which call an answer came.
+// The call that gave an answer.
 #[derive(Clone, Copy)]
 enum How {
     // The check, run in this manner.
@@ -131,7 +131,7 @@ enum How {
     AtOnce,
 }
 
-// Runs a case: the sections that all cases of its file begin with, and its own.
+// Runs a case: the sections with which all cases of its file begin, and its own.
 fn run_case<'a, T>(
     rt: T,
     alloc: Global,
@@ -186,7 +186,7 @@ where
     if last.bytes > recording.len() {
         return Err(CaseFault::NoCuts);
     }
-    // There are many of them, and threads cost time.
+    // There are many of them, and threads take time.
     let named = whole.named.by_one_worker();
     for bytes in 0..recording.len() + 1 {
         let expected = cuts
@@ -213,7 +213,7 @@ where
     Ok(None)
 }
 
-// A check of texts, of which the recording may be cut after so many bytes, with the settings that the case names.
+// A check of texts with the settings that the case names. The recording may be cut after a number of bytes.
 #[derive(Clone, Copy)]
 struct Trial<'b, T> {
     rt: T,
@@ -225,8 +225,8 @@ struct Trial<'b, T> {
 }
 
 impl<'b, T: Threads + Wait + Sync + Copy + Send + 'static> Trial<'b, T> {
-    // The first answer that is not the expected one: as the recordings are written, in rounds of each size, and in format 2; and of
-    // all records at once.
+    // The first answer that is not the expected one: with the recordings as written, in rounds of each size, and in format 2; and over all
+    // records at once.
     fn difference<'a>(&self, expected: Expected<'a>) -> Result<Option<Difference<'a>>, AllocError> {
         for rounds in [Rounds::OfOne, Rounds::OfSeven, Rounds::OfMost] {
             if let Some(difference) = self.difference_in(rounds, expected)? {
@@ -265,8 +265,8 @@ impl<'b, T: Threads + Wait + Sync + Copy + Send + 'static> Trial<'b, T> {
         Ok(Some(self.differing(How::Checked(manner), expected, found)))
     }
 
-    // The verdict over all records at once, if it is not the expected one. Nothing is asked where the input is to be refused, since
-    // the verdict says nothing of it. It leaves no last records.
+    // The verdict over all records at once, if it is not the expected one. If the input is expected to be refused, no verdict is asked for,
+    // since it would say nothing about that. It leaves no last records.
     fn difference_at_once<'a>(
         &self,
         expected: Expected<'a>,
@@ -285,7 +285,7 @@ impl<'b, T: Threads + Wait + Sync + Copy + Send + 'static> Trial<'b, T> {
         Ok(Some(self.differing(How::AtOnce, wanted, found)))
     }
 
-    // That this answer came where that was expected.
+    // Says that this answer was given where that one was expected.
     fn differing<'a>(&self, how: How, expected: Expected<'a>, found: Answer) -> Difference<'a> {
         Difference {
             cut: self.cut,
@@ -297,7 +297,7 @@ impl<'b, T: Threads + Wait + Sync + Copy + Send + 'static> Trial<'b, T> {
     }
 }
 
-// Puts out what is wrong with a case, if something is.
+// Writes what is wrong with a case, if something is.
 fn put_outcome<W: Sink>(
     output: &mut W,
     place: &[&[u8]],
@@ -347,7 +347,7 @@ fn put_difference<W: Sink>(output: &mut W, difference: &Difference<'_>) -> Resul
     Ok(())
 }
 
-// Puts out by which call an answer came.
+// Writes which call gave an answer.
 fn put_how<W: Sink>(output: &mut W, how: How) -> Result<(), WriteFault> {
     match how {
         How::Checked(manner) => put_manner(output, manner),
@@ -355,7 +355,7 @@ fn put_how<W: Sink>(output: &mut W, how: How) -> Result<(), WriteFault> {
     }
 }
 
-// Puts out how a check was run.
+// Writes how a check was run.
 fn put_manner<W: Sink>(output: &mut W, manner: Manner) -> Result<(), WriteFault> {
     put_parts(
         output,
@@ -370,7 +370,7 @@ fn put_manner<W: Sink>(output: &mut W, manner: Manner) -> Result<(), WriteFault>
     )
 }
 
-// Puts out a status and a line.
+// Writes a status and a line.
 fn put_answer<W: Sink>(output: &mut W, status: u64, line: &[u8]) -> Result<(), WriteFault> {
     put_parts(
         output,
@@ -383,7 +383,7 @@ fn put_answer<W: Sink>(output: &mut W, status: u64, line: &[u8]) -> Result<(), W
     put_all(output, line)
 }
 
-// What a fault is called.
+// The name of a fault.
 fn text_of(fault: CaseFault) -> &'static [u8] {
     match fault {
         CaseFault::UnknownHeading => b"a heading is unknown",

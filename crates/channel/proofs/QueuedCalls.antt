@@ -9,7 +9,7 @@ use Rattle.apex_types.specs.declared.request.Request.TheVariants as request
 use Rattle.apex_machine.specs.declared.state.Entry.{Entry}
 use Rattle.apex_machine.specs.declared.state.WaitingSet.{WaitingSet}
 use Rattle.apex_machine.specs.declared.state.WaitingSet.TheVariants as set
-use Rattle.apex_machine.specs.Demands.{AllHold, answer_demands, stands_in, through_demands}
+use Rattle.apex_machine.specs.Demands.{AllHold, answer_demands, has_entry_in, through_demands}
 use Rattle.apex_machine.specs.Configuration.{Configuration}
 use Rattle.apex_machine.specs.Waiting.{is_waiting, set_after}
 use Rattle.message_queue.specs.Queues.{Queue}
@@ -21,7 +21,7 @@ use Rattle.channel.proofs.Shared.{and_false, apart, of_three, same_number, suite
 use Rattle.wait_set.specs.declared.object.Actor.{Actor}
 use Rattle.wait_set.specs.declared.object.ObjFault.{ObjFault}
 use Rattle.wait_set.specs.Actors.{entry_with, joined_by}
-use Rattle.wait_set.specs.Laws.{StandBefore}
+use Rattle.wait_set.specs.Laws.{AreBeforePlace}
 use Rattle.wait_set.specs.Sets.{IsNewInEach}
 use Rattle.wait_set.proofs.Calls.{no_place, set_joined, set_left}
 use Rattle.wait_set.proofs.Leaving.{without-unnamed}
@@ -38,7 +38,7 @@ caller_of place call = record { who = call.who; priority = call.claim.prio; plac
 
 -- a caller that waits at neither end is new in both sets
 pub new_caller : (number source destination place : ℕ) (queue : Queue) (call : CallRecord) (held : Held) → queuing_held number source destination queue ≡ held
-    → (stands_in call.who held.channel.senders || stands_in call.who held.channel.receivers) ≡ false → AllBelow place held
+    → (has_entry_in call.who held.channel.senders || has_entry_in call.who held.channel.receivers) ≡ false → AllBelow place held
     → IsNewInEach (entry_with (caller_of place call) []) (queue.senders.entries ∷ queue.receivers.entries ∷ [])
 new_caller number source destination place queue call held seen = rw (← seen)
     (λ apart below. ((neither_first _ _ apart, no_place place queue.senders.entries below.0), ((neither_later _ _ apart, no_place place queue.receivers.entries below.1), tt)))
@@ -58,7 +58,7 @@ queuing_demanded now number source destination queue call held port (QueuingOper
 
 -- who waits to send after an operation
 senders_after : (number place : ℕ) (queue : Queue) (call : CallRecord) (port : ℤ) (operation : QueuingOperation)
-    → call.request ≡ request.QueuingPort port operation → call.claim.chan ≡ Some number → StandBefore place queue.senders.entries
+    → call.request ≡ request.QueuingPort port operation → call.claim.chan ≡ Some number → AreBeforePlace place queue.senders.entries
     → set_after place (Call call) (set.ChannelSenders number) queue.senders.entries
     ≡ (queue_after (caller_of place call) operation call.claim queue).senders.entries
 senders_after number place queue call port (QueuingOperation.Send length time_out message) asked through before =
@@ -71,7 +71,7 @@ senders_after number place queue call port (QueuingOperation.Receive time_out) a
 
 -- who waits to receive after an operation
 receivers_after : (number place : ℕ) (queue : Queue) (call : CallRecord) (port : ℤ) (operation : QueuingOperation)
-    → call.request ≡ request.QueuingPort port operation → call.claim.chan ≡ Some number → StandBefore place queue.receivers.entries
+    → call.request ≡ request.QueuingPort port operation → call.claim.chan ≡ Some number → AreBeforePlace place queue.receivers.entries
     → set_after place (Call call) (set.ChannelReceivers number) queue.receivers.entries
     ≡ (queue_after (caller_of place call) operation call.claim queue).receivers.entries
 receivers_after number place queue call port (QueuingOperation.Send length time_out message) asked through before =
@@ -116,7 +116,7 @@ pub asked_demanded : (now number source destination : ℕ) (queue : Queue) (call
 asked_demanded now number source destination queue call held port seen asked = rw (← seen)
     (λ configuration is. rw (asked, is.3 call.who.part, is.4 call.who.part) refl)
 
--- the channel after one has asked: it stays, since nobody is named
+-- the channel after a partition has asked for the status: it stays, since no process is named
 pub asked_after : (result : Result (Unit {0}) ObjFault) (now number place source destination : ℕ) (queue : Queue) (call : CallRecord) (held : Held) (port : ℤ)
     → queuing_held number source destination queue ≡ held → call.request ≡ request.GetStatus kind.QueuingPort port → call.claim.chan ≡ Some held.number
     → OnOk result (AllHold (asked_demands source destination call.who.part queue call.claim))

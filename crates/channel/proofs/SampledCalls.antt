@@ -36,7 +36,7 @@ content_after : (configuration : Configuration) (now number refresh : ℕ) (last
 content_after configuration now number refresh last call port (SamplingOperation.Write length message) asked through = rw (asked, through, same_number number) refl
 content_after configuration now number refresh last call port SamplingOperation.Read asked through = rw (asked, through, same_number number) refl
 
--- nobody enters its empty sets
+-- no process enters its empty sets
 stay_empty : (place : ℕ) (call : CallRecord) (port : ℤ) (operation : SamplingOperation) (wanted : WaitingSet)
     → call.request ≡ request.SamplingPort port operation → set_after place (Call call) wanted [] ≡ []
 stay_empty place call port operation wanted asked =

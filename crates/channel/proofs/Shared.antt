@@ -6,7 +6,7 @@ use Rattle.apex_types.specs.declared.cause.Cause.TheVariants as cause
 use Rattle.apex_types.specs.declared.record.Call.{Call as CallRecord}
 use Rattle.apex_machine.specs.declared.state.Entry.{Entry}
 use Rattle.apex_machine.specs.Configuration.{Configuration}
-use Rattle.apex_machine.specs.Demands.{AllHold, Demand, stands_in, through_demands}
+use Rattle.apex_machine.specs.Demands.{AllHold, Demand, has_entry_in, through_demands}
 use Rattle.apex_machine.specs.State.{Content}
 use Rattle.channel.specs.Held.{Accepts, Held, IsConfigured, RefusesCall}
 use Rattle.wait_set.specs.declared.object.ObjFault.{ObjFault}
@@ -34,9 +34,9 @@ same_number n = grind (arith, nat_tests)
 
 -- the demand that the caller waits at neither end
 abbrev pub apart : CallRecord → Held → Demand
-apart call held = record { cause = cause.Choice; holds = (stands_in call.who held.channel.senders || stands_in call.who held.channel.receivers) ≡ false }
+apart call held = record { cause = cause.Choice; holds = (has_entry_in call.who held.channel.senders || has_entry_in call.who held.channel.receivers) ≡ false }
 
--- the demand that the channel suits the service, where it does
+-- the demand that the channel suits the service, if it does
 abbrev pub suited : Demand
 suited = record { cause = cause.Chan; holds = true ≡ true }
 
@@ -51,7 +51,7 @@ still_refused first demands Memory before holds = all_hold first demands before 
 still_refused [] demands (Unlawful cause) before refused = refused
 still_refused (demand ∷ others) demands (Unlawful cause) before refused = inr (before.0, still_refused others demands (Unlawful cause) before.1 refused)
 
--- a call is accepted where the demands after those that hold do, whichever configuration the channel has
+-- a call is accepted if the demands after those that hold do, whichever configuration the channel has
 pub accepted : (result : Result (Unit {0}) ObjFault) (now : ℕ) (call : CallRecord) (held : Held) (first demands : List {1} Demand)
     → ((configuration : Configuration) → IsConfigured configuration held → through_demands configuration now held.number held.channel call ≡ first ++ demands)
     → AllHold first → OnOk result (AllHold demands) → OnOk result (Accepts now call held)

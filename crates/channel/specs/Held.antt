@@ -1,5 +1,5 @@
--- A channel with its number and what was given when it was made: what a configuration says of it, what it demands of a call, and
--- what it is afterwards.
+-- A channel with its number and the settings with which it was made: what a configuration says of it, what it demands of a call, and how
+-- the call leaves it.
 use Rattle.std.specs.Prelude.{◌≡◌, ℕ, Bool, Result, nat_eq, IsFalse, IsTrue}
 use Rattle.apex_types.specs.declared.cause.Cause.{Cause}
 use Rattle.apex_types.specs.declared.discipline.Discipline.{Discipline}
@@ -17,15 +17,15 @@ use Rattle.apex_machine.specs.State.{Channel}
 use Rattle.apex_machine.specs.Waiting.{set_after, without}
 use Rattle.wait_set.specs.declared.object.ObjFault.{ObjFault}
 use Rattle.wait_set.specs.Actors.{Refuses}
-use Rattle.wait_set.specs.Laws.{StandBefore}
+use Rattle.wait_set.specs.Laws.{AreBeforePlace}
 
--- what was given when a channel was made: the refresh period of a sampling channel; how many messages a queuing channel holds at
--- most, the disciplines of those who wait to send and to receive, and the partitions at its source and at its destination
+-- the settings with which a channel was made: of a sampling channel the refresh period; of a queuing channel the most messages that it
+-- holds, the disciplines of the processes that wait to send and to receive, and the partitions at its source and at its destination
 pub data Settings : Type 0 where
   SamplingSettings : (refresh : ℕ) → Settings
   QueuingSettings : (capacity : ℕ) → (sending : Discipline) → (receiving : Discipline) → (source : ℕ) → (destination : ℕ) → Settings
 
--- a channel with its number and what was given when it was made
+-- a channel with its number and the settings with which it was made
 pub record Held : Type 0 where
   pub number : ℕ
   pub settings : Settings
@@ -33,7 +33,7 @@ pub record Held : Type 0 where
 
 -- what a configuration says
 
--- a configuration says of the channel of this number what was given
+-- a configuration gives the channel of this number these settings
 abbrev pub SaysTheSame : Configuration → ℕ → Settings → Type 0
 SaysTheSame configuration number (SamplingSettings refresh) = refresh_of configuration number ≡ refresh
 SaysTheSame configuration number (QueuingSettings capacity sending receiving source destination) =
@@ -43,36 +43,37 @@ SaysTheSame configuration number (QueuingSettings capacity sending receiving sou
     × ((partition : ℕ) → is_at_source configuration number partition ≡ nat_eq source partition)
     × ((partition : ℕ) → is_at_destination configuration number partition ≡ nat_eq destination partition)
 
--- a channel is configured as it was made
+-- a channel is made as it is configured
 abbrev pub IsConfigured : Configuration → Held → Type 0
 IsConfigured configuration held = SaysTheSame configuration held.number held.settings
 
 -- calls
 
--- all who wait at a channel have places below this one
+-- the entries of all processes that wait at a channel have places below this one
 abbrev pub AllBelow : ℕ → Held → Type 0
-AllBelow place held = StandBefore place held.channel.senders × StandBefore place held.channel.receivers
+AllBelow place held = AreBeforePlace place held.channel.senders × AreBeforePlace place held.channel.receivers
 
--- what a channel gives the caller of a call at this time of its core, whichever configuration it has: its service is of the channel's kind
+-- what a channel gives the caller of a call at this time of its core, whichever configuration gives its settings; the call's service is of
+-- the channel's kind
 abbrev pub Gives : ℕ → CallRecord → Held → Answer → Type 0
 Gives now call held answer =
     (configuration : Configuration) → IsConfigured configuration held
     → IsTrue (suits_use configuration held.number call.who.part (use_of call.request) held.channel)
     × (answer ≡ (channel_effect configuration now held.number call.who.part (use_of call.request) held.channel).answer)
 
--- the service of a call is not of the channel's kind, whichever configuration the channel has
+-- the service of a call is not of the channel's kind, whichever configuration gives its settings
 abbrev pub DoesNotServe : CallRecord → Held → Type 0
 DoesNotServe call held =
     (configuration : Configuration) → IsConfigured configuration held
     → IsFalse (suits_use configuration held.number call.who.part (use_of call.request) held.channel)
 
--- a call meets all that the channel demands of it at this time of its core, whichever configuration the channel has
+-- a call meets everything that the channel demands of it at this time of its core, whichever configuration gives its settings
 abbrev pub Accepts : ℕ → CallRecord → Held → Type 0
 Accepts now call held =
     (configuration : Configuration) → IsConfigured configuration held → AllHold (through_demands configuration now held.number held.channel call)
 
--- a judgement of a call: all that the channel demands of it holds, or it gives the cause of the first demand that fails, whichever
--- configuration the channel has
+-- a judgement of a call, whichever configuration gives the channel's settings: everything that the channel demands of it holds, or it gives
+-- the cause of the first demand that fails
 abbrev pub JudgesCall : ℕ → CallRecord → Held → Result (Unit {0}) Cause → Type 0
 JudgesCall now call held judgement =
     (configuration : Configuration) → IsConfigured configuration held → Judges (through_demands configuration now held.number held.channel call) judgement
@@ -90,12 +91,12 @@ called configuration place now call held = record {
   receivers = set_after place (Call call) (set.ChannelReceivers held.number) held.channel.receivers;
 }
 
--- a channel is as a call through it leaves it, whichever configuration it has; its number and what was given stay
+-- a channel is as a call through it leaves it, whichever configuration gives its settings; its number and its settings stay
 abbrev pub IsAfterCall : ℕ → ℕ → CallRecord → Held → Held → Type 0
 IsAfterCall place now call old new =
     (configuration : Configuration) → IsConfigured configuration old → new ≡ record old { channel = called configuration place now call old }
 
--- those who leave
+-- processes that leave
 
 -- a channel without the waiters that leave
 abbrev pub without_waiters : (Who → Bool) → Held → Held

@@ -39,7 +39,7 @@ abbrev pub is_sampled : Content → Bool
 is_sampled (Sampled last) = true
 is_sampled (Queued messages) = false
 
--- the message that was last written, if it is that of a sampling channel and one was
+-- the message that was last written, if the content is that of a sampling channel and one was written
 abbrev pub last_written : Content → Option Stamped
 last_written (Sampled last) = last
 last_written (Queued messages) = None

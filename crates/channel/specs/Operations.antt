@@ -1,4 +1,4 @@
--- What a channel of either kind gives the caller of an operation, what it holds after it, and what it demands of a partition that asks
+-- What a channel of either kind gives the caller of an operation, what it holds afterwards, and what it demands of a partition that asks
 -- for its status.
 use Rattle.std.specs.Prelude.{ℕ, List, ◌∷◌, Option, Some, None, nat_eq, ◌||◌, IsTrue, if◌then◌else◌}
 use Rattle.apex_types.specs.declared.cause.Cause.TheVariants as cause
@@ -24,19 +24,19 @@ abbrev pub queuing_effect : QueuingOperation → Queue → Effect Messages
 queuing_effect (QueuingOperation.Send length time_out message) queue = sent_to message time_out queue
 queuing_effect (QueuingOperation.Receive time_out) queue = received_from time_out queue
 
--- the queue of a queuing channel after an operation, its waiting sets too
+-- the queue of a queuing channel after an operation, including its waiting sets
 abbrev pub queue_after : Actor → QueuingOperation → Claim → Queue → Queue
 queue_after actor (QueuingOperation.Send length time_out message) claim queue = after_send actor message time_out claim queue
 queue_after actor (QueuingOperation.Receive time_out) claim queue = after_receive actor time_out claim queue
 
--- those that wait at a partition's end of a queue between these partitions, if it is at one
+-- the processes that wait at a partition's end of a queue between these partitions, if the partition is at one of the ends
 abbrev pub waiting_between : ℕ → ℕ → ℕ → Queue → Option (List Entry)
 waiting_between source destination partition queue =
     if nat_eq source partition then Some queue.senders.entries
     else if nat_eq destination partition then Some queue.receivers.entries
     else None
 
--- the partition is at one of the two ends, and the claim tells the messages and those that wait there
+-- the partition is at one of the two ends, and the claim gives the number of messages and of the processes that wait there
 abbrev pub asked_demands : ℕ → ℕ → ℕ → Queue → Claim → List {1} Demand
 asked_demands source destination partition queue claim =
     record { cause = cause.Chan; holds = IsTrue (nat_eq source partition || nat_eq destination partition) }

@@ -2,7 +2,7 @@
 
 ghost use Rattle.std.specs.Prelude.{◌≡◌, ◌||◌, ℕ, None, Some, nat_eq, true, IfErr, IfNone, IfOk, IfSome, OnErr, OnOk};
 ghost use Rattle.std.specs.Option.{option_copied};
-ghost use Rattle.apex_machine.specs.Demands.{stands_in};
+ghost use Rattle.apex_machine.specs.Demands.{has_entry_in};
 ghost use Rattle.apex_machine.specs.State.{is_named, is_same};
 ghost use Rattle.channel.specs.Held as rules;
 ghost use Rattle.channel.specs.Held.{Accepts, AllBelow, DoesNotServe, Gives, IsAfterCall, JudgesCall, RefusesCall};
@@ -42,8 +42,8 @@ impl Model for Channel {
 }
 
 impl Channel {
-    /// The sampling channel of this number, without a message. A message is valid for as many ticks as its refresh period has.
-    /// Takes no memory.
+    /// The sampling channel of this number, with no message. A message is valid for as many ticks as the refresh period has. Takes no
+    /// memory.
     pub fn sampling(alloc: Global, number: ChanId, refresh: u64) -> Channel
         ensures { result ≡ sampling_held number refresh None }
     {
@@ -57,11 +57,11 @@ impl Channel {
         }
     }
 
-    /// The queuing channel of this number, without a message, at which nobody waits. It holds at most `capacity` messages; those
-    /// who wait to send go by the first of the two disciplines, those who wait to receive by the second. `source` and `destination`
-    /// are the partitions at its ends.
+    /// The queuing channel of this number, with no message, at which no process waits. It holds at most `capacity` messages. Processes that
+    /// wait to send go by the first of the two disciplines, those that wait to receive by the second. `source` and `destination` are the
+    /// partitions at its ends.
     ///
-    /// AllocError where memory for the places of its messages is refused. No other operation takes memory for a place.
+    /// AllocError if memory for the places of its messages is refused. No other operation takes memory for a place.
     pub fn queuing(
         alloc: Global,
         number: ChanId,
@@ -91,7 +91,7 @@ impl Channel {
         self.number
     }
 
-    /// The queue of a queuing channel; None where it is a sampling channel.
+    /// The queue of a queuing channel; None for a sampling channel.
     pub fn queue(&self) -> Option<&MessageQueue>
         ensures held { IfSome result (λ queue. self.now ≡ queuing_held self.now.number (source_in self.now.settings) (destination_in self.now.settings) queue.now) }
         ensures none { IfNone result (is_sampled self.now.channel.content ≡ true) }
@@ -102,7 +102,7 @@ impl Channel {
         }
     }
 
-    /// The message that was last written to a sampling channel; None where nothing was, or where it is a queuing channel.
+    /// The message that was last written to a sampling channel; None if none was, or for a queuing channel.
     pub fn written(&self) -> Option<&Stamped>
         ensures { option_copied result ≡ last_written self.now.channel.content }
     {
@@ -112,8 +112,8 @@ impl Channel {
         }
     }
 
-    /// What a call through the channel gives its caller, at this time of its core in ticks. None where its service is not one of the
-    /// channel's kind, or asks for the status of a port that is at neither end. Takes no memory.
+    /// What a call through the channel gives its caller, at this time of its core in ticks. None if its service is not of the channel's
+    /// kind, or if it asks for the status of a port that is at neither end. Takes no memory.
     pub fn answer(&self, now: u64, call: &Call) -> Option<Given<'_>>
         ensures given { IfSome result (λ given. Gives now call.now self.now (answer_given given)) }
         ensures none { IfNone result (DoesNotServe call.now self.now) }
@@ -132,10 +132,10 @@ impl Channel {
         }
     }
 
-    /// Judges a call through the channel, at this time of its core in ticks: its caller waits at neither end, its service is one of the
-    /// channel's kind, and its claim is what the channel gives. Takes no memory.
+    /// Judges a call through the channel, at this time of its core in ticks: its caller must wait at neither end, its service must be of
+    /// the channel's kind, and its claim must be what the channel gives. Takes no memory.
     ///
-    /// Refused with the cause of the first of these that fails.
+    /// Refused with the cause of the first of these demands that fails.
     pub fn judge(&self, now: u64, call: &Call) -> Result<(), Cause>
         ensures { JudgesCall now call.now self.now result }
     {
@@ -148,12 +148,11 @@ impl Channel {
         }
     }
 
-    /// Carries out a call through the channel, at this place and at this time of its core in ticks, where the call is what the
-    /// channel demands: its caller waits at neither end, its service is one of the channel's kind, and its claim is what the
-    /// channel gives.
+    /// Carries out a call through the channel, at this place and at this time of its core in ticks, if the call meets what the channel
+    /// demands: its caller waits at neither end, its service is of the channel's kind, and its claim is what the channel gives.
     ///
-    /// Refused, with nothing changed, where one of these fails, or where memory is refused for a message that the channel keeps or
-    /// for the entry of a caller that waits.
+    /// Refused, with nothing changed, if one of these fails, or if memory is refused for a message that the channel keeps or for the entry
+    /// of a caller that waits.
     pub fn apply(&mut self, place: Place, now: u64, call: &Call) -> Result<(), ObjFault>
         requires through { call.now.claim.chan ≡ Some self.old.number }
         requires below { AllBelow place self.old }
@@ -186,7 +185,7 @@ impl Channel {
 
     /// Whether a process waits at the channel, to send or to receive. Takes no memory.
     pub fn has(&self, who: Who) -> bool
-        ensures { result ≡ (stands_in who self.now.channel.senders || stands_in who self.now.channel.receivers) }
+        ensures { result ≡ (has_entry_in who self.now.channel.senders || has_entry_in who self.now.channel.receivers) }
     {
         match &self.kind {
             Kind::Sampling(_) => false,
@@ -194,9 +193,9 @@ impl Channel {
         }
     }
 
-    /// Takes a process out of both waiting sets, and says whether it stood in one. Takes no memory.
+    /// Takes a process out of both waiting sets. Returns whether it was in one. Takes no memory.
     pub fn leave(&mut self, who: Who) -> bool
-        ensures stood { result ≡ (stands_in who self.old.channel.senders || stands_in who self.old.channel.receivers) }
+        ensures stood { result ≡ (has_entry_in who self.old.channel.senders || has_entry_in who self.old.channel.receivers) }
         ensures left { self.new ≡ rules.without_waiters (λ other. is_same other who) self.old }
     {
         match &mut self.kind {
@@ -205,7 +204,7 @@ impl Channel {
         }
     }
 
-    /// Takes all whom a list names out of both waiting sets, as a tick does that ends their waits. Takes no memory.
+    /// Takes all processes that a list names out of both waiting sets, as a tick that ends their waits does. Takes no memory.
     pub fn release(&mut self, woken: &[Who])
         ensures { self.new ≡ rules.without_waiters (λ who. is_named who woken.now) self.old }
     {
@@ -215,8 +214,8 @@ impl Channel {
         }
     }
 
-    /// Takes all processes of a partition out of both waiting sets, as its restart does. The message of one that waits to send goes
-    /// with it; the messages that the channel holds stay. Takes no memory.
+    /// Takes all processes of a partition out of both waiting sets, as a restart of the partition does. The message of a process that waits
+    /// to send goes with it; the messages that the channel holds stay. Takes no memory.
     pub fn leave_all(&mut self, part: PartId)
         ensures { self.new ≡ rules.without_waiters (λ who. nat_eq who.part part) self.old }
     {

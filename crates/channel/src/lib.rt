@@ -1,13 +1,21 @@
-//! Channels between partitions, with the calls through them as the definitions have them.
+//! Channels between partitions, and the calls through them, as in the definitions.
 //!
-//! Promises: a channel is seen as its number, what was given when it was made, and the definitions' own channel. A call through it
-//! is accepted exactly where it meets what the definitions demand of it there, and leaves the channel that they tell; else nothing
-//! has changed, and the cause is that of the first demand that fails. Whatever configuration says of its number what was given when
-//! it was made will do. A message is copied once, where the channel keeps it; want of memory comes from that copy or
-//! from the entry of a caller that waits. To leave takes no memory.
+//! Promises: contracts see a channel as its number, the settings with which it was made, and the channel of the definitions. A call through
+//! it is accepted exactly if it meets what the definitions demand of it there, and leaves the channel that they give. Else nothing has
+//! changed, and the cause is that of the first demand that fails. All this holds for any configuration that gives the channel of this
+//! number these settings. A message is copied once, when the channel keeps it. Memory can be lacking only for that copy or for the entry of
+//! a caller that waits. Leaving takes no memory.
 //!
-//! Whether a call goes through this channel, and whether its caller may make it, is judged before, by the caller's partition.
-//! A channel needs no partition around it. Calls through a single one can be judged by it alone:
+//! A sampling channel has its refresh period and the message that was last written; a queuing channel is a queue of messages between two
+//! partitions. `apply` also judges whether the caller already waits there and whether the service is of the channel's kind. It requires the
+//! places of those who wait to be below the place of the call (`AllBelow`), and its result holds for each configuration in which
+//! `IsConfigured` holds. `release`, `leave` and `leave_all` take processes out of both its sets, as ticks, stops and restarts do.
+//!
+//! A channel knows no port. Of partitions, it knows only the two numbers at the ends of a queue, because the status of a queuing port
+//! reports how many wait at the caller's end (`queuing.rt`).
+//!
+//! The caller's partition has judged before whether a call goes through this channel, and whether its caller may make it. A channel
+//! requires no partition. It alone can judge the calls through a single channel:
 //!
 //! ```text
 //! // Channel 4 of partition 0 to partition 1 holds one message. Those who wait to receive go by priority.

@@ -33,9 +33,9 @@ impl QueuingChannel {
         }
     }
 
-    /// Carries out an operation, where the claim is what it gives its caller, who waits at neither end.
+    /// Carries out an operation, if the claim is what it gives its caller, which waits at neither end.
     ///
-    /// Refused, with nothing changed, where the claim is another, or where memory is refused.
+    /// Refused, with nothing changed, if the claim is another, or if memory is refused.
     pub(crate) fn apply(
         &mut self,
         actor: Actor,
@@ -62,8 +62,8 @@ impl QueuingChannel {
         carried.map_err(|_| ObjFault::Memory)
     }
 
-    /// What GET_QUEUING_PORT_STATUS gives a partition that asks: how many messages there are, and how many wait at its end. None
-    /// where it is at neither end. Takes no memory.
+    /// What GET_QUEUING_PORT_STATUS gives a partition that asks: how many messages there are, and how many processes wait at its end. None
+    /// if it is at neither end. Takes no memory.
     pub(crate) fn answer_to_asker(&self, part: PartId) -> Option<Given<'_>>
         ensures { option_map answer_given result ≡ option_map (λ waiting. telling (Some (channel_status self.now.queue.messages waiting))) (waiting_between self.now.source self.now.destination part self.now.queue) }
     {
@@ -75,7 +75,7 @@ impl QueuingChannel {
         })))
     }
 
-    /// Judges the claim of a partition that asks for the status: the queue stays.
+    /// Judges the claim of a partition that asks for the status; the queue stays.
     pub(crate) fn ask(&self, part: PartId, claim: &Claim) -> Result<(), ObjFault>
         ensures ok { OnOk result (AllHold (asked_demands self.now.source self.now.destination part self.now.queue claim.now)) }
         ensures refused { IfErr result (Refuses (asked_demands self.now.source self.now.destination part self.now.queue claim.now)) }
@@ -87,7 +87,7 @@ impl QueuingChannel {
         given.judge(claim).map_err(ObjFault::Unlawful)
     }
 
-    // Those that wait at a partition's end, or None where it is at neither.
+    // The processes that wait at a partition's end, or None if it is at neither.
     fn waiting_at(&self, part: PartId) -> Option<&WaitSet>
         ensures { option_map (λ waiting. waiting.now.entries) result ≡ waiting_between self.now.source self.now.destination part self.now.queue }
     {

@@ -42,7 +42,7 @@ impl Stamped {
         self.stamp
     }
 
-    // Whether the message is valid at this time, as the value that a reader gets: 1 where its age is at most the refresh period.
+    // Whether the message is valid at this time, as the value that a reader gets: 1 if its age is at most the refresh period.
     fn validity(&self, now: u64, refresh: u64) -> u64
         ensures { result ≡ ports.validity now refresh self.now }
     {
@@ -70,8 +70,8 @@ pub(crate) struct SamplingChannel {
 }
 
 impl SamplingChannel {
-    /// What an operation gives its caller at this time of the caller's core: a reader of an empty channel gets nothing, which is
-    /// invalid. Takes no memory.
+    /// What an operation gives its caller at this time of the caller's core. A reader of an empty channel gets no message, with validity 0.
+    /// Takes no memory.
     pub(crate) fn answer(&self, now: u64, operation: &SamplingOperation) -> Given<'_>
         ensures { answer_given result ≡ (sampling_effect operation.now now self.now.refresh self.now.last).answer }
     {
@@ -86,10 +86,10 @@ impl SamplingChannel {
         }
     }
 
-    /// Carries out an operation at this time of the caller's core, where the claim is what it gives its caller: a copy of a message
-    /// that is written takes the place of the last one.
+    /// Carries out an operation at this time of the caller's core, if the claim is what it gives its caller. A copy of a message that is
+    /// written replaces the last one.
     ///
-    /// Refused, with nothing changed, where the claim is another, or where memory is refused for a message that is written.
+    /// Refused, with nothing changed, if the claim is another, or if memory is refused for a message that is written.
     pub(crate) fn apply(
         &mut self,
         now: u64,
@@ -102,7 +102,7 @@ impl SamplingChannel {
         ensures unchanged { OnErr result (self.new ≡ self.old) }
     {
         let given = self.answer(now, operation);
-        // Nobody waits at a sampling channel. The checker of loans asks that the set is named all the same.
+        // No process waits at a sampling channel. The checker of loans requires that the set is named all the same.
         let _nobody = given.woken_all;
         given.judge(claim).map_err(ObjFault::Unlawful)?;
         match operation {

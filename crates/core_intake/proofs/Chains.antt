@@ -26,7 +26,7 @@ pub first_answers : (can_fail : Bool) (left : Option (List Item)) (first later :
 first_answers can_fail left [] later are = tt
 first_answers can_fail left (answer ∷ first) later are = (are.0, are.1, (λ last. nothing_before first later (are.2 last)), first_answers can_fail are.0 first later are.3)
 
--- what stands before the last of two parts is the first
+-- what comes before the last of two parts is the first
 pub before_is : (given last all : List Answer) → given ++ last ≡ all → before last all ≡ given
 before_is given last all e =
     let lengths : length all ≡ length given + length last = ap length (sym e) ∙ length-append given last in
@@ -37,7 +37,7 @@ or_false : (b : Bool) → (b || false) ≡ b
 or_false true = refl
 or_false false = refl
 
--- one answer more ends the recording where it is the last
+-- one more answer ends the recording if it is the last
 pub ended_after : (given : List Answer) (answer : Answer) → has_ended (given ++ answer ∷ []) ≡ (has_ended given || is_last answer)
 ended_after [] answer = or_false (is_last answer)
 ended_after (first ∷ given) answer = ap (λ ended. is_last first || ended) (ended_after given answer) ∙ sym (or_assoc (is_last first) (has_ended given) (is_last answer))
@@ -59,12 +59,12 @@ Leads can_fail old answers new = (later : List Answer) → AreAnswers can_fail n
 pub one_answer : (can_fail : Bool) (left next : Option (List Item)) (answer : Answer) → IfSome left (λ items. Gives (IsOutside can_fail) items answer next) → AreAnswers can_fail left (answer ∷ [])
 one_answer can_fail left next answer gives = (next, gives, (λ last. refl), tt)
 
--- want of memory is an answer of any source
+-- a lack of memory is an answer of any source
 pub any_memory : (can_fail : Bool) (left : Option (List Item)) → AreAnswers can_fail left (Err Memory ∷ [])
 any_memory can_fail None = one_answer can_fail None None (Err Memory) tt
 any_memory can_fail (Some items) = one_answer can_fail (Some items) None (Err Memory) (inl (inr refl))
 
--- an answer of a source, where it is this one
+-- an answer of a source, if it is this one
 abbrev pub Answered : Bool → Option (List Item) → Answer → Option (List Item) → Type 0
 Answered can_fail left answer next = IfSome left (λ items. Gives (IsOutside can_fail) items answer next)
 
@@ -89,7 +89,7 @@ reads_more can_fail old now new records after rec answer leads gives is more lat
 pub reads_last : (can_fail : Bool) (old now next : Option (List Item)) (records : List Record) (end : Result (Unit {0}) RowFault) (answer : Answer) → Leads can_fail old (records_answered records) now
     → Answered can_fail now answer next → end_of (Some end) ≡ answer ∷ [] → (later : List Answer) → later ≡ [] → AreAnswers can_fail old (answers_of records (Some end) ++ later)
 reads_last can_fail old now next records end answer leads gives is later none =
-    subst (λ behind. AreAnswers can_fail old (answers_of records (Some end) ++ behind)) (sym none)
+    subst (λ those_after. AreAnswers can_fail old (answers_of records (Some end) ++ those_after)) (sym none)
     (subst (AreAnswers can_fail old) (sym (append-nil (answers_of records (Some end))))
     (subst (λ last. AreAnswers can_fail old (records_answered records ++ last)) (sym is) (leads (answer ∷ []) (one_answer can_fail now next answer gives))))
 
@@ -121,16 +121,16 @@ sends_more can_fail old now new sent after batch leads read is goes later are =
     subst (AreAnswers can_fail old) (sym (ap (λ all. all_answers all ++ later) is ∙ one_more sent batch later))
     (leads (answers_in batch ++ later) (read.answers later (subst (λ end. GoesOn can_fail end new.left later) (sym goes) are)))
 
-behind_an_end : (can_fail : Bool) (end : Option (Result (Unit {0}) RowFault)) (left : Option (List Item)) → is_some end ≡ true → GoesOn can_fail end left []
-behind_an_end can_fail None left some = absurd (true≢false (sym some))
-behind_an_end can_fail (Some end) left some = refl
+after_an_end : (can_fail : Bool) (end : Option (Result (Unit {0}) RowFault)) (left : Option (List Item)) → is_some end ≡ true → GoesOn can_fail end left []
+after_an_end can_fail None left some = absurd (true≢false (sym some))
+after_an_end can_fail (Some end) left some = refl
 
 -- the last batch was sent
 pub sends_last : (can_fail : Bool) (old : Option (List Item)) (now new : Source Item) (sent after : List Batch) (batch : Batch) → Leads can_fail old (all_answers sent) now.left → IsRead can_fail now batch new
     → after ≡ sent ++ batch ∷ [] → is_some batch.end ≡ true → AreAnswers can_fail old (all_answers after)
 sends_last can_fail old now new sent after batch leads read is some =
     subst (AreAnswers can_fail old) (sym (ap all_answers is ∙ sym (append-nil (all_answers (sent ++ batch ∷ []))) ∙ one_more sent batch []))
-    (leads (answers_in batch ++ []) (read.answers [] (behind_an_end can_fail batch.end new.left some)))
+    (leads (answers_in batch ++ []) (read.answers [] (after_an_end can_fail batch.end new.left some)))
 
 pub no_end : (end : Option (Result (Unit {0}) RowFault)) → is_some end ≡ false → ◌≡◌ {A = Option (Result (Unit {0}) RowFault)} end None
 no_end None some = refl
@@ -144,7 +144,7 @@ takes_one given hand' answer received e = before_is (given ++ answer ∷ []) han
 pub splits_on : (given hand' : List Answer) (answer : Answer) (received : List Answer) → given ++ answer ∷ hand' ≡ received → before hand' received ++ hand' ≡ received
 splits_on given hand' answer received e = ap (λ all. all ++ hand') (takes_one given hand' answer received e) ∙ append_assoc given (answer ∷ []) hand' ∙ e
 
--- and the recording has ended where that answer was the last
+-- and the recording has ended if that answer was the last
 pub ends_on : (given hand' : List Answer) (answer : Answer) (received : List Answer) (was ended : Bool) → given ++ answer ∷ hand' ≡ received
     → was ≡ has_ended given → was ≡ false → ended ≡ is_last answer → ended ≡ has_ended (before hand' received)
 ends_on given hand' answer received was ended e before_too going is =

@@ -19,7 +19,7 @@ at_end (first ∷ passes) last pass (suc port) not_before here = ap suc (at_end 
 abbrev Each : (ℕ → Log → Type 0) → List Log → Type 0
 Each Fact passes = (port : ℕ) (pass : Log) → get_elem? passes port ≡ some pass → Fact port pass
 
--- it stays where one pass changes
+-- it stays if one pass changes
 each_set : (Fact : ℕ → Log → Type 0) (passes : List Log) (port : ℕ) (now : Log) → Fact port now
     → ((other : ℕ) (pass : Log) → other ≢ port → get_elem? passes other ≡ some pass → Fact other pass) → Each Fact (set passes port now)
 each_set Fact passes port now mine others other pass here = ⊎_elim (λ (is : (other ≡ port) × (now ≡ pass)). subst (λ (both : ℕ × Log). Fact both.0 both.1) (λ i. (sym is.0 i, is.1 i)) mine)

@@ -6,7 +6,7 @@ use thiserror::Error;
 #[derive(Clone, Copy, Debug, Drop, PartialEq, Eq, Error)]
 pub enum IntakeFault {
     /// The depth is 0: no record could wait.
-    #[error("a channel of no depth")]
+    #[error("the depth is 0")]
     NoDepth,
     /// Memory or a thread was refused.
     #[error("out of memory")]

@@ -16,7 +16,7 @@ fn process(number: u32) -> Who {
     }
 }
 
-// The choice and the occupant that partition 1 shows at cold start, where core 1 is dispatched to a process that is not there.
+// The choice and the occupant that partition 1 shows at cold start, if core 1 is dispatched to a process that does not exist.
 fn shown_choice(alloc: Global) -> Option<(Option<Who>, Option<Who>)> {
     let config = config_of(alloc, MODULE, 2)?;
     let pieces = start_pieces(alloc, &config).ok()?;

@@ -4,7 +4,7 @@ use report::Gate;
 use std::sync::atomic::{AtomicUsize, Ordering};
 use std::thread;
 
-/// Waits until a count has come to this number, for 1,000,000 yields at most. Whether it has.
+/// Waits until a count has reached this number, for at most 1,000,000 yields. Returns whether it has.
 pub fn reaches(count: &AtomicUsize, wanted: usize) -> bool {
     for _ in 0..1_000_000 {
         if count.load(Ordering::SeqCst) >= wanted {
@@ -15,11 +15,10 @@ pub fn reaches(count: &AtomicUsize, wanted: usize) -> bool {
     false
 }
 
-/// Holds each claim until so many pieces of its round are claimed, as long as `reaches` waits, and counts the claims that saw
-/// them.
+/// Holds each claim until enough pieces of its round are claimed, as long as `reaches` waits, and counts the claims that saw them.
 #[derive(Drop)]
 pub struct Meeting {
-    // The two pieces whose claims are held. None: all are.
+    // The two pieces whose claims are held. If None, all are.
     held: Option<[usize; 2]>,
     pieces: usize,
     wanted: usize,
@@ -28,7 +27,7 @@ pub struct Meeting {
 }
 
 impl Meeting {
-    /// The gate of a module of so many pieces, at which so many claims of a round have to meet.
+    /// The gate of a module with this many pieces, at which this many claims of a round must meet.
     pub fn new(pieces: usize, wanted: usize) -> Meeting {
         Meeting {
             held: None,
@@ -39,7 +38,7 @@ impl Meeting {
         }
     }
 
-    /// The gate of the pieces of these two numbers, whose claims have to meet.
+    /// The gate of the pieces of these two numbers, whose claims must meet.
     pub fn of_two(first: usize, second: usize) -> Meeting {
         Meeting {
             held: Some([first, second]),
@@ -47,7 +46,7 @@ impl Meeting {
         }
     }
 
-    /// How many claims saw as many as they had to.
+    /// How many claims saw as many others as they had to.
     pub fn met(&self) -> usize {
         self.met.load(Ordering::SeqCst)
     }

@@ -13,7 +13,7 @@ use std::sync::Wait;
 use std::test::Fail;
 use std::thread::Threads;
 
-// Gives its text at most `step` bytes at a time, and fails in place of each read past the first `given` bytes.
+// Gives its text at most `step` bytes at a time. Each read past the first `given` bytes fails.
 #[derive(Clone, Copy)]
 struct Failing {
     text: &'static [u8],
@@ -38,10 +38,10 @@ impl Read for Failing {
 
 const WHOLE: usize = usize::MAX;
 
-// How the tests read and judge: so many bytes at a time, by so many workers and at this depth.
+// How the tests read and judge: this many bytes at a time, by this many workers and at this depth.
 const WAYS: [(usize, usize, usize); 3] = [(1, 1, 1), (7, 2, 2), (1000, 7, 64)];
 
-// A reader of a text that fails past so many bytes.
+// A reader of a text that fails after this many bytes.
 fn reader_of(text: &'static [u8], step: usize, given: usize) -> Watched<Failing> {
     Watched::new(Failing { text, step, given })
 }
@@ -57,13 +57,13 @@ fn whole_rows(text: &[u8], bytes: usize) -> u64 {
     rows
 }
 
-// What has to come of a recording whose reader fails past so many bytes.
+// What is expected of a recording whose reader fails after this many bytes.
 fn failed_row(core: u32, text: &[u8], given: usize) -> Result<Verdict, CheckFault> {
     let (seq, fault) = (whole_rows(text, given), RowFault::Read);
     Err(CheckFault::Input(InputFault::Row { core, seq, fault }))
 }
 
-// What comes of the recording and its certificate where their readers fail past so many bytes.
+// What a check reports of the recording and its certificate if their readers fail after this many bytes.
 fn outcome<T>(
     rt: T,
     alloc: Global,
@@ -103,7 +103,7 @@ fn readers_fail(rt: HostRuntime) -> Result<(), Fail> {
     Ok(())
 }
 
-// Where one core's reader fails, the rows of the other are there, and those of its own up to the failure.
+// If one core's reader fails, the rows of the other are there, and its own rows up to the failure.
 #[test]
 fn one_reader_of_two_fails(rt: HostRuntime) -> Result<(), Fail> {
     let alloc = rt.alloc();

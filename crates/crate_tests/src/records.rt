@@ -13,7 +13,7 @@ use std::alloc::{AllocError, Global};
 use std::sync::Wait;
 use std::thread::Threads;
 
-/// The configuration of a text that is one of so many cores.
+/// The configuration of a text that gives one with this many cores.
 pub fn config_of(alloc: Global, text: &[u8], cores: u8) -> Option<Config>
     ensures { IfSome result (λ config. config.cores ≡ cores) }
 {

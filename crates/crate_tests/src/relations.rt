@@ -22,7 +22,7 @@ fn view_of_kind(kind: i64) -> View {
     }
 }
 
-// Of 5,000 views the last alone breaks the rule: several threads find what one finds.
+// Of 5,000 views only the last breaks the rule: several threads find what one finds.
 #[test]
 fn finds_the_last_view(rt: HostRuntime) -> Result<(), Fail> {
     let heap: Global = rt.alloc();
@@ -42,7 +42,7 @@ fn finds_the_last_view(rt: HostRuntime) -> Result<(), Fail> {
     Ok(())
 }
 
-// Without views, or without rules, none is broken; of two rules that one view breaks the first is reported.
+// Without views, or without rules, none is broken; of two rules that one view breaks, the first is reported.
 #[test]
 fn finds_the_first_rule(rt: HostRuntime) -> Result<(), Fail> {
     let heap: Global = rt.alloc();

@@ -1,7 +1,6 @@
-// Rules for the tests of whoever judges by them.
+// Rules for tests that judge by them.
 
-// The rule of a relation, whose test is the relation itself, over a clone of it. A function may not hand out a box that it made of
-// a closure.
+// The rule of a relation, whose test is the relation itself, over a clone of it. A function may not return a box that it made of a closure.
 macro_rules! rule {
     ($heap:expr, $relation:expr) => {{
         let relation: user_rules::Relation = $relation;

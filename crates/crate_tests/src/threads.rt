@@ -1,4 +1,4 @@
-// Workers that judge beside one another, and recordings that are read beside one another, in a whole check.
+// Workers that judge at the same time, and recordings that are read at the same time, in a whole check.
 
 ghost use Rattle.std.specs.Prelude.{◌≤◌};
 ghost use Rattle.apex_types.specs.declared.limits.TheConstants.{LARGEST_ROUND};
@@ -15,11 +15,11 @@ use std::sync::Arc;
 use std::sync::atomic::{AtomicUsize, Ordering};
 use std::test::Fail;
 
-// What has to come of the message from one partition to another.
+// What is expected of the message from one partition to another.
 const SENT: Verdict = Verdict::Yes { records: 23 };
 
-// A worker that is held makes no claim. So where all claims of a round saw so many of it, as many threads held a piece at one
-// time. The pieces are the module, two partitions and two channels; rounds of 12 records and of the most make two rounds and one.
+// A worker that is held makes no claim. So if all claims of a round saw this many others, as many threads held a piece at the same time.
+// The pieces are the module, two partitions and two channels; rounds of 12 records give two rounds, and the largest rounds give one.
 #[test]
 fn two_claims_meet(rt: HostRuntime) -> Result<(), Fail> {
     let alloc = rt.alloc();
@@ -62,7 +62,7 @@ fn every_two_claims_meet(rt: HostRuntime) -> Result<(), Fail> {
     Ok(())
 }
 
-// The pieces are the module and a partition. The last of 4,097 records stands in a second round.
+// The pieces are the module and a partition. The last of 4,097 records is in a second round.
 #[test]
 fn two_claims_meet_in_both_rounds(rt: HostRuntime) -> Result<(), Fail> {
     let alloc = rt.alloc();
@@ -79,7 +79,7 @@ fn two_claims_meet_in_both_rounds(rt: HostRuntime) -> Result<(), Fail> {
     Ok(())
 }
 
-// A reader of which each read waits until both have begun one, as long as `reaches` does, and else fails.
+// A reader, each read of which waits until both have begun one, as long as `reaches` does, and otherwise fails.
 #[derive(Drop)]
 struct Waiting {
     text: &'static [u8],

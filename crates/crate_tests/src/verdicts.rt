@@ -29,16 +29,16 @@ LAST place=9 core=0 seq=9 kind=tick
 LAST place=10 core=0 seq=10 kind=tick
 ";
 
-/// By two workers, and four records ahead.
+/// With two workers, and four records ahead.
 pub const SETTINGS: Settings = Settings {
     workers: 2,
     depth: 4,
 };
 
-// What has to come of the recording of the wait.
+// What is expected of the recording of the wait.
 const WAITED: Verdict = Verdict::Yes { records: 14 };
 
-// What has to come of the other: the piece of the partition refuses the tick of record 11.
+// What is expected of the other: the piece of the partition rejects the tick of record 11.
 fn missed() -> Verdict {
     Verdict::No {
         pos: Place::new(11),
@@ -123,7 +123,7 @@ fn a_recording_is_judged_at_once(rt: HostRuntime) -> Result<(), Fail> {
     Ok(())
 }
 
-// Each of the calls under the rule that no call takes more than so many ticks until its return. One of the recording takes three.
+// Each of the calls under the rule that no call takes more than this many ticks until its return. One call of the recording takes three.
 #[test]
 fn each_call_tests_rules(rt: HostRuntime) -> Result<(), Fail> {
     let alloc = rt.alloc();

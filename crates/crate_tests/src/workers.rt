@@ -1,4 +1,4 @@
-// What no clause says: that several threads claim pieces at one time, and what a board says of its refusals.
+// What no clause says: that several threads claim pieces at the same time, and what a board says when it refuses.
 
 ghost use Rattle.std.specs.Prelude.{◌≡◌, [], IfOk, IfSome};
 ghost use Rattle.apex_machine.specs.Runs.{ArePlaced, AreOfCores};
@@ -55,8 +55,7 @@ fn tick(alloc: Global, pos: Place) -> Ordered
     ordered(pos, 0, Body::Tick(Woken::none(alloc)))
 }
 
-// Partition 1 knows no process 3, so that it refuses place 1; and the seventh tick is one ahead of the skew, so that the module
-// refuses place 8.
+// Partition 1 has no process 3, so it rejects place 1; and the seventh tick is one ahead of the skew, so the module rejects place 8.
 fn refused_records(alloc: Global) -> Result<Vec<Ordered>, AllocError>
     ensures placed { IfOk result (λ records. ArePlaced 0 records.items) }
     ensures cores { IfOk result (λ records. AreOfCores 2 records.items) }
@@ -84,7 +83,7 @@ fn sort_out(alloc: Global, config: &Config, records: &[Ordered]) -> Option<Touch
     Some(touched)
 }
 
-// What the round of these records makes of each piece under these rules, by so many workers.
+// What the round of these records makes of each piece under these rules, with this many workers.
 fn judge_all<G: Gate + Sync, R: Threads + Wait + Sync>(
     rt: &R,
     alloc: Global,
@@ -105,8 +104,8 @@ fn judge_all<G: Gate + Sync, R: Threads + Wait + Sync>(
     run_round(rt, alloc, &lent, rules, pieces, workers, gate)
 }
 
-// What has to come of the piece of this number: its refusal, and the index of the first record whose view breaks the rule, where
-// there is one. The module sees dispatches and ticks, of which the first tick stands at index 2; the other pieces see none of these.
+// What is expected of the piece of this number: its refusal, and the index of the first record whose view breaks the rule, if there is one.
+// The module sees dispatches and ticks, the first tick at index 2; the other pieces see none of these.
 fn has_come(number: usize, ruled: bool, one: &Judged) -> bool {
     let (place, cause) = match number {
         0 => (8, Cause::Skew),
@@ -123,7 +122,7 @@ fn has_come(number: usize, ruled: bool, one: &Judged) -> bool {
     one.outcome.found == Some(found) && index == first_tick
 }
 
-// Whether what has to come of all five pieces has come.
+// Whether what is expected of all five pieces was reported.
 fn have_come(ruled: bool, all: &[Judged]) -> bool {
     all.len() == 5
         && all
@@ -155,12 +154,12 @@ fn no_worker_is_refused(rt: HostRuntime) -> Result<(), Fail> {
     Ok(())
 }
 
-// Whether no piece refuses a record.
+// Whether no piece rejects a record.
 fn all_went(all: &[Judged]) -> bool {
     all.len() == 5 && all.iter().all(|one| one.outcome.found.is_none())
 }
 
-// A worker that is held makes no claim. So where all five claims saw so many others, as many threads held a piece at one time.
+// A worker that is held makes no claim. So if all five claims saw this many others, as many threads held a piece at the same time.
 #[test]
 fn two_claims_meet(rt: HostRuntime) -> Result<(), Fail> {
     let alloc = rt.alloc();
@@ -175,7 +174,7 @@ fn two_claims_meet(rt: HostRuntime) -> Result<(), Fail> {
     Ok(())
 }
 
-// Two workers hold any two of the five pieces at one time.
+// Two workers hold any two of the five pieces at the same time.
 #[test]
 fn every_two_claims_meet(rt: HostRuntime) -> Result<(), Fail> {
     let alloc = rt.alloc();
@@ -201,7 +200,7 @@ struct RefusedPost {
     events: usize,
 }
 
-// Posts what is refused, and gives it back with what the board says; none where it is not refused.
+// Posts what is refused, and returns it with what the board says; none if it is not refused.
 fn refuse<J: Naming>(board: &mut Board<J>, done: Done<J>) -> Option<(RefusedPost, PostFault<J>)> {
     match board.post(done) {
         Ok(()) => None,
@@ -224,14 +223,14 @@ fn refusal_by<J: Naming>(board: &mut Board<J>, done: Done<J>) -> Option<RefusedP
     Some(refused)
 }
 
-// What becomes of the next piece of the board, claimed by this worker.
+// The outcome of the next piece of the board, claimed by this worker.
 fn finish_next<J: Naming>(board: &mut Board<J>, worker: usize) -> Option<Done<J>>
     requires { J.round.relations ≡ [] }
 {
     board.claim(worker)?.run(&[]).ok()
 }
 
-// Claims the next piece of the board by this worker, and posts what becomes of it.
+// Claims the next piece of the board by this worker, and posts its outcome.
 fn post_next<J: Naming>(board: &mut Board<J>, worker: usize) -> bool
     requires { J.round.relations ≡ [] }
 {
@@ -284,7 +283,7 @@ fn refuse_all<J: Naming>(
     Some([not_claimed, repeated, foreign])
 }
 
-// The same, of the round that the tests judge.
+// The same, for the round that the tests judge.
 fn refuse_in_round(alloc: Global) -> Option<[RefusedPost; 3]> {
     let config = config_of(alloc, MODULE, 2)?;
     let records = refused_records(alloc).ok()?;

@@ -1,4 +1,4 @@
-// Writers that fail in mid-line, in the place of standard output.
+// Writers that fail in mid-line, instead of standard output.
 
 use crate::texts::{CONFIG, ORDER, RECORDING};
 use crate::verdicts::SETTINGS;
@@ -31,7 +31,7 @@ impl<'a> Write for Narrow<'a> {
     }
 }
 
-// Takes all bytes, and can't hand them on.
+// Takes all bytes, and cannot pass them on.
 #[derive(Drop)]
 struct Stuck {}
 

@@ -19,7 +19,7 @@ other byte mark plain special = by (byte == mark) refl
     by true e = absurd (special (subst IsPlain (sym (eqb-true byte mark e)) plain))
     by false e = refl
 
--- where one of the first two bytes is not of a mark, there is none
+-- if one of the first two bytes is not part of a mark, there is none
 no_first : (a b c : ℕ) (rest : List ℕ) → (a == 0xEF) ≡ false → strip_bom (a ∷ b ∷ c ∷ rest) ≡ a ∷ b ∷ c ∷ rest
 unfolding strip_bom
 no_first a b c rest e = ap (λ (first : Bool). if first && (b == 0xBB) && (c == 0xBF) then rest else a ∷ b ∷ c ∷ rest) e

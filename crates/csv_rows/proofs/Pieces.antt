@@ -1,4 +1,4 @@
--- The fields of a line, by where each ends.
+-- The fields of a line, by the places where they end.
 use Rattle.std.proofs.Common.{◌≡◌, ◌<◌, ◌≤◌, ◌+◌, ◌-◌, ℕ, zero, suc, List, [], ◌∷◌, ◌++◌, length, take, drop, get_or, Option, Some, None, Bool, true, false, refl, sym, ap, subst, arith, ◌∙◌, append_assoc, append-nil, le_refl}
 use Rattle.std.specs.Prelude.{if◌then◌else◌, ◌==◌, slice_range}
 use Rattle.std.proofs.lemmas.List.{drop_more, drop_all, get_or-drop, length-drop, take_more}
@@ -151,7 +151,7 @@ piece_within start [] length_of place are within = absurd (omega arith)
 piece_within start (end ∷ ends) length_of zero are within = (are.0, are.1)
 piece_within start (end ∷ ends) length_of (suc place) are within = piece_within (end + 1) ends length_of place are.2 (omega arith)
 
--- where a field begins, by the end of the one before
+-- where a field begins, by the end of the one before it
 pub begins_after : (start : ℕ) (ends : List ℕ) (place : ℕ) → place < length ends → start_at start ends (suc place) ≡ get_or ends place 0 + 1
 begins_after start [] place within = absurd (omega arith)
 begins_after start (end ∷ ends) zero within = refl

@@ -79,7 +79,7 @@ pub no_record : (config : Config) (state : State) (text : List ℕ) → next_rec
     → records_from config (length text + 1) state text ≡ []
 no_record config state text e = rw e at (unfolded config state text)
 
--- what a read took, where the bytes are known
+-- what a read took, if the bytes are known
 takes_next : (s t : State) (text : List ℕ) (rest : Option (List ℕ)) (found : Bool) (fields : List (List ℕ))
     → ReadsNext default_config s (Some text) rest found fields t
     → Takes found (rows_from s text) fields (if found then option_map (rows_from t) rest else Some [])

@@ -41,7 +41,7 @@ last_takes text (Some more) plain filled end = (
   ap (λ rest. Some (rows_from st.StartRecord rest)) end ∙ ap Some none_at_end,
 )
 
--- where nothing is left there is no row
+-- if nothing is left, there is no row
 pub none_takes : (known : Option (List ℕ)) (fields : Fields) (after : Option (List Fields)) → IsAtEnd known
     → TakesRow (rows_left (prepend_known [] known)) false fields after
 none_takes None fields after end = tt
@@ -67,7 +67,7 @@ pub takes_after : (a b : Option (List Fields)) (found : Bool) (fields : Fields) 
 takes_after None b found fields after keeps takes = tt
 takes_after (Some rows) b found fields after keeps takes = let P : Option (List Fields) → Type 0 = λ known. TakesRow known found fields after in subst P keeps takes
 
--- the text after a byte order mark, where enough is known of it or it is whole
+-- the text after a byte order mark, if enough of it is known or it is whole
 pub mark_taken : (text : List ℕ) (known : Option (List ℕ)) → IsSettled text
     → Keeps (option_map strip_bom (prepend_known text known)) (prepend_known (drop (mark_length text) text) known)
 mark_taken text None settled = tt
@@ -79,7 +79,7 @@ mark_taken_of_whole text None end = tt
 mark_taken_of_whole text (Some more) end =
     ap (λ rest. drop (mark_length text) text ++ rest) end ∙ sym (ap (λ rest. strip_bom (text ++ rest)) end ∙ mark_of_whole text)
 
--- bytes of which a mark is looked for stay so where more are read
+-- bytes in which a mark is looked for stay so if more are read
 pub strip_stays : (a b c : Option (List ℕ)) → Keeps a b → Keeps (option_map strip_bom b) c → Keeps (option_map strip_bom a) c
 strip_stays None b c first second = tt
 strip_stays (Some xs) None c first second = absurd first
@@ -133,7 +133,7 @@ first_skips bytes at n taken known line none =
     let P : ℕ → Type 0 = λ k. IsLine (drop at bytes) k taken in
     ap (λ rest. rows_left (prepend_known rest known)) (sym (drop-drop taken at bytes)) ∙ line_skips (drop at bytes) known taken (subst P none line)
 
--- the last line, where it is empty and where it is not
+-- the last line, both if it is empty and if it is not
 pub nothing_takes : (text : List ℕ) (known : Option (List ℕ)) (fields : Fields) (after : Option (List Fields)) → (length text == 0) ≡ true → IsAtEnd known
     → TakesRow (rows_left (prepend_known text known)) false fields after
 nothing_takes [] known fields after none end = none_takes known fields after end

@@ -4,11 +4,11 @@ use Rattle.csv_rows.specs.Line.{IsPlain}
 use Rattle.csv_rows.specs.declared.front.Front.{Front}
 use Rattle.csv_rows.specs.declared.front.Front.TheVariants as front
 
--- a line ends here: with a line feed, or with a carriage return and a line feed; what comes after it is `rest`
+-- a line ends here: with a line feed, or with a carriage return and a line feed; `rest` comes after it
 abbrev pub EndsLine : List ℕ → List ℕ → Type 0
 EndsLine text rest = (text ≡ 10 ∷ rest) ⊎ (text ≡ 13 ∷ 10 ∷ rest)
 
--- the front of a text is a plain line of this length, which takes up so many bytes with its end
+-- the front of a text is a plain line of this length, which takes up this many bytes including its end
 pub record IsLine (text : List ℕ) (length_of taken : ℕ) : Type 0 where
   pub plain : All IsPlain (take length_of text)
   pub ends : EndsLine (drop length_of text) (drop taken text)
@@ -19,11 +19,11 @@ pub record IsLine (text : List ℕ) (length_of taken : ℕ) : Type 0 where
 abbrev pub HasSpecial : List ℕ → Type 0
 HasSpecial text = (place : ℕ) × (place < length text) × ¬ IsPlain (slice_index text place)
 
--- enough of a text is known to see whether a byte order mark comes first
+-- enough of a text is known to see whether it begins with a byte order mark
 abbrev pub IsSettled : List ℕ → Type 0
 IsSettled text = HasSpecial text ⊎ (3 ≤ length text)
 
--- what the front of a text is, where no more than this text is known
+-- what the front of a text is, if only this text is known
 abbrev pub IsFront : List ℕ → Front → Type 0
 IsFront text (front.Line line) = IsLine text line.length line.taken
 IsFront text front.Open = All IsPlain text

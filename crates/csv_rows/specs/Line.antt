@@ -1,4 +1,4 @@
--- Plain lines, which a split at the commas reads.
+-- Plain lines, which are split at their commas.
 use Rattle.std.specs.Prelude.{◌≡◌, ℕ, List, [], ◌∷◌, ◌++◌, Bool, false, ◌==◌, ◌||◌, if◌then◌else◌}
 
 -- whether a byte is a quote, a carriage return or a line feed
@@ -9,7 +9,7 @@ is_special byte = byte == 34 || byte == 13 || byte == 10
 abbrev pub IsPlain : ℕ → Type 0
 IsPlain byte = is_special byte ≡ false
 
--- the fields of a plain line, of which the first begins with these bytes
+-- the fields of a plain line, the first of which begins with these bytes
 unfoldable pub split_after : List ℕ → List ℕ → List (List ℕ)
 split_after field [] = field ∷ []
 split_after field (byte ∷ line) = if byte == 44 then field ∷ split_after [] line else split_after (field ++ (byte ∷ [])) line

@@ -13,15 +13,15 @@ Fields = List (List ℕ)
 abbrev pub rows_of : List ℕ → List Fields
 rows_of text = records default_config (strip_bom text)
 
--- what callers see of a stream: whether it has stopped, for a failed read or because memory was refused, whether its end was
--- reported, whether the source of the text has failed, and the rows that are left where the bytes are known
+-- what callers see of a stream: whether it has stopped, for a failed read or because memory was refused, whether its end was reported,
+-- whether the source of the text has failed, and the rows that are left, if the bytes are known
 pub record Stream : Type 0 where
   pub stopped : Bool
   pub ended : Bool
   pub failed : Bool
   pub left : Option (List Fields)
 
--- one read: its row is the first that is left, or none is left
+-- one read: it gives the first row that is left, or no row is left
 abbrev pub Takes : Bool → List Fields → Fields → Option (List Fields) → Type 0
 Takes true rows fields left = (rest : List Fields) × (rows ≡ fields ∷ rest) × (left ≡ Some rest)
 Takes false rows fields left = (rows ≡ []) × (left ≡ Some [])
@@ -38,6 +38,6 @@ pub record IsSet {R : Type 0} (r : Reader R) : Type 0 where
 abbrev pub rows_from : State → List ℕ → List Fields
 rows_from state text = records_from default_config (length text + 1) state text
 
--- the rows that a reader has left, where the bytes are known
+-- the rows that a reader has left, if the bytes are known
 abbrev pub left_of : {R : Type 0} → (R → Option (List ℕ)) → Reader R → Option (List Fields)
 left_of known r = option_map (rows_from (reader_state r)) (source_of known r)

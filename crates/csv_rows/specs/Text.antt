@@ -1,4 +1,4 @@
--- The text that is left: plain lines that are read here, or what `csv` reads.
+-- The text that is left: plain lines that are split here, or what `csv` reads.
 use Rattle.std.specs.Prelude.{◌≡◌, ⊤, ℕ, List, [], ◌∷◌, Bool, true, false, Option, Some, None, Result, Ok, Err, IfSome, drop, if◌then◌else◌, option_map}
 use Rattle.std.specs.Global.{Vec}
 use Rattle.std.specs.Io.Chain.{chain_remaining, chain_second}
@@ -21,7 +21,7 @@ use Rattle.csv_rows.specs.declared.stream.StreamFault.TheVariants.{Read, Memory}
 use Rattle.csv_rows.specs.declared.text.Text.{Text}
 use Rattle.csv_rows.specs.declared.text.Text.TheVariants as text
 
--- the bytes that were not taken, where they are known
+-- the bytes that were not taken, if they are known
 abbrev pub unread_of : {R : Type 0} → (R → Option (List ℕ)) → Ahead R → Option (List ℕ)
 unread_of known ahead = prepend_known (drop ahead.at ahead.bytes.items) (known ahead.source)
 
@@ -29,7 +29,7 @@ unread_of known ahead = prepend_known (drop ahead.at ahead.bytes.items) (known a
 abbrev pub text_of : {R : Type 0} → (R → Option (List ℕ)) → Ahead R → Option (List ℕ)
 text_of known ahead = if ahead.is_begun then unread_of known ahead else option_map strip_bom (unread_of known ahead)
 
--- how many bytes the byte order mark takes that comes first in these
+-- how many bytes the byte order mark takes at the beginning of these
 abbrev pub mark_length : List ℕ → ℕ
 mark_length [] = 0
 mark_length (a ∷ []) = 0
@@ -40,7 +40,7 @@ mark_length (a ∷ b ∷ c ∷ rest) = if is_bom a b c then 3 else 0
 abbrev pub rows_left : Option (List ℕ) → Option (List Fields)
 rows_left known = option_map (rows_from st.StartRecord) known
 
--- where what was read ahead is plain and has no end of a line, nothing more of the text is left
+-- if what was read ahead is plain and has no end of a line, nothing more of the text is left
 abbrev pub IsWhole : Option (List ℕ) → Front → Type 0
 IsWhole rest (front.Line line) = ⊤
 IsWhole rest front.Open = IsAtEnd rest
@@ -51,8 +51,8 @@ IsWhole rest front.Other = ⊤
 abbrev pub IsFrontOf : {R : Type 0} → (R → Option (List ℕ)) → Ahead R → Front → Type 0
 IsFrontOf known ahead front = IsFront (drop ahead.at ahead.bytes.items) front × IsWhole (known ahead.source) front
 
--- whether a read of the source has failed, before and after a read of the text: Read says that one has, and any other answer leaves that
--- as it was
+-- whether a read of the source has failed, before and after a read of the text: the answer Read means that one has, and any other answer
+-- leaves this as it was
 abbrev pub ReportsFailure : {A : Type 0} → Bool → Bool → Result A StreamFault → Type 0
 ReportsFailure before after (Ok answer) = after ≡ before
 ReportsFailure before after (Err Read) = after ≡ true
@@ -62,7 +62,7 @@ ReportsFailure before after (Err Memory) = after ≡ before
 abbrev pub TakesRow : Option (List Fields) → Bool → Fields → Option (List Fields) → Type 0
 TakesRow before found fields after = IfSome before (λ rows. Takes found rows fields (if found then after else Some []))
 
--- rows stay as they were, where they are known
+-- rows stay as they were, if they are known
 abbrev pub KeepsRows : Option (List Fields) → Option (List Fields) → Type 0
 KeepsRows before after = IfSome before (λ rows. after ≡ Some rows)
 
@@ -72,15 +72,15 @@ TakesLine before taken.Row fields after = TakesRow before true fields after
 TakesLine before taken.End fields after = TakesRow before false fields after
 TakesLine before taken.Other fields after = KeepsRows before after
 
--- what is left when `csv` takes a text over: a line feed, the bytes that were read ahead, and the source
+-- what is left when `csv` takes over a text: a line feed, the bytes that were read ahead, and the source
 abbrev pub RestOf : Type 0 → Type 0
 RestOf R = Chain (Chain (Cursor (List ℕ)) (Cursor (Vec ℕ))) (SourceReader R)
 
--- its bytes, where they are known
+-- the bytes of that rest, if they are known
 abbrev pub rest_of : {R : Type 0} → (R → Option (List ℕ)) → RestOf R → Option (List ℕ)
 rest_of known rest = chain_remaining (chain_remaining (cursor_remaining (λ gap. Some gap)) (cursor_remaining (λ bytes. Some bytes.items))) (λ reader. known reader.source) rest
 
--- the rows that are left, where the bytes are known
+-- the rows that are left, if the bytes are known
 abbrev pub left_in : {R : Type 0} → (R → Option (List ℕ)) → Text R → Option (List Fields)
 left_in known (text.Lines ahead) = rows_left (text_of known ahead)
 left_in known (text.Records reader) = left_of (rest_of known) reader
@@ -104,7 +104,7 @@ IsHere (text.Lines ahead) = ⊤
 IsHere (text.Records reader) = ⊤
 IsHere text.Moved = ⊥
 
--- a text of lines that was begun
+-- a text of lines that has been begun
 abbrev pub IsBegun : {R : Type 0} → Text R → Type 0
 IsBegun (text.Lines ahead) = ahead.is_begun ≡ true
 IsBegun (text.Records reader) = ⊥

@@ -1,4 +1,4 @@
-// A text of which bytes are read ahead, and the plain lines at its front.
+// A text some bytes of which are read ahead, and the plain lines at its front.
 
 ghost use Rattle.std.specs.Prelude.{◌≡◌, ◌<◌, ◌≤◌, IfOk, OnOk, false, true, drop, length};
 ghost use Rattle.std.specs.Io.KnownBytes.{IsAtEnd, Keeps};
@@ -13,10 +13,10 @@ use crate::text_source::TextSource;
 // How many bytes are read at once.
 const PIECE: usize = 8192;
 
-// A line that has so many bytes is left to `csv`.
+// A line with this many bytes is left to `csv`.
 const LONGEST: usize = 65536;
 
-/// A text of which some bytes are read ahead.
+/// A text, some bytes of which have been read ahead.
 #[derive(Drop)]
 pub struct Ahead<R> {
     pub source: R,
@@ -53,7 +53,7 @@ impl<R: TextSource> Ahead<R> {
         &self.bytes[self.at.min(self.bytes.len())..]
     }
 
-    // Forgets the bytes that were taken.
+    // Forgets the bytes that have been taken.
     fn forget_taken(&mut self)
         ensures at { self.new.at ≡ 0 }
         ensures bytes { self.new.bytes.items ≡ drop self.old.at self.old.bytes.items }
@@ -68,7 +68,7 @@ impl<R: TextSource> Ahead<R> {
         self.at = 0;
     }
 
-    // Reads on, and answers whether that gave any bytes: none only at the end of the text.
+    // Reads on, and answers whether there were more bytes: there are none only at the end of the text.
     fn fill(&mut self) -> Result<bool, StreamFault>
         ensures keeps { OnOk result (Keeps (unread_of R.remaining self.old) (unread_of R.remaining self.new)) }
         ensures same { IfOk result (λ more. more ≡ false → drop self.new.at self.new.bytes.items ≡ drop self.old.at self.old.bytes.items) }
@@ -87,7 +87,7 @@ impl<R: TextSource> Ahead<R> {
         }
     }
 
-    // What the front of the text is, for which it is read on as far as is needed.
+    // What the front of the text is. The text is read on as far as this needs.
     #[tactic(auto, using(crate::proofs::Bytes::keeps_same, crate::proofs::Bytes::keeps_through))]
     fn front(&mut self) -> Result<Front, StreamFault>
         ensures keeps { OnOk result (Keeps (unread_of R.remaining self.old) (unread_of R.remaining self.new)) }
@@ -110,7 +110,7 @@ impl<R: TextSource> Ahead<R> {
         Err(StreamFault::Memory)
     }
 
-    /// Takes the next row into `fields`, where it is a plain line.
+    /// Takes the next row into `fields`, if it is a plain line.
     pub fn take_line(&mut self, fields: &mut RowFields) -> Result<Taken, StreamFault>
         ensures takes { IfOk result (λ taken. TakesLine (rows_left (text_of R.remaining self.old)) taken fields.new (rows_left (text_of R.remaining self.new))) }
         ensures begun { OnOk result (self.new.is_begun ≡ true) }
@@ -120,7 +120,7 @@ impl<R: TextSource> Ahead<R> {
         self.take_next(fields)
     }
 
-    // Takes a byte order mark off the front of a text that was not begun.
+    // Takes a byte order mark off the front of a text that has not been begun.
     #[tactic(auto, using(crate::proofs::Texts::strip_stays))]
     fn begin(&mut self) -> Result<(), StreamFault>
         ensures keeps { OnOk result (Keeps (text_of R.remaining self.old) (unread_of R.remaining self.new)) }
@@ -136,7 +136,7 @@ impl<R: TextSource> Ahead<R> {
         Ok(())
     }
 
-    // The same of a text that was begun.
+    // The same for a text that has been begun.
     #[tactic(auto, using(crate::proofs::Texts::keeps_rows_same, crate::proofs::Texts::keeps_rows_through, crate::proofs::Texts::rows_stay, crate::proofs::Texts::takes_after))]
     fn take_next(&mut self, fields: &mut RowFields) -> Result<Taken, StreamFault>
         ensures takes { IfOk result (λ taken. TakesLine (rows_left (unread_of R.remaining self.old)) taken fields.new (rows_left (unread_of R.remaining self.new))) }
@@ -196,7 +196,7 @@ impl<R: TextSource> Ahead<R> {
     }
 }
 
-// How many bytes the byte order mark takes that comes first in a text.
+// How many bytes the byte order mark takes at the beginning of a text.
 fn mark_length(text: &[u8]) -> usize
     ensures length { result ≡ mark_length_of text.now }
     ensures bound { result ≤ length text.now }

@@ -3,9 +3,9 @@
 ghost use Rattle.std.specs.Prelude.{◌≡◌, ◌≤◌, IfSome};
 ghost use Rattle.csv_rows.specs.Decimal.{decimal, digits_from, signed_decimal, negated as negated_of};
 
-/// The number that a text writes in canonical decimal, where it is at most `max`.
+/// The number that a text writes in canonical decimal, if it is at most `max`.
 ///
-/// Canonical is `0`, or digits of which the first is 1 to 9. Takes no memory.
+/// Canonical decimal is `0`, or digits the first of which is 1 to 9. Takes no memory.
 #[tactic(auto, unfolding(crate::specs::Decimal::digits_from, crate::specs::Decimal::decimal))]
 pub fn read_decimal(text: &[u8], max: u64) -> Option<u64>
     ensures value { result ≡ decimal max text.now }
@@ -18,7 +18,7 @@ pub fn read_decimal(text: &[u8], max: u64) -> Option<u64>
     }
 }
 
-// The number at most `max` that these digits write.
+// The number that these digits write, if it is at most `max`.
 #[tactic(auto, using(std::proofs::lemmas::Grind::common_steps), unfolding(crate::specs::Decimal::digits_from))]
 fn read_digits(text: &[u8], max: u64) -> Option<u64>
     ensures value { result ≡ digits_from max 0 text.now }
@@ -38,9 +38,9 @@ fn read_digits(text: &[u8], max: u64) -> Option<u64>
     Some(value)
 }
 
-/// The number that a text writes in canonical decimal, where it fits 64 bits with a sign.
+/// The number that a text writes in canonical decimal, if it is a signed number of 64 bits.
 ///
-/// A negative number has `-` before the canonical decimal of a number that is not 0. Takes no memory.
+/// A negative number is `-` and the canonical decimal of a number that is not 0. Takes no memory.
 #[tactic(auto, unfolding(crate::specs::Decimal::signed_decimal))]
 pub fn read_signed(text: &[u8]) -> Option<i64>
     ensures { result ≡ signed_decimal text.now }
@@ -52,7 +52,7 @@ pub fn read_signed(text: &[u8]) -> Option<i64>
     }
 }
 
-// The number below zero of this size, where the size is not 0.
+// The number below zero of this size, if the size is not 0.
 fn negated(size: u64) -> Option<i64>
     requires { size ≤ 0x8000000000000000 }
     ensures { result ≡ negated_of size }

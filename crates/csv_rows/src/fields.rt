@@ -9,13 +9,13 @@ use csv::ByteRecord;
 use std::alloc::{AllocError, Global};
 use std::marker::Model;
 
-/// The fields of a row. Each row that is read takes the place of the one before, and mostly needs no further memory.
+/// The fields of a row. Each row that is read replaces the one before it, and mostly needs no further memory.
 #[derive(Drop)]
 pub struct RowFields {
-    // A plain line, and where each of its fields ends.
+    // A plain line, and the places where its fields end.
     line: Vec<u8>,
     ends: Vec<usize>,
-    // Any other row, as `csv` read it.
+    // Any other row, as `csv` has read it.
     pub(crate) other: ByteRecord,
     pub(crate) is_other: bool,
 }
@@ -86,7 +86,7 @@ impl RowFields {
     }
 }
 
-// Where the field at this place begins: one byte after the end of the field before.
+// Where the field at this place begins: one byte after the end of the field before it.
 fn start_of(line: &[u8], ends: &Vec<usize>, place: usize) -> usize
     requires place { place < length ends.now.items }
     requires ends { AreEnds 0 ends.now.items (length line.now) }

@@ -1,10 +1,10 @@
-// What the front of a text is: a plain line, which has no quote and no carriage return, or something for `csv`.
+// What the front of a text is: a plain line, which has no quote and no carriage return, or something that is left to `csv`.
 
 ghost use Rattle.csv_rows.specs.Front.{IsFront};
 
 use memchr::memchr3;
 
-/// A plain line that ends: how many bytes it has, and how many it takes with its end.
+/// A plain line that ends: how many bytes it has, and how many it takes including its end.
 #[derive(Clone, Copy)]
 pub struct Line {
     pub length: usize,
@@ -20,7 +20,7 @@ pub enum Front {
     Open,
     /// The same, and then a carriage return.
     Return,
-    /// A line with a quote or with a carriage return that ends no line, or a very long one.
+    /// A line with a quote or with a carriage return that ends no line, or a very long line.
     Other,
 }
 

@@ -1,4 +1,4 @@
-// The reader that `csv` is given.
+// The reader that is given to `csv`.
 
 use crate::text_source::TextSource;
 use std::io;

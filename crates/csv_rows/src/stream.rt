@@ -10,22 +10,22 @@ use crate::text_source::TextSource;
 use std::alloc::Global;
 use std::marker::Model;
 
-/// Why no row came, for reasons of which the text says nothing.
+/// Why no row was given, for reasons outside the text.
 #[derive(Clone, Copy, Debug, PartialEq, Eq)]
 pub enum StreamFault {
     /// The source of the text has failed.
     Read,
-    /// A growth of memory was refused.
+    /// Memory was refused.
     Memory,
 }
 
-/// The rows of a text, one for each call of `read`: fields between commas, in double quotes or not, any number of
-/// fields a row, no header, nothing trimmed.
+/// The rows of a text, one for each call of `read`. Fields are separated by commas and may be in double quotes. A row may have any number
+/// of fields, there is no header, and nothing is trimmed.
 #[derive(Drop)]
 pub struct CsvRows<R: TextSource> {
     alloc: Global,
     text: Text<R>,
-    // Whether a row was asked for: a source that has failed before stops these rows at the first call, which reports it.
+    // Whether a row has been requested. A source that failed before that stops these rows at the first call, which reports it.
     begun: bool,
     ended: bool,
     // Whether memory was refused.
@@ -80,16 +80,16 @@ impl<R: TextSource> CsvRows<R> {
         source_in(&self.text)
     }
 
-    /// How many bytes of the text the rows so far have taken: the last one ends there, and the next one begins after the line ends
-    /// that follow. No clause says so, since `csv` says nothing of the count that it keeps; tests show it.
+    /// How many bytes of the text the rows so far have taken: the last row ends there, and the next one begins after the line ends that
+    /// follow. No clause says so, since `csv` promises nothing about the count that it keeps; tests show it.
     pub fn place(&self) -> u64 {
         place_in(&self.text)
     }
 
-    /// Puts the next row into `fields`, and answers whether there was one. Once the end was reported, it is reported again.
+    /// Puts the next row into `fields`, and answers whether there was one. Once the end has been reported, it is reported again.
     ///
-    /// Read where the source has failed, in this call or before the first, and else Memory where a growth of memory was refused;
-    /// either stops these rows for good.
+    /// Read if the source failed, in this call or before the first one; else Memory if memory was refused. Either stops these rows for
+    /// good.
     pub fn read(&mut self, fields: &mut RowFields) -> Result<bool, StreamFault>
         requires going { self.old.stopped ≡ false }
         ensures stops { self.new.stopped ≡ is_err result }

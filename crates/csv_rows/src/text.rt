@@ -1,4 +1,4 @@
-// The text that is left, and who reads it: plain lines here, and all from the first other line on by `csv`.
+// The text that is left, and what reads it: this crate reads plain lines, and `csv` reads everything from the first other line on.
 
 ghost use Rattle.std.specs.Prelude.{◌≡◌, ◌||◌, IfOk, OnOk, Err, false, is_err};
 ghost use Rattle.std.specs.Io.Chain.{chain_second};
@@ -16,18 +16,18 @@ use std::alloc::Global;
 use std::io::{Chain, Cursor, Read};
 use std::mem;
 
-/// What is left of a text when `csv` takes it over: a line feed, so that no byte order mark is looked for once more, the bytes
-/// that were read ahead, and the source.
+/// What is left of a text when `csv` takes it over: a line feed, so that `csv` looks for no second byte order mark; the bytes that were
+/// read ahead; and the source.
 pub type Rest<R> = Chain<Chain<Cursor<[u8; 1]>, Cursor<Vec<u8>>>, SourceReader<R>>;
 
 /// The text that is left.
 #[derive(Drop)]
 pub enum Text<R> {
-    /// All lines before were plain.
+    /// All lines so far were plain.
     Lines(Ahead<R>),
     /// `csv` reads the rest.
     Records(Reader<Rest<R>>),
-    /// It is on its way from the one to the other.
+    /// It is being moved from the one to the other.
     Moved,
 }
 
@@ -153,7 +153,8 @@ pub fn source_in<R: TextSource>(text: &Text<R>) -> &R
     }
 }
 
-/// How many bytes of a text were taken, as far as rows were read. Of what `csv` was given, the first is a line feed of no text.
+/// How many bytes of a text have been taken, as far as rows were read. The first byte that `csv` was given is a line feed that belongs to
+/// no text.
 pub fn place_in<R: TextSource>(text: &Text<R>) -> u64
     requires { IsHere text.now }
 {

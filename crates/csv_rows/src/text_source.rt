@@ -12,7 +12,7 @@ use std::io::{AsBytes, Cursor, Read};
 ///
 /// A text in memory is a source that cannot fail. Any other reader is one once it is `Watched`.
 pub trait TextSource {
-    // The bytes that reads will give from here on, where they are known.
+    // The bytes that reads will give from here on, if they are known.
     ghost remaining: { Self → Option (List ℕ) };
 
     // Whether a read has failed.
@@ -21,7 +21,7 @@ pub trait TextSource {
     // Whether a read of a source of this type can fail.
     ghost can_fail: { Bool };
 
-    /// Reads some bytes to the front of `buf`: none only at the end of the text, or where `buf` has no room.
+    /// Reads some bytes to the front of `buf`: none only at the end of the text, or if `buf` has no room.
     fn read_some(&mut self, buf: &mut [u8]) -> io::Result<usize>
         ensures bound { ReadsAtMost result buf.new }
         ensures bytes { ReadConsumes (remaining self.old) (remaining self.new) result buf.new }

@@ -14,7 +14,7 @@ pub struct Watched<R> {
 }
 
 impl<R: Read> Watched<R> {
-    /// A reader of which no read has failed yet.
+    /// A reader, no read of which has failed yet.
     pub fn new(inner: R) -> Watched<R>
         ensures inner { result.inner ≡ inner }
         ensures failed { result.failed ≡ false }
@@ -37,7 +37,7 @@ impl<R: Read> TextSource for Watched<R> {
 
     ghost fails_where_it_can = { λ watched failed. refl };
 
-    /// Reads from the reader underneath, and remembers an error.
+    /// Reads from the inner reader, and remembers an error.
     fn read_some(&mut self, buf: &mut [u8]) -> io::Result<usize> {
         let outcome = self.inner.read(buf);
         if outcome.is_err() {

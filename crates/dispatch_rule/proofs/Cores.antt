@@ -37,7 +37,7 @@ at_core_first change (suc n) zero (state ∷ states) default below = refl
 at_core_first change (suc n) (suc core) (state ∷ states) default below =
     ap (λ (rest : List CoreState). state ∷ rest) (at_core_first change n core states default (omega arith))
 
--- every core is within the skew exactly where the test passes at each
+-- every core is within the skew exactly if the test passes at each
 pub KeepsSkew_all : (time skew : ℕ) (states : List CoreState)
     → IsTrue (list_all (λ state. nat_le (time - state.time) skew) states) ↔ KeepsSkew time skew states
 KeepsSkew_all time skew [] = (λ _. tt, λ _. refl)

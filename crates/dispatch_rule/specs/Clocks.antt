@@ -5,12 +5,12 @@ use Rattle.apex_machine.specs.declared.state.CoreState.{CoreState}
 use Rattle.apex_machine.specs.State.{cold_core, at_core, time_of}
 use Rattle.apex_machine.specs.Step.{KeepsSkew}
 
--- the cores with their times and occupants, and how far one may run ahead of another
+-- the cores with their times and occupants, and how far one core may be ahead of another
 pub record Clocks : Type 0 where
   pub cores : List CoreState
   pub skew : ℕ
 
--- so many cores, each idle at time 0
+-- this many cores, each idle at time 0
 abbrev pub cold_clocks : ℕ → ℕ → Clocks
 cold_clocks cores skew = record { cores = replicate cores cold_core; skew = skew }
 

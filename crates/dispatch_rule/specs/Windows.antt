@@ -1,4 +1,4 @@
--- Whose window a core is in, and what it is to run there.
+-- The partition whose window a core is in, and the process that the core is to run there.
 use Rattle.std.specs.Prelude.{ℕ, Option, Some, None, Bool, false, nat_eq, if◌then◌else◌}
 use Rattle.apex_types.specs.declared.record.Who.{Who}
 use Rattle.apex_machine.specs.Configuration.{Configuration, window_at}
@@ -6,7 +6,7 @@ use Rattle.apex_machine.specs.State.{Table, time_of}
 use Rattle.apex_machine.specs.Choice.{choice_in}
 use Rattle.dispatch_rule.specs.Clocks.{Clocks}
 
--- a core that no window holds is nobody's
+-- a core outside every window belongs to no partition
 abbrev pub is_owner : ℕ → Option ℕ → Bool
 is_owner partition None = false
 is_owner partition (Some owner) = nat_eq owner partition
@@ -15,7 +15,7 @@ is_owner partition (Some owner) = nat_eq owner partition
 abbrev pub owns_window : Configuration → Clocks → ℕ → ℕ → Bool
 owns_window configuration clocks partition core = is_owner partition (window_at configuration core (time_of clocks.cores core))
 
--- what a partition has a core run: its choice in its windows, and nothing outside them
+-- what a core is to run for a partition: in its windows the partition's choice, and outside them no process
 abbrev pub choice_within : Configuration → Clocks → Table → ℕ → ℕ → Option Who
 choice_within configuration clocks table partition core =
     if owns_window configuration clocks partition core then choice_in partition core table else None

@@ -21,7 +21,7 @@ const COLD: CoreState = CoreState {
     occupant: None,
 };
 
-/// A tick that would lead its core further ahead of another than the skew allows.
+/// A tick that would take its core further ahead of another than the skew allows.
 #[derive(Clone, Copy, Debug, PartialEq, Eq, Error)]
 #[error("the core would run ahead of another by more than the skew")]
 pub struct Skew;
@@ -30,7 +30,7 @@ pub struct Skew;
 #[derive(Debug, Drop)]
 pub struct Clock {
     cores: [CoreState; MOST_CORES],
-    // For each core a guess how many windows have begun, renewed as it ticks: its window is found there without a search.
+    // For each core, a guess of how many windows have begun, renewed at each tick. With it, the core's window is found without a search.
     begun: [usize; MOST_CORES],
     count: usize,
     skew: u64,
@@ -49,7 +49,7 @@ impl Model for Clock {
 }
 
 impl Clock {
-    /// The clock of so many idle cores at time 0, of which none may run further ahead of another than the skew, in ticks.
+    /// The clock of this many idle cores at time 0, none of which may be further ahead of another than the skew, in ticks.
     pub fn new(cores: u8, skew: u64) -> Clock
         requires { cores ≤ MOST_CORES }
         ensures { result ≡ cold_clocks cores skew }
@@ -62,7 +62,7 @@ impl Clock {
         }
     }
 
-    /// The time of a core, in ticks, or 0 where the clock has no such core.
+    /// The time of a core, in ticks, or 0 if the clock has no such core.
     #[tactic(auto, using(crate::proofs::Cores::time_of_there, crate::proofs::Cores::time_of_past))]
     pub fn now(&self, core: CoreId) -> u64
         ensures { result ≡ time_of self.now.cores core }
@@ -73,7 +73,7 @@ impl Clock {
         }
     }
 
-    /// The process to which the last dispatch gave a core, or none where the core is idle or not there.
+    /// The process to which the last dispatch gave a core, or none if the core is idle or does not exist.
     #[tactic(auto, using(crate::proofs::Cores::occupant_of_there, crate::proofs::Cores::occupant_of_past))]
     pub fn on(&self, core: CoreId) -> Option<Who>
         ensures { result ≡ occupant_of self.now.cores core }
@@ -84,7 +84,7 @@ impl Clock {
         }
     }
 
-    /// The partition whose window a core is in now, or none where it is in no window.
+    /// The partition whose window a core is in now, or none if it is in no window.
     pub fn window_now(&self, config: &Config, core: CoreId) -> Option<PartId>
         ensures { result ≡ window_now config.now self.now.cores core }
     {
@@ -95,7 +95,7 @@ impl Clock {
         config.window_near(guess, core, self.now(core))
     }
 
-    /// Whether the core may tick under this skew, in ticks: it is then at most the skew ahead of each core.
+    /// Whether the core may tick under this skew, in ticks: after the tick it is at most the skew ahead of each core.
     pub fn may_tick(&self, core: CoreId, skew: u64) -> bool
         requires { time_of self.now.cores core < PLACE_COUNT }
         ensures { IsTrue result ↔ MayTick core skew self.now.cores }
@@ -106,7 +106,7 @@ impl Clock {
 
     /// Adds one to the time of a core, for callers of the library that let the clock judge the skew.
     ///
-    /// Refused, with nothing changed, where the core would then be more than the clock's skew ahead of another.
+    /// Refused, with nothing changed, if the core would then be more than the clock's skew ahead of another.
     pub fn tick(&mut self, config: &Config, core: CoreId) -> Result<(), Skew>
         requires core { core < length self.old.cores }
         requires time { time_of self.old.cores core < PLACE_COUNT }
@@ -122,9 +122,9 @@ impl Clock {
         Ok(())
     }
 
-    /// Adds one to the time of a core, whatever the times of the others. It serves where the skew is judged before: the module
-    /// alone judges it, and the pieces of the partitions follow. The configuration says where the core's window is to be
-    /// looked for from now on, and changes no time.
+    /// Adds one to the time of a core, whatever the times of the others. For use once the skew has been judged: only the module judges it,
+    /// and the pieces of the partitions follow. The configuration shows where to look for the core's window from now on, and changes no
+    /// time.
     pub fn advance(&mut self, config: &Config, core: CoreId)
         requires core { core < length self.old.cores }
         requires time { time_of self.old.cores core < PLACE_COUNT }

@@ -19,11 +19,11 @@ pub fn owns_window(config: &Config, clock: &Clock, part: PartId, core: CoreId) -
     }
 }
 
-/// The process of this partition that the core is to run now: none where no process is ready there, or where the present
-/// window is not the partition's.
+/// The process of this partition that the core is to run now; none if no process is ready there, or if the present window is not the
+/// partition's.
 ///
-/// It is the rule whole, for callers of the library. The pieces test the window first, since a table is asked only in the
-/// partition's own windows.
+/// This is the whole rule, for callers of the library. The pieces test the window first, since a table is consulted only in the partition's
+/// own windows.
 pub fn choice(
     config: &Config,
     clock: &Clock,
@@ -40,8 +40,7 @@ pub fn choice(
     }
 }
 
-/// Whether the core runs what this partition has it run now: its occupant is the choice. For callers of the library, as
-/// [`choice`].
+/// Whether the core runs what it is to run now for this partition: its occupant is the choice. For callers of the library, like [`choice`].
 pub fn settled(
     config: &Config,
     clock: &Clock,

@@ -9,7 +9,7 @@ use apex_types::limits::MOST_CORES;
 use std::alloc::AllocError;
 use std::marker::Model;
 
-/// The time of each core, in ticks, for who asks neither for occupants nor for windows. A contract sees the list of them.
+/// The time of each core, in ticks, for callers that need neither occupants nor windows. A contract sees the list of them.
 #[derive(Debug, Drop)]
 pub struct Times {
     times: [u64; MOST_CORES],
@@ -28,7 +28,7 @@ impl Model for Times {
 }
 
 impl Times {
-    /// So many cores at time 0.
+    /// This many cores at time 0.
     pub fn new(cores: u8) -> Times
         requires { cores ≤ MOST_CORES }
         ensures { result ≡ replicate cores 0 }
@@ -39,7 +39,7 @@ impl Times {
         }
     }
 
-    /// The time of a core, in ticks, or 0 where there is no such core.
+    /// The time of a core, in ticks, or 0 if there is no such core.
     #[tactic(auto, using(crate::proofs::Timing::time_at_there, crate::proofs::Timing::time_at_past))]
     pub fn now(&self, core: CoreId) -> u64
         ensures { result ≡ time_at self.now core }

@@ -33,10 +33,10 @@ const OUTCOMES: [Out; 9] = [
     Out::Never,
 ];
 
-/// Tells the fields of a view of which a relation speaks.
+/// Reports the fields of a view that a relation mentions.
 pub fn tell_view(words: &mut Words, view: &View, relation: &Relation) {
     words.next_line();
-    words.say("the rule reads");
+    words.say("its view has");
     let mut first = true;
     for (field, name) in FIELDS {
         if speaks_of(relation, field) {
@@ -53,7 +53,7 @@ pub fn tell_view(words: &mut Words, view: &View, relation: &Relation) {
     words.say("views and their numbers: docs/SPECIFICATION.md, part 12");
 }
 
-// The word that a number of a field means, if it means one.
+// The word for a number of a field, if there is one.
 fn word_for(field: Field, number: i64) -> Option<&'static str> {
     match field {
         Field::Kind => {
@@ -81,7 +81,7 @@ fn word_for(field: Field, number: i64) -> Option<&'static str> {
     }
 }
 
-// Whether a relation speaks of a field.
+// Whether a relation mentions a field.
 fn speaks_of(relation: &Relation, field: Field) -> bool {
     match relation {
         Relation::Less(other, _) | Relation::Equal(other, _) | Relation::Greater(other, _) => {

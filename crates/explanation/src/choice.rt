@@ -1,4 +1,4 @@
-// Choices that are not kept.
+// Records that do not agree with the choice.
 
 use crate::module::tell_time;
 use crate::processes::{tell_numbered, tell_ready};
@@ -6,7 +6,7 @@ use crate::refusal::{Refusal, Refusing};
 use apex_types::{Body, CoreId, PartId, Who};
 use wording::{Numbered, Part, Words};
 
-/// Tells the choice of a core and its occupant, where a record is not of the choice.
+/// Reports the choice of a core and its occupant, for a record that does not agree with the choice.
 pub fn tell_choice(
     words: &mut Words,
     refusal: &Refusal<'_>,
@@ -22,7 +22,7 @@ pub fn tell_choice(
     words.rule("part 2, the choice (IsChosen, GoesBefore)");
 }
 
-// Tells that a core is in a window of the partition.
+// Reports that a core is in a window of the partition.
 fn tell_own_window(words: &mut Words, refusal: &Refusal<'_>, part: PartId) {
     words.next_line();
     words.say(format_args!(
@@ -33,7 +33,7 @@ fn tell_own_window(words: &mut Words, refusal: &Refusal<'_>, part: PartId) {
     tell_time(words, refusal.config, refusal.time());
 }
 
-// Tells the choice of a core in a partition's window, and why it is the choice.
+// Reports the choice of a core in a partition's window, and why it is the choice.
 fn tell_chosen(words: &mut Words, refusing: &Refusing<'_>, core: CoreId, choice: &Option<Who>) {
     words.next_line();
     words.say(format_args!("the choice of core {} is ", core.number()));
@@ -41,7 +41,7 @@ fn tell_chosen(words: &mut Words, refusing: &Refusing<'_>, core: CoreId, choice:
         Some(choice) => {
             words.say_part(Part::Expected, Numbered(*choice));
             words.say(
-                ": the highest priority goes first, then the earliest ready position, then the smallest number",
+                ": the highest priority goes first, then the earliest ready position, then the lowest process number",
             );
             tell_ready(words, refusing.state, core, choice);
         }
@@ -55,7 +55,7 @@ fn tell_chosen(words: &mut Words, refusing: &Refusing<'_>, core: CoreId, choice:
     }
 }
 
-// Tells the processes that the record is of, beside the occupant.
+// Reports the processes that the record names, other than the occupant.
 fn tell_named(
     words: &mut Words,
     refusal: &Refusal<'_>,
@@ -72,7 +72,7 @@ fn tell_named(
     }
 }
 
-// Tells the state of the process to which a core is dispatched.
+// Reports the state of the process to which a core is dispatched.
 fn tell_dispatched(words: &mut Words, refusing: &Refusing<'_>, who: &Who) {
     if who.part == refusing.number {
         tell_numbered(words, refusing.state, *who);
@@ -85,7 +85,7 @@ fn tell_dispatched(words: &mut Words, refusing: &Refusing<'_>, who: &Who) {
     ));
 }
 
-// Tells the occupant of a core, and its state where it is the partition's.
+// Reports the occupant of a core, and its state if it is a process of the partition.
 fn tell_occupant(words: &mut Words, refusing: &Refusing<'_>, core: CoreId, occupant: &Option<Who>) {
     words.next_line();
     match occupant {
@@ -98,20 +98,20 @@ fn tell_occupant(words: &mut Words, refusing: &Refusing<'_>, core: CoreId, occup
             tell_own(words, refusing, occupant);
         }
         None => words.say(format_args!(
-            "core {} is idle: no dispatch before this record, or the last one, names a process",
+            "core {} is idle: there was no dispatch before this record, or the last one named no process",
             core.number()
         )),
     }
 }
 
-// Tells the state of a process, where it is the partition's.
+// Reports the state of a process, if it is one of the partition's.
 fn tell_own(words: &mut Words, refusing: &Refusing<'_>, who: &Who) {
     if who.part == refusing.number {
         tell_numbered(words, refusing.state, *who);
     }
 }
 
-// Shows the occupant and the state of the process that calls or returns.
+// Reports the occupant and the state of the process that calls or returns.
 fn tell_actor(
     words: &mut Words,
     refusing: &Refusing<'_>,

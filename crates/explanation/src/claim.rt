@@ -1,4 +1,4 @@
-// What a call claims, beside what the rules give it.
+// What a call claims, compared with what the rules give it.
 
 use crate::claimed::{ClaimField, tell_bytes, tell_outcome, tell_recorded_values, tell_values};
 use crate::conditions::{tell_codes, tell_conditions, tell_no_condition};
@@ -9,13 +9,13 @@ use piece_check::{Misnaming, misnamed_by};
 use wait_set::{Conditions, Given, WaitSet};
 use wording::{Numbered, Part, Words, answer_rule, conditions_rule, out_name, tell_processes};
 
-/// Tells the outcomes of a call on which error conditions hold, where its claim is none of them.
+/// Reports the outcomes of a call on which error conditions hold, if its claim is none of them.
 pub fn tell_refused_outcome(words: &mut Words, refusal: &Refusal<'_>, conditions: &Conditions) {
     let (Some(call), Some(field)) = (refusal.call(), ClaimField::of(refusal.cause)) else {
         return;
     };
     words.next_line();
-    words.say("an error condition holds, so the call answers ");
+    words.say("an error condition holds, so the call returns ");
     words.begin_part(Part::Expected);
     tell_codes(words, conditions);
     words.end_part();
@@ -37,7 +37,7 @@ pub fn tell_refused_outcome(words: &mut Words, refusal: &Refusal<'_>, conditions
     ));
 }
 
-/// Tells what a partition sees of a call through this channel, where its claim is not so.
+/// Reports what a partition sees of a call through this channel, if its claim is different.
 pub fn tell_through(words: &mut Words, refusal: &Refusal<'_>, channel: ChanId) {
     let (Some(call), Some(field)) = (refusal.call(), ClaimField::of(refusal.cause)) else {
         return;
@@ -53,12 +53,12 @@ pub fn tell_through(words: &mut Words, refusal: &Refusal<'_>, channel: ChanId) {
             tell_processes(words, call.claim.woken.as_slice());
             words.rule("part 11, cause Woken");
         }
-        // These are the channel's to judge.
+        // The channel judges these.
         ClaimField::Values | ClaimField::Message => {}
     }
 }
 
-// Tells the channel of a port, and the one that is claimed.
+// Reports the channel of a port, and the one that is claimed.
 fn tell_port(words: &mut Words, channel: ChanId, claimed: Option<ChanId>) {
     words.say("its port belongs to ");
     words.say_part(Part::Expected, format_args!("channel {}", channel.number()));
@@ -72,19 +72,19 @@ fn tell_port(words: &mut Words, channel: ChanId, claimed: Option<ChanId>) {
     words.rule("part 10, Call, outcome (IsThrough); the channel of a port: part 5 (channel_of)");
 }
 
-// Tells that a call through a channel cannot have this outcome.
+// Reports that a call through a channel cannot have this outcome.
 fn tell_impossible(words: &mut Words, out: Out) {
     words.say(format_args!(
         "no error condition holds, so the outcome {} is not possible here",
         out_name(out)
     ));
     if out == Out::Waits {
-        words.say(": the call has no time-out, or one of 0");
+        words.say(": a call waits only if it has a time-out other than 0");
     }
     words.rule("part 11, cause Out (CanHave)");
 }
 
-/// Tells what a call gives its caller, where its claim is not so.
+/// Reports what a call gives its caller, if its claim is different.
 pub fn tell_answer(words: &mut Words, refusal: &Refusal<'_>, given: &Given<'_>) {
     let (Some(call), Some(field)) = (refusal.call(), ClaimField::of(refusal.cause)) else {
         return;
@@ -102,20 +102,20 @@ pub fn tell_answer(words: &mut Words, refusal: &Refusal<'_>, given: &Given<'_>) 
         ClaimField::Values => tell_values(words, given, &call.claim),
         ClaimField::Message => tell_bytes(words, given.bytes, &call.claim),
         ClaimField::Woken => tell_woken(words, refusal, given, call),
-        // A partition reports it before what the call gives is looked at, and a channel demands no other.
+        // A partition reports it before it looks at what the call gives, and a channel demands no other.
         ClaimField::Channel => {}
     }
     words.rule(answer_rule(&call.request));
 }
 
-// Tells that a call goes through no channel.
+// Reports that a call goes through no channel.
 fn tell_no_channel(words: &mut Words) {
     words.next_line();
     words.say("the call goes through no channel, but the record names one");
     words.rule("part 10, Call, outcome (IsAnswered)");
 }
 
-// Tells what a partition judges a call by.
+// Reports by what a partition judges a call.
 fn tell_judged(
     words: &mut Words,
     refusal: &Refusal<'_>,
@@ -132,7 +132,7 @@ fn tell_judged(
     }
 }
 
-/// Tells that a creation gives a new number, and what is claimed.
+/// Reports that a creation gives a new number, and what is claimed.
 pub fn tell_new_number(words: &mut Words, refusal: &Refusal<'_>) {
     let (Some(call), Some(field)) = (refusal.call(), ClaimField::of(refusal.cause)) else {
         return;
@@ -150,7 +150,7 @@ pub fn tell_new_number(words: &mut Words, refusal: &Refusal<'_>) {
     words.rule(answer_rule(&call.request));
 }
 
-// Tells what a creation gives and what is claimed, in the field that is not as expected.
+// Reports what a creation gives and what is claimed, in the field that is not as expected.
 fn tell_creation(words: &mut Words, claim: &Claim, field: ClaimField) {
     match field {
         ClaimField::Outcome => tell_outcome(words, Out::Answer(Code::NoError), claim),
@@ -158,18 +158,18 @@ fn tell_creation(words: &mut Words, claim: &Claim, field: ClaimField) {
             words.say("expected ");
             words.say_part(
                 Part::Expected,
-                "a new number from 1 to 2,147,483,647, which nothing of its kind has in the partition",
+                "a new number from 1 to 2,147,483,647, which nothing of this kind in the partition has",
             );
             tell_recorded_values(words, claim);
         }
         ClaimField::Message => tell_bytes(words, &[], claim),
         ClaimField::Woken => tell_ended(words, None, None, claim.woken.as_slice()),
-        // Reported before what the call gives is looked at.
+        // Reported before the piece looks at what the call gives.
         ClaimField::Channel => {}
     }
 }
 
-// Tells whose waits the call ends, whom the record names, and who of them is named wrongly.
+// Reports whose waits the call ends, which processes the record names, and which of them it names wrongly.
 fn tell_woken(words: &mut Words, refusal: &Refusal<'_>, given: &Given<'_>, call: &Call) {
     let named = call.claim.woken.as_slice();
     tell_ended(words, given.woken, given.woken_all, named);
@@ -186,14 +186,14 @@ fn tell_woken(words: &mut Words, refusal: &Refusal<'_>, given: &Given<'_>, call:
     }
 }
 
-// Tells whose waits the call ends, and whom the record names.
+// Reports whose waits the call ends, and which processes the record names.
 fn tell_ended(words: &mut Words, woken: Option<Who>, woken_all: Option<&WaitSet>, named: &[Who]) {
     words.say("the call ends ");
     words.begin_part(Part::Expected);
     match (woken, woken_all) {
         (Some(who), _) => words.say(format_args!("the wait of {}", Numbered(who))),
         (None, Some(set)) => words.say(format_args!(
-            "the waits of all who wait there, {} in number",
+            "the waits of all that wait there ({})",
             set.len()
         )),
         (None, None) => words.say("no wait"),
@@ -202,14 +202,14 @@ fn tell_ended(words: &mut Words, woken: Option<Who>, woken_all: Option<&WaitSet>
     words.say(", but the record names ");
     words.begin_part(Part::Recorded);
     if named.is_empty() {
-        words.say("nobody");
+        words.say("no process");
     } else {
         tell_processes(words, named);
     }
     words.end_part();
 }
 
-// Tells which processes of the partition are not named, though the call ends their waits.
+// Reports which processes of the partition are not named, though the call ends their waits.
 fn tell_missing(words: &mut Words, refusing: &Refusing<'_>, given: &Given<'_>, call: &Call) {
     let table = refusing.state.processes();
     for index in 0..table.len() {

@@ -1,4 +1,4 @@
-// The fields of a claim, each as it is expected and as it is recorded.
+// The fields of a claim, each as expected and as recorded.
 
 use apex_types::{Cause, Claim, Out};
 use wait_set::{Given, WaitSet};
@@ -35,7 +35,7 @@ impl ClaimField {
     }
 }
 
-/// Tells the values that a call gives, and those that are claimed.
+/// Reports the values that a call gives, and those that are claimed.
 pub fn tell_values(words: &mut Words, given: &Given<'_>, claim: &Claim) {
     words.say("expected ");
     words.begin_part(Part::Expected);
@@ -45,7 +45,7 @@ pub fn tell_values(words: &mut Words, given: &Given<'_>, claim: &Claim) {
     tell_recorded_values(words, claim);
 }
 
-/// Tells the outcome that a call gives, and the one that is claimed.
+/// Reports the outcome that a call gives, and the one that is claimed.
 pub fn tell_outcome(words: &mut Words, out: Out, claim: &Claim) {
     words.say("expected ");
     words.say_part(
@@ -56,7 +56,7 @@ pub fn tell_outcome(words: &mut Words, out: Out, claim: &Claim) {
     words.say_part(Part::Recorded, out_name(claim.out));
 }
 
-/// Tells the message that a call gives, and the one that is claimed.
+/// Reports the message that a call gives, and the one that is claimed.
 pub fn tell_bytes(words: &mut Words, bytes: &[u8], claim: &Claim) {
     words.say("expected ");
     words.say_part(Part::Expected, Bytes(bytes));
@@ -64,7 +64,7 @@ pub fn tell_bytes(words: &mut Words, bytes: &[u8], claim: &Claim) {
     words.say_part(Part::Recorded, Bytes(claim.bytes.as_bytes()));
 }
 
-/// Tells the values that a claim has.
+/// Reports the values that a claim has.
 pub fn tell_recorded_values(words: &mut Words, claim: &Claim) {
     words.say("; recorded ");
     words.begin_part(Part::Recorded);
@@ -78,7 +78,7 @@ fn signed(number: u64) -> i64 {
     i64::try_from(number).unwrap_or(i64::MAX)
 }
 
-// Tells a value that is expected or recorded.
+// Reports a value that is expected or recorded.
 fn tell_value(words: &mut Words, value: Option<i64>) {
     match value {
         Some(number) => words.say(format_args!("the value {number}")),

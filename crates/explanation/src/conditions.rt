@@ -6,13 +6,13 @@ use module_config::{Config, QueuingPort, SamplingPort};
 use wait_set::Conditions;
 use wording::{Words, code_name};
 
-/// Tells that no error condition holds.
+/// Reports that no error condition holds.
 pub fn tell_no_condition(words: &mut Words) {
     words.next_line();
     words.say("no error condition holds");
 }
 
-/// Tells which error conditions hold, each with its code.
+/// Reports which error conditions hold, each with its code.
 pub fn tell_conditions(words: &mut Words, config: &Config, call: &Call, conditions: &Conditions) {
     for condition in conditions.as_slice() {
         words.next_line();
@@ -24,7 +24,7 @@ pub fn tell_conditions(words: &mut Words, config: &Config, call: &Call, conditio
     }
 }
 
-/// Tells the codes of the conditions, each once.
+/// Reports the codes of the conditions, each once.
 pub fn tell_codes(words: &mut Words, conditions: &Conditions) {
     let held = conditions.as_slice();
     for (index, condition) in held.iter().enumerate() {
@@ -43,7 +43,7 @@ pub fn tell_codes(words: &mut Words, conditions: &Conditions) {
     }
 }
 
-// Tells how the port is configured whose name a creation gives.
+// Reports how the port is configured whose name a creation gives.
 fn tell_configured(words: &mut Words, config: &Config, call: &Call) {
     let Request::Create(name, object) = &call.request else {
         return;
@@ -68,7 +68,7 @@ fn tell_configured(words: &mut Words, config: &Config, call: &Call) {
 
 fn tell_sampling_port(words: &mut Words, port: &SamplingPort) {
     words.say(format_args!(
-        "  configured are size {}, direction {} and refresh period {}, which counts at a destination only",
+        "  the configuration has size {}, direction {} and refresh period {}, which counts at a destination only",
         port.size,
         direction_number(port.direction),
         port.refresh
@@ -77,7 +77,7 @@ fn tell_sampling_port(words: &mut Words, port: &SamplingPort) {
 
 fn tell_queuing_port(words: &mut Words, port: &QueuingPort) {
     words.say(format_args!(
-        "  configured are size {}, capacity {}",
+        "  the configuration has size {}, capacity {}",
         port.size, port.capacity
     ));
     words.say(format_args!(
@@ -88,7 +88,7 @@ fn tell_queuing_port(words: &mut Words, port: &QueuingPort) {
 }
 
 fn tell_no_port(words: &mut Words) {
-    words.say("  no channel has an end of this name in the partition");
+    words.say("  no port of this name is configured for the partition");
 }
 
 fn direction_number(direction: Direction) -> u8 {

@@ -1,10 +1,10 @@
-// What a piece demands of a record, by the cause that is reported where it does not hold.
+// What a piece demands of a record, by the cause that is reported if the demand fails.
 
 use apex_types::{Body, Cause};
 use piece_check::Subject;
 use wording::Words;
 
-/// Tells the demand that fails.
+/// Reports the demand that fails.
 pub fn tell_demand(words: &mut Words, subject: Subject, body: &Body, cause: Cause) {
     words.say(": ");
     match cause {
@@ -33,10 +33,10 @@ pub fn tell_demand(words: &mut Words, subject: Subject, body: &Body, cause: Caus
 fn tell_idle(words: &mut Words, body: &Body) {
     match body {
         Body::Call(_) | Body::Ret(_) => words.say(
-            "outside every window there can be no call and no return",
+            "outside every window, no call and no return is allowed",
         ),
-        Body::Disp(_) => words.say("outside every window a dispatch must name no process"),
-        Body::Tick(_) => words.say("outside every window a core must be idle when it ticks"),
+        Body::Disp(_) => words.say("outside every window, a dispatch must name no process"),
+        Body::Tick(_) => words.say("outside every window, a core must be idle when it ticks"),
     }
 }
 

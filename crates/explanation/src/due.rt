@@ -1,4 +1,4 @@
-// Processes whose waits end at a tick, or by a call of another partition, and that a record names wrongly.
+// Processes whose waits end at a tick or by a call of another partition, and that a record names wrongly.
 
 use crate::processes::{tell_numbered, tell_standing};
 use crate::refusal::{Refusal, Refusing};
@@ -7,7 +7,7 @@ use apex_types::{Body, Call, Who, Woken};
 use piece_check::Misnaming;
 use wording::{Numbered, Words};
 
-/// Tells whom a tick or a call of another partition names wrongly.
+/// Reports the processes that a tick or a call of another partition names wrongly.
 pub fn tell_named(words: &mut Words, refusal: &Refusal<'_>) {
     let Some(refusing) = refusal.partition() else {
         return;
@@ -19,7 +19,7 @@ pub fn tell_named(words: &mut Words, refusal: &Refusal<'_>) {
     }
 }
 
-// Tells whose waits fall due at a tick and are not named, and who is named and does not fall due.
+// Reports the processes whose waits fall due at a tick and that are not named, and those that are named and do not fall due.
 fn tell_tick(words: &mut Words, refusal: &Refusal<'_>, refusing: &Refusing<'_>, woken: &Woken) {
     words.next_line();
     words.say(format_args!(
@@ -44,7 +44,7 @@ fn tell_tick(words: &mut Words, refusal: &Refusal<'_>, refusing: &Refusing<'_>, 
     words.rule("part 10, Tick, due (NamesThoseDue); when a wait falls due: part 8 (IsDue)");
 }
 
-// Tells how a tick names a process wrongly.
+// Reports how a tick names a process wrongly.
 fn tell_misnamed(words: &mut Words, who: Who, process: &Process, misnaming: Misnaming) {
     let proc = who.proc;
     words.next_line();
@@ -61,7 +61,7 @@ fn tell_misnamed(words: &mut Words, who: Who, process: &Process, misnaming: Misn
     }
 }
 
-// Tells of those that are named and are no processes of the partition.
+// Reports named processes that the partition does not have.
 fn tell_unknown(words: &mut Words, refusing: &Refusing<'_>, named: &[Who]) {
     for who in named {
         if who.part == refusing.number && refusing.state.processes().proc(who.proc).is_none() {
@@ -71,7 +71,7 @@ fn tell_unknown(words: &mut Words, refusing: &Refusing<'_>, named: &[Who]) {
     }
 }
 
-// Tells whom a call of another partition names that does not wait at its channel.
+// Reports the processes that a call of another partition names and that do not wait at its channel.
 fn tell_foreign(words: &mut Words, refusal: &Refusal<'_>, refusing: &Refusing<'_>, call: &Call) {
     for who in call.claim.woken.as_slice() {
         if who.part == refusing.number && !refusal.piece.may_wake(call, who.proc) {

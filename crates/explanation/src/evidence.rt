@@ -1,4 +1,4 @@
-// Why a piece refuses a record, by the evidence that it shows.
+// Why a piece rejects a record, by the evidence that it shows.
 
 use crate::choice::tell_choice;
 use crate::claim::{tell_answer, tell_new_number, tell_refused_outcome, tell_through};
@@ -12,7 +12,7 @@ use crate::through::{tell_neither_end, tell_other_kind, tell_waits};
 use piece_check::Evidence;
 use wording::Words;
 
-/// Tells what shows that the demand fails.
+/// Reports what shows that the demand fails.
 pub fn tell_evidence(words: &mut Words, refusal: &Refusal<'_>) {
     match refusal
         .piece

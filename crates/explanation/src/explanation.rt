@@ -1,4 +1,4 @@
-// What explains a No, by the witness of a check.
+// What explains a No, from the witness of a check.
 
 use crate::broken::tell_view;
 use crate::demand::tell_demand;
@@ -42,7 +42,7 @@ impl Explanation {
         self.record
     }
 
-    /// Adds the fields of the record's view of which this relation speaks, where the record breaks a rule.
+    /// Adds the fields of the record's view that this relation mentions, if the record breaks a rule.
     pub fn tell_fields(&mut self, relation: &Relation) {
         if let Some(view) = &self.view {
             tell_view(&mut self.words, view, relation);
@@ -54,7 +54,7 @@ impl Explanation {
         &self.words
     }
 
-    /// Takes in the record that this piece refuses for this cause. The piece is as it was before the record.
+    /// Records that this piece rejects this record for this cause. The piece is as it was before the record.
     pub fn tell_refused(
         &mut self,
         config: &Config,
@@ -72,13 +72,13 @@ impl Explanation {
         tell_refusal(&mut self.words, &refusal);
     }
 
-    /// Takes in the record whose view breaks a rule.
+    /// Records that the view of this record breaks a rule.
     pub fn tell_broken(&mut self, ordered: &Ordered, view: &View) {
         self.begin(ordered);
         self.view = Some(*view);
     }
 
-    // Takes in the record that is explained.
+    // Begins the explanation of a record.
     fn begin(&mut self, ordered: &Ordered) {
         self.record = Some(RecordNumber {
             core: ordered.core,
@@ -90,7 +90,7 @@ impl Explanation {
     }
 }
 
-// Tells why a piece refuses a record.
+// Reports why a piece rejects a record.
 fn tell_refusal(words: &mut Words, refusal: &Refusal<'_>) {
     words.next_line();
     tell_subject(words, refusal.piece.subject());
@@ -105,7 +105,7 @@ fn tell_refusal(words: &mut Words, refusal: &Refusal<'_>) {
     tell_evidence(words, refusal);
 }
 
-// Tells which piece refuses a record.
+// Reports which piece rejects a record.
 fn tell_subject(words: &mut Words, subject: Subject) {
     match subject {
         Subject::Module => words.say("the module rejects it"),
@@ -118,7 +118,7 @@ fn tell_subject(words: &mut Words, subject: Subject) {
     }
 }
 
-// Tells the name of who calls or returns, where the piece knows it.
+// Reports the name of the process that calls or returns, if the piece knows it.
 fn tell_actor(words: &mut Words, refusal: &Refusal<'_>) {
     let (Some(refusing), Some(who)) = (refusal.partition(), refusal.actor()) else {
         return;

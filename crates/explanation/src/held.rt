@@ -9,10 +9,10 @@ use ports::Port;
 use wait_set::{Named, WaitSet};
 use wording::{Ascii, Bytes, Count, Numbered, Words, kind_name};
 
-/// How many of those who wait in a set are shown.
+/// How many of the processes that wait in a set are shown.
 const MOST_WAITERS: usize = 8;
 
-/// Tells what one of a kind holds, if it is created.
+/// Reports what an object or port of a kind holds, if it is created.
 pub fn tell_object(words: &mut Words, state: &PartitionState, kind: ObjectKind, number: i64) {
     match kind {
         ObjectKind::Buffer => tell_buffer(words, state, number),
@@ -29,18 +29,18 @@ pub fn tell_object(words: &mut Words, state: &PartitionState, kind: ObjectKind, 
     }
 }
 
-// Tells a port, if it is created; of a sampling port also whether the last read at it gave a valid message.
+// Reports a port, if it is created; for a sampling port also whether the last read at it gave a valid message.
 fn tell_port(words: &mut Words, kind: ObjectKind, number: i64, port: Option<&Port>) {
     let Some(port) = port else {
         return;
     };
     begin(words, kind_name(kind), number, port.name());
-    words.say(format_args!("is of channel {}", port.channel().number()));
+    words.say(format_args!("belongs to channel {}", port.channel().number()));
     if kind == ObjectKind::SamplingPort {
         words.say(if port.status().val == 1 {
-            "; the last read at it gave a valid message"
+            "; its last read gave a valid message"
         } else {
-            "; the last read at it, if there was one, gave no valid message"
+            "; its last read, if any, gave no valid message"
         });
     }
 }
@@ -74,7 +74,7 @@ fn tell_semaphore(words: &mut Words, state: &PartitionState, number: i64) {
     if let Some(semaphore) = state.semaphores().given(number) {
         begin(words, "semaphore", number, semaphore.name());
         let (value, maximum) = (semaphore.value(), semaphore.maximum());
-        words.say(format_args!("has the value {value}, and at most {maximum}"));
+        words.say(format_args!("has the value {value} (maximum {maximum})"));
         tell_waiters(words, semaphore.waiters(), "for it");
     }
 }
@@ -104,7 +104,7 @@ fn tell_mutex(words: &mut Words, state: &PartitionState, number: i64) {
     tell_waiters(words, mutex.waiters(), "for it");
 }
 
-/// Tells what a channel holds.
+/// Reports what a channel holds.
 pub fn tell_channel_held(words: &mut Words, channel: &Channel, now: u64, kind: &ChannelKind) {
     words.next_line();
     words.say(format_args!("channel {} ", channel.number().number()));
@@ -122,22 +122,22 @@ pub fn tell_channel_held(words: &mut Words, channel: &Channel, now: u64, kind: &
                 words.say(format_args!(", and the refresh period is {refresh}"));
             }
         }
-        None => words.say("holds nothing, since nothing was written to it"),
+        None => words.say("holds no message: none was written"),
     }
 }
 
-// Tells what a queue holds, and who waits at it.
+// Reports what a queue holds, and which processes wait at it.
 fn tell_queue(words: &mut Words, queue: &MessageQueue) {
     let (count, capacity) = (queue.len(), queue.capacity());
-    words.say(format_args!("holds {} of {capacity}", Count(count, "message")));
+    words.say(format_args!("holds {} (capacity {capacity})", Count(count, "message")));
     if let Some(message) = queue.oldest() {
-        words.say(format_args!(", the oldest being {}", Bytes(message.as_bytes())));
+        words.say(format_args!(", the oldest of which is {}", Bytes(message.as_bytes())));
     }
     tell_waiters(words, queue.senders(), "to send");
     tell_waiters(words, queue.receivers(), "to receive");
 }
 
-// Tells how many wait in a set, and who they are in the order in which they go on.
+// Reports how many processes wait in a set, and which, the first of the set first.
 fn tell_waiters(words: &mut Words, set: &WaitSet, what: &str) {
     let count = set.len();
     if count == 0 {
@@ -153,7 +153,7 @@ fn tell_waiters(words: &mut Words, set: &WaitSet, what: &str) {
         Discipline::Fifo => " in FIFO order",
         Discipline::Priority => " in PRIORITY order",
     });
-    // Without memory for a copy, their number alone is shown.
+    // Without memory for a copy, only their number is shown.
     let Ok(mut left) = set.clone() else {
         return;
     };

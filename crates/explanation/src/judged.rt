@@ -1,4 +1,4 @@
-// What a call is judged by: the process or the object that it names, or the time.
+// By what a call is judged: the process or the object that it names, or the time.
 
 use crate::held::tell_object;
 use crate::processes::{peer_of, tell_numbered};
@@ -6,7 +6,7 @@ use apex_types::{Call, CallerOperation, ObjectKind, ProcId, ProcessOperation, Re
 use partition_state::PartitionState;
 use wording::Words;
 
-/// Tells what a call is judged by: the process or the object that it names, or the time.
+/// Reports by what a call is judged: the process or the object that it names, or the time.
 pub fn tell_basis(words: &mut Words, state: &PartitionState, now: u64, call: &Call) {
     match &call.request {
         Request::CreateProcess { .. }
@@ -37,7 +37,7 @@ pub fn tell_basis(words: &mut Words, state: &PartitionState, now: u64, call: &Ca
     }
 }
 
-/// Shows what already has the number that a creation claims.
+/// Reports what already has the number that a creation claims.
 pub fn tell_holder(words: &mut Words, state: &PartitionState, call: &Call) {
     let Some(number) = call.claim.val else {
         return;
@@ -64,7 +64,7 @@ pub fn tell_holder(words: &mut Words, state: &PartitionState, call: &Call) {
     }
 }
 
-// Tells the process that a call names, where the answer depends on it.
+// Reports the process that a call names, if the answer depends on it.
 fn tell_target(
     words: &mut Words,
     state: &PartitionState,
@@ -86,7 +86,7 @@ fn tell_target(
     }
 }
 
-// Tells the time, where the answer to its caller depends on it.
+// Reports the time, if the answer to the caller depends on it.
 fn tell_time(
     words: &mut Words,
     state: &PartitionState,

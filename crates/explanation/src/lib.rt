@@ -1,8 +1,19 @@
-//! A No in words, for the person who reads it: the record at its place and why its piece refuses it; of a broken rule, the record and
-//! its view.
+//! A No in words, for the person who reads it: the record at its place and why its piece rejects it; for a broken rule, the record and its
+//! view.
 //!
-//! Promises nothing but that its functions end and take no memory beyond their texts: it decides nothing. What it
-//! says of a refusal is the evidence that the piece gives.
+//! Promises only that its functions end and take no memory except for their texts: it decides nothing. What it says of a refusal is the
+//! evidence that the piece gives.
+//!
+//! `Explanation` receives the record and the piece that rejects it, as the piece was before the record. It writes what the record says, the
+//! evidence of the failed demand, and what the piece holds. It works out no condition and no rule: each variant of `Evidence` has a
+//! function here (`evidence.rt`). At a broken rule it receives the record and its view.
+//!
+//! The files are by subject: the demands by their causes, the module, the choice, pending outcomes, priorities, who is named wrongly,
+//! claims beside what the rules give, error conditions, objects and channels, and uses outside the profile.
+//!
+//! The crate does not depend on `report`, so the two are proved side by side; `apexcheck` passes it what the witness of a check receives
+//! (`Explainer`). The check has its answer before a witness receives it, and no clause speaks of the words. The functions have no
+//! contracts, and are proved only to end and to meet no fault.
 #![tactic(auto)]
 
 mod broken;

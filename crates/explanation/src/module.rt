@@ -1,4 +1,4 @@
-// Windows, times and names that are not kept.
+// Windows, times and names with which a record does not agree.
 
 use crate::refusal::Refusal;
 use apex_types::{Body, Cause, ChanId, PartId, Who};
@@ -8,21 +8,21 @@ use wording::{Occupant, Words};
 /// The place of the rule of the names.
 const NAMES: &str = "part 10, the names of each record (names)";
 
-/// Tells of a partition that is not configured.
+/// Reports a partition that is not configured.
 pub fn tell_unknown_partition(words: &mut Words, number: PartId) {
     words.next_line();
     words.say(format_args!("partition {} is not configured", number.number()));
     words.rule(NAMES);
 }
 
-/// Tells of a channel that is not configured.
+/// Reports a channel that is not configured.
 pub fn tell_unknown_channel(words: &mut Words, number: ChanId) {
     words.next_line();
     words.say(format_args!("channel {} is not configured", number.number()));
     words.rule(NAMES);
 }
 
-/// Tells how far a tick takes its core ahead of another.
+/// Reports how far a tick takes its core ahead of another.
 pub fn tell_left_back(words: &mut Words, refusal: &Refusal<'_>, other: usize) {
     let Some(clock) = refusal.module_clock() else {
         return;
@@ -30,14 +30,14 @@ pub fn tell_left_back(words: &mut Words, refusal: &Refusal<'_>, other: usize) {
     let next = refusal.time().saturating_add(1);
     words.next_line();
     words.say(format_args!(
-        "core {} would reach time {next}; the skew allows {} ticks ahead of another core",
+        "core {} would reach time {next}; the skew allows it to be at most {} ticks ahead of another core",
         refusal.core().number(),
         refusal.config.skew()
     ));
     if let Some(state) = clock.states().get(other) {
         words.next_line();
         words.say(format_args!(
-            "core {other} is at time {}, {} ticks earlier",
+            "core {other} is at time {}, which is {} ticks behind",
             state.time,
             next.saturating_sub(state.time)
         ));
@@ -45,7 +45,7 @@ pub fn tell_left_back(words: &mut Words, refusal: &Refusal<'_>, other: usize) {
     words.rule("part 10, Tick, skew (KeepsSkew)");
 }
 
-/// Tells whose window a core is in.
+/// Reports whose window a core is in.
 pub fn tell_window(
     words: &mut Words,
     refusal: &Refusal<'_>,
@@ -69,17 +69,17 @@ pub fn tell_window(
     }
 }
 
-// Tells who has a core that ticks while no window of it is open.
+// Reports the occupant of a core that ticks while it is in no window.
 fn tell_idle(words: &mut Words, body: &Body, occupant: Option<Who>) {
     if let Body::Tick(_) = body {
         words.next_line();
         words.say(format_args!("its occupant is {}", Occupant(occupant)));
-        words.say("; outside every window a core must be idle when it ticks");
+        words.say("; outside every window, a core must be idle when it ticks");
     }
     words.rule("part 11, cause Idle; the windows: part 1 (window_at)");
 }
 
-/// Tells a time, and where it is in the major frame.
+/// Reports a time, and where it is in the major frame.
 pub fn tell_time(words: &mut Words, config: &Config, time: u64) {
     let frame = config.frame();
     words.say(format_args!("its time is {time}"));

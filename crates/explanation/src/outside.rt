@@ -4,21 +4,21 @@ use crate::refusal::Refusal;
 use apex_types::{CallerOperation, ProcessOperation, Request};
 use wording::Words;
 
-/// Tells that the initialising process stops itself.
+/// Reports that the initialising process stops itself.
 pub fn tell_initialising(words: &mut Words) {
     begin(words);
     words.say("it is the initialising process, which stops itself");
     end(words);
 }
 
-/// Tells that a call stops, suspends or gives a priority to the owner of a mutex.
+/// Reports that a call stops, suspends or gives a priority to the owner of a mutex.
 pub fn tell_mutex_owner(words: &mut Words, refusal: &Refusal<'_>) {
     begin(words);
     tell_target(words, refusal, "owns");
     end(words);
 }
 
-/// Tells that a call suspends or gives a priority to a process that waits for a mutex.
+/// Reports that a call suspends or gives a priority to a process that waits for a mutex.
 pub fn tell_mutex_waiter(words: &mut Words, refusal: &Refusal<'_>) {
     begin(words);
     tell_target(words, refusal, "waits for");
@@ -37,7 +37,7 @@ fn end(words: &mut Words) {
     words.rule("part 18, outside the profile (in_profile)");
 }
 
-// Tells of the process that a call names, or of the caller that stops itself, what it does with a mutex.
+// Reports what the process that a call names, or the caller that stops itself, does with a mutex.
 fn tell_target(words: &mut Words, refusal: &Refusal<'_>, what: &str) {
     let Some(call) = refusal.call() else {
         return;

@@ -6,11 +6,11 @@ use apex_machine::Outcome;
 use apex_types::Cause;
 use wording::{Ascii, Part, Words, code_name, tell_further, tell_message, tell_value};
 
-/// Tells the pending outcome of a process that calls before it returns, or that returns another outcome.
+/// Reports the pending outcome of a process that calls before it returns, or that returns another outcome.
 pub fn tell_pending(words: &mut Words, refusal: &Refusal<'_>, outcome: &Outcome) {
     words.next_line();
     if refusal.call().is_some() {
-        words.say("before it calls again it must return from ");
+        words.say("before it calls again, it must return from ");
         words.begin_part(Part::Expected);
     } else {
         words.say("its pending outcome is ");
@@ -22,7 +22,7 @@ pub fn tell_pending(words: &mut Words, refusal: &Refusal<'_>, outcome: &Outcome)
     tell_rule(words, refusal);
 }
 
-/// Tells that a process has no pending outcome, or is not there.
+/// Reports that a process has no pending outcome, or does not exist.
 pub fn tell_nothing_pending(words: &mut Words, refusal: &Refusal<'_>) {
     words.next_line();
     if refusal.call().is_some() {
@@ -38,7 +38,7 @@ pub fn tell_nothing_pending(words: &mut Words, refusal: &Refusal<'_>) {
     tell_rule(words, refusal);
 }
 
-// Tells an outcome that is due.
+// Reports an outcome that is due.
 fn tell_outcome(words: &mut Words, outcome: &Outcome) {
     words.say(Ascii(outcome.service.name()));
     words.say(format_args!(" with {}", code_name(outcome.code)));
@@ -47,7 +47,7 @@ fn tell_outcome(words: &mut Words, outcome: &Outcome) {
     tell_message(words, outcome.bytes.as_bytes());
 }
 
-// Tells the place of the rule.
+// Reports the place of the rule.
 fn tell_rule(words: &mut Words, refusal: &Refusal<'_>) {
     words.rule(if refusal.call().is_some() {
         "part 10, Call, due"

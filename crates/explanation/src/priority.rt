@@ -1,9 +1,9 @@
-// Priorities that a call shows wrongly.
+// Priorities that a call gives wrongly.
 
 use crate::refusal::{Refusal, Refusing};
 use wording::{Part, Words};
 
-/// Tells the current priority of a caller, and its base priority.
+/// Reports the current priority of a caller, and its base priority.
 pub fn tell_priority(words: &mut Words, refusal: &Refusal<'_>, current: u8, base: u8) {
     let Some(call) = refusal.call() else {
         return;
@@ -19,8 +19,8 @@ pub fn tell_priority(words: &mut Words, refusal: &Refusal<'_>, current: u8, base
     words.say(format_args!("; its base priority is {base}"));
 }
 
-/// Tells the mutexes that a priority may come from: the one that the caller owns, with the priority that it had before, and the one
-/// of the recorded priority.
+/// Reports the mutexes from which a priority may come: the one that the caller owns, with the priority that it had before, and the one of
+/// the recorded priority.
 pub fn tell_mutexes(
     words: &mut Words,
     refusal: &Refusal<'_>,
@@ -44,19 +44,19 @@ pub fn tell_mutexes(
     words.rule("part 10, Call, prio; what sets a priority: part 8");
 }
 
-// Tells the mutex whose acquisition set the priority, and the priority before.
+// Reports the mutex whose acquisition set the priority, and the priority before it.
 fn tell_owned(words: &mut Words, refusing: &Refusing<'_>, number: u32, before: u8) {
     if let Some(mutex) = refusing.state.mutexes().at(number) {
         words.next_line();
         words.say(format_args!(
-            "it owns mutex {number} of priority {}, and had the priority {before} before",
+            "it owns mutex {number} of priority {}, and its priority was {before} before that",
             mutex.priority()
         ));
     }
 }
 
-// Tells the mutex that has the recorded priority and is not the caller's: its release gave the caller its priority back, if the
-// caller owned it. The state does not tell whether it did.
+// Reports the mutex that has the recorded priority and that the caller does not own. If the caller owned it, its release gave the caller
+// its priority back. The state does not show whether it did.
 fn tell_elsewhere(words: &mut Words, refusing: &Refusing<'_>, number: u32) {
     let Some(mutex) = refusing.state.mutexes().at(number) else {
         return;
@@ -70,7 +70,5 @@ fn tell_elsewhere(words: &mut Words, refusing: &Refusing<'_>, number: u32) {
         Some(owner) => words.say(format_args!("process {} owns it", owner.number())),
         None => words.say("is free"),
     }
-    words.say(
-        ": a process that releases it has the priority again that it had before it acquired it",
-    );
+    words.say(": its release restores the priority that its owner had before");
 }

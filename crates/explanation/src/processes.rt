@@ -1,4 +1,4 @@
-// Processes in words: what one waits for, and why it is not ready or not the choice.
+// Processes in words: what a process waits for, and why it is not ready or not the choice.
 
 use apex_machine::{Process, Wait};
 use apex_types::{CoreId, ProcId, Who};
@@ -6,7 +6,7 @@ use partition_state::PartitionState;
 use piece_check::is_ready;
 use wording::{Ascii, Numbered, Set, Words};
 
-/// Tells a process with its name and its state: ready, or why it is not.
+/// Reports a process with its name and its state: ready, or why it is not.
 pub fn tell_process(words: &mut Words, who: Who, process: &Process) {
     let proc = who.proc;
     words.say(Numbered(who));
@@ -16,14 +16,14 @@ pub fn tell_process(words: &mut Words, who: Who, process: &Process) {
     }
     tell_standing(words, proc, process);
     words.say(format_args!("; its core is {}", process.affinity.number()));
-    words.say(format_args!(" and its current priority {}", process.current_priority));
+    words.say(format_args!(" and its current priority is {}", process.current_priority));
 }
 
-/// Tells the state of a process: dormant, suspended, waiting, or ready.
+/// Reports the state of a process: dormant, suspended, waiting, or ready.
 pub fn tell_standing(words: &mut Words, proc: ProcId, process: &Process) {
     if !process.alive {
         words.say(if proc.number() == 0 {
-            " ended when its partition entered the mode NORMAL"
+            " ended when its partition entered NORMAL mode"
         } else {
             " is dormant"
         });
@@ -38,16 +38,16 @@ pub fn tell_standing(words: &mut Words, proc: ProcId, process: &Process) {
     tell_wait(words, process);
 }
 
-// Tells what a process waits for, or that it is ready.
+// Reports what a process waits for, or that it is ready.
 fn tell_wait(words: &mut Words, process: &Process) {
     match process.wait {
         Wait::Nothing => {
             if !process.suspended {
-                words.say(" is ready since ");
+                words.say(" has been ready since ");
                 words.say_place(process.ready_position);
             }
         }
-        Wait::NormalMode => words.say(" waits for the mode NORMAL"),
+        Wait::NormalMode => words.say(" waits for NORMAL mode"),
         Wait::FirstRelease(time) => {
             words.say(format_args!(" waits for its first release at time {time}"));
         }
@@ -66,7 +66,7 @@ fn tell_wait(words: &mut Words, process: &Process) {
     }
 }
 
-// Tells when a wait with a time-out falls due.
+// Reports when a wait with a time-out falls due.
 fn tell_due(words: &mut Words, due: Option<u64>) {
     match due {
         Some(time) => words.say(format_args!(", at most until time {time}")),
@@ -74,7 +74,7 @@ fn tell_due(words: &mut Words, due: Option<u64>) {
     }
 }
 
-/// The process that a caller names by its number, or None where none of its partition has that number.
+/// The process that a caller names by its number, or None if no process of its partition has that number.
 pub fn peer_of(state: &PartitionState, caller: Who, given: i64) -> Option<Who> {
     let proc = state.processes().created_number(given)?;
     Some(Who {
@@ -83,7 +83,7 @@ pub fn peer_of(state: &PartitionState, caller: Who, given: i64) -> Option<Who> {
     })
 }
 
-/// Tells a process of a partition by its number, on a line of its own.
+/// Reports a process of a partition by its number, on a line of its own.
 pub fn tell_numbered(words: &mut Words, state: &PartitionState, who: Who) {
     words.next_line();
     match state.processes().proc(who.proc) {
@@ -92,7 +92,7 @@ pub fn tell_numbered(words: &mut Words, state: &PartitionState, who: Who) {
     }
 }
 
-/// Tells the processes that are ready on a core, and by what this one of them is the choice.
+/// Reports the processes that are ready on a core, and why this one of them is the choice.
 pub fn tell_ready(words: &mut Words, state: &PartitionState, core: CoreId, choice: &Who) {
     let table = state.processes();
     for index in 0..table.len().saturating_add(1) {
@@ -105,10 +105,10 @@ pub fn tell_ready(words: &mut Words, state: &PartitionState, core: CoreId, choic
     }
 }
 
-// Tells by what a ready process is chosen or not.
+// Reports why a ready process is chosen or not.
 fn tell_candidate(words: &mut Words, proc: ProcId, process: &Process, is_choice: bool) {
     words.next_line();
-    words.say(format_args!("  process {} is ready", proc.number()));
+    words.say(format_args!("  process {} has been ready", proc.number()));
     words.say(format_args!(" with priority {}", process.current_priority));
     words.say(" since ");
     words.say_place(process.ready_position);

@@ -1,4 +1,4 @@
-// A record that a piece refuses, and what of the piece is asked for it.
+// A record that a piece rejects, and what is read from the piece to explain it.
 
 use apex_types::{Body, Call, Cause, CoreId, Ordered, PartId, Who};
 use dispatch_rule::Clock;
@@ -6,7 +6,7 @@ use module_config::Config;
 use partition_state::PartitionState;
 use piece_check::{Piece, Seen};
 
-/// A record that a piece refuses for a cause. The piece is as it was before the record.
+/// A record that a piece rejects for a cause. The piece is as it was before the record.
 #[derive(Clone, Copy)]
 pub struct Refusal<'a> {
     pub config: &'a Config,
@@ -15,7 +15,7 @@ pub struct Refusal<'a> {
     pub cause: Cause,
 }
 
-/// A partition that refuses a record: its number and its state.
+/// A partition that rejects a record: its number and its state.
 #[derive(Clone, Copy)]
 pub struct Refusing<'a> {
     pub number: PartId,
@@ -37,7 +37,7 @@ impl<'a> Refusal<'a> {
         }
     }
 
-    /// The clock of the module; None where another piece refuses the record.
+    /// The clock of the module; None if another piece rejects the record.
     pub fn module_clock(&self) -> Option<&'a Clock> {
         match self.piece.seen() {
             Seen::Module { clock } => Some(clock),
@@ -45,7 +45,7 @@ impl<'a> Refusal<'a> {
         }
     }
 
-    /// The partition that refuses the record; None where it is another piece.
+    /// The partition that rejects the record; None if another piece does.
     pub fn partition(&self) -> Option<Refusing<'a>> {
         match self.piece.seen() {
             Seen::Partition { number, state, .. } => Some(Refusing { number, state }),
@@ -53,7 +53,7 @@ impl<'a> Refusal<'a> {
         }
     }
 
-    /// The call that is refused; None where it is another record.
+    /// The call that is rejected; None if the record is not a call.
     pub fn call(&self) -> Option<&'a Call> {
         match &self.ordered.rec.body {
             Body::Call(call) => Some(call),
@@ -61,7 +61,7 @@ impl<'a> Refusal<'a> {
         }
     }
 
-    /// Who calls or returns; None where it is another record.
+    /// The process that calls or returns; None for any other record.
     pub fn actor(&self) -> Option<Who> {
         match &self.ordered.rec.body {
             Body::Call(call) => Some(call.who),

@@ -1,11 +1,11 @@
-// What a channel refuses.
+// What a channel rejects.
 
 use crate::held::tell_channel_held;
 use crate::refusal::Refusal;
 use piece_check::Seen;
 use wording::Words;
 
-/// Tells what the channel holds, where a channel refuses a call.
+/// Reports what the channel holds, if a channel rejects a call.
 pub fn tell_channel(words: &mut Words, refusal: &Refusal<'_>) {
     let Seen::Channel { channel, .. } = refusal.piece.seen() else {
         return;
@@ -15,19 +15,19 @@ pub fn tell_channel(words: &mut Words, refusal: &Refusal<'_>) {
     }
 }
 
-/// Tells that the caller waits at the channel.
+/// Reports that the caller waits at the channel.
 pub fn tell_waits(words: &mut Words) {
     words.next_line();
     words.say("the caller waits at an end of the channel already");
-    words.rule("part 11, cause Choice of a channel (stands_in)");
+    words.rule("part 11, cause Choice of a channel (has_entry_in)");
 }
 
-/// Tells that a service is not of the channel's kind.
+/// Reports that a service is not of the channel's kind.
 pub fn tell_other_kind(words: &mut Words) {
     tell_unsuited(words, "the service is not of the channel's kind");
 }
 
-/// Tells that the status is asked for from neither end.
+/// Reports that the status is requested from neither end.
 pub fn tell_neither_end(words: &mut Words) {
     tell_unsuited(
         words,

@@ -1,10 +1,10 @@
-// A command line that is refused, in words. Its words are read once more.
+// A refused command line in words. Its words are read again.
 
 use csv_rows::read_decimal;
 use record_read::find_service;
 use wording::{Found, Part, Words};
 
-/// How many options have a value. In `OPTIONS` they stand before the flags.
+/// How many options have a value. In `OPTIONS` they come before the flags.
 const VALUED: usize = 8;
 
 /// How many options there are.
@@ -23,14 +23,14 @@ const OPTIONS: [&str; COUNT] = [
     "--quiet",
 ];
 
-/// How many of them have to be there, from the first on.
+/// How many of them are required, from the first on.
 const WANTED: usize = 3;
 
-/// Tells what is wrong with the words of a command line, of which the first is the program's own name.
+/// Reports what is wrong with the words of a command line. The first word is the program's own name.
 pub fn tell_command_line(words: &mut Words, given: &[String]) {
     let mut seen = [false; COUNT];
     let mut recordings = 0usize;
-    let mut is_behind_dashes = false;
+    let mut is_after_dashes = false;
     let mut index = 1;
     for _ in 0..given.len() {
         let Some(word) = given.get(index) else {
@@ -38,10 +38,10 @@ pub fn tell_command_line(words: &mut Words, given: &[String]) {
         };
         let word = word.as_str();
         index = usize::saturating_add(index, 1);
-        if is_behind_dashes || !word.starts_with("-") {
+        if is_after_dashes || !word.starts_with("-") {
             recordings = usize::saturating_add(recordings, 1);
         } else if word == "--" {
-            is_behind_dashes = true;
+            is_after_dashes = true;
         } else {
             let Some(option) = option_of(word) else {
                 tell_unknown(words, word);
@@ -95,7 +95,7 @@ fn option_of(word: &str) -> Option<usize> {
     None
 }
 
-// What stands before the first equals sign of a word.
+// What comes before the first equals sign of a word.
 fn before_sign(word: &str) -> &str {
     match word.split_once("=") {
         Some((name, _)) => name,
@@ -111,7 +111,7 @@ fn after_sign(word: &str) -> Option<&str> {
     }
 }
 
-// The word of this index, where it is no option.
+// The word of this index, if it is not an option.
 fn following(given: &[String], index: usize) -> Option<&str> {
     let word = given.get(index)?.as_str();
     if word.starts_with("--") {
@@ -120,10 +120,10 @@ fn following(given: &[String], index: usize) -> Option<&str> {
     Some(word)
 }
 
-// Tells of a word that is no option.
+// Reports a word that is not an option.
 fn tell_unknown(words: &mut Words, word: &str) {
     if word == "--version" {
-        words.say("--version takes no other words");
+        words.say("--version must be the only argument");
         return;
     }
     words.say_part(Part::Recorded, Found(word.as_bytes()));
@@ -139,7 +139,7 @@ fn is_value(option: usize, value: &[u8]) -> bool {
     }
 }
 
-// Tells of a value that an option may not have.
+// Reports a value that an option may not have.
 fn tell_value(words: &mut Words, option: usize, value: &str) {
     words.say(format_args!("{} is ", name_of(option)));
     words.say_part(Part::Recorded, Found(value.as_bytes()));
@@ -157,7 +157,7 @@ fn expected_of(option: usize) -> &'static str {
     }
 }
 
-// Tells of what has to be there.
+// Reports what is required and missing.
 fn tell_missing(words: &mut Words, seen: &[bool], recordings: usize) {
     for option in 0..WANTED {
         if seen.get(option) == Some(&false) {
@@ -168,6 +168,6 @@ fn tell_missing(words: &mut Words, seen: &[bool], recordings: usize) {
     if recordings == 0 {
         words.say("no recording is named");
     } else {
-        words.say("the words do not fit the usage");
+        words.say("the arguments do not match the usage");
     }
 }

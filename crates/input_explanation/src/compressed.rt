@@ -7,7 +7,7 @@ use wording::Words;
 /// How many first bytes of a file show how it is compressed.
 pub const LONGEST_SIGNATURE: usize = 10;
 
-// What the first bytes of bzip2 are followed by: the first block, or the end of a text of no bytes.
+// What follows the first bytes of bzip2: the first block, or the end of an empty text.
 const BZIP2_BLOCK: [u8; 6] = [0x31, 0x41, 0x59, 0x26, 0x53, 0x59];
 
 const BZIP2_END: [u8; 6] = [0x17, 0x72, 0x45, 0x38, 0x50, 0x90];
@@ -60,7 +60,7 @@ impl Compression {
     }
 }
 
-// A word of a command, in quotes where a shell would read it otherwise.
+// A word of a command, in quotes if a shell would otherwise read it differently.
 #[derive(Clone, Copy)]
 struct ShellWord<'a>(&'a str);
 
@@ -81,12 +81,12 @@ impl fmt::Display for ShellWord<'_> {
     }
 }
 
-// Whether a shell takes a byte of a word for itself.
+// Whether a shell takes a byte of a word literally.
 fn is_plain(byte: u8) -> bool {
     byte.is_ascii_alphanumeric() || matches!(byte, b'/' | b'.' | b'_' | b'-' | b'+')
 }
 
-/// Says of a file of this name how it is compressed, if it is, and how its text can be given instead.
+/// Reports how a file of this name is compressed, if it is, and how its text can be given instead.
 pub fn tell_compression(words: &mut Words, name: &str, compression: Option<Compression>) {
     let Some(compression) = compression else {
         return;

@@ -1,5 +1,5 @@
-// The refusals of a configuration in words: the key at which the reader refuses it, what is there, and what is expected. The text is
-// read once more, and the reader says where it refuses it.
+// The refusals of a configuration in words: the key at which the reader refuses it, what is found there, and what is expected. The text is
+// read again, and the reader reports where it refuses it.
 
 use crate::unknown_keys::items;
 use crate::whole::tell_misfit;
@@ -13,11 +13,10 @@ use std::fmt;
 use toml::{Table, Value};
 use wording::{Count, Found, Part, Words};
 
-/// How many bytes a text has at most that is read once more, which takes memory for it twice. A text with a window too many has
-/// some 200,000.
+/// The most bytes of a text that is read again, which takes memory for it twice. A text with one window too many has some 200,000.
 const LONGEST: usize = 262_144;
 
-/// Tells the refusal of a configuration, of which this is the text, if it could be read once more.
+/// Reports the refusal of a configuration, from this text, if it could be read again.
 pub fn tell_configuration(
     words: &mut Words,
     alloc: Global,
@@ -34,7 +33,7 @@ pub fn tell_configuration(
     words.say("the keys and their refusals: docs/FORMATS.md, The configuration");
 }
 
-// Tells where a text has the fault. A text that has changed meanwhile, so that it has another one, is not told.
+// Reports where a text has the fault. If the text has changed in the meantime, so that it has another fault, nothing is reported.
 fn tell_text(words: &mut Words, alloc: Global, fault: ConfigFault, text: &[u8]) {
     let keys = match toml::table_from_slice(alloc, text) {
         Ok(keys) => keys,
@@ -60,7 +59,7 @@ fn tell_text(words: &mut Words, alloc: Global, fault: ConfigFault, text: &[u8]) 
     }
 }
 
-// Tells the key at which a text is refused: what is there, and what is expected.
+// Reports the key at which a text is refused: what is found there, and what is expected.
 fn tell_key(words: &mut Words, keys: &Table, place: ConfigPlace) {
     words.next_line();
     say_table(words, keys, place);
@@ -82,12 +81,12 @@ fn tell_key(words: &mut Words, keys: &Table, place: ConfigPlace) {
     words.end_part();
 }
 
-// The value under a key, if it is there.
+// The value under a key, if there is one.
 fn value_at(keys: &Table, place: ConfigPlace) -> Option<&Value> {
     table_at(keys, place.table)?.get(place.key.text())
 }
 
-// A table of a configuration, if it is there.
+// A table of a configuration, if there is one.
 fn table_at(keys: &Table, table: ConfigTable) -> Option<&Table> {
     match table {
         ConfigTable::Module => Some(keys),
@@ -103,12 +102,12 @@ fn table_at(keys: &Table, table: ConfigTable) -> Option<&Table> {
     }
 }
 
-// The table at an index of a list, if it is there.
+// The table at an index of a list, if there is one.
 fn item(keys: &Table, list: ConfigKey, index: usize) -> Option<&Table> {
     items(keys, list.text()).get(index)?.as_table()
 }
 
-// Says in which table a key is: by its list and its index there, and by its number, if that is read before the key.
+// Reports in which table a key is: by its list and its index there, and by its number, if that is read before the key.
 fn say_table(words: &mut Words, keys: &Table, place: ConfigPlace) {
     match place.table {
         ConfigTable::Module => {}
@@ -124,7 +123,7 @@ fn say_table(words: &mut Words, keys: &Table, place: ConfigPlace) {
     }
 }
 
-// Says the table at an index of a list, and its number, if that is read before a key.
+// Reports the table at an index of a list, and its number, if that is read before a key.
 fn say_item(words: &mut Words, keys: &Table, list: ConfigKey, index: usize, key: ConfigKey) {
     words.say(format_args!("{} {index}", list.text()));
     let number_key = match list {
@@ -176,12 +175,12 @@ fn range_at(keys: &Table, place: ConfigPlace) -> Option<(u64, u64)> {
     }
 }
 
-// Says what is expected under a key whose value is no number with limits.
+// Reports what is expected under a key whose value is not a number with limits.
 fn say_expected(words: &mut Words, keys: &Table, place: ConfigPlace) {
     match place.key {
         ConfigKey::Partition => words.say("a list of one or more tables"),
         ConfigKey::Cores => {
-            words.say("a strictly rising list of one or more numbers below ");
+            words.say("a strictly ascending list of one or more numbers below ");
             if let Some(cores) = number_at(Some(keys), ConfigKey::Cores) {
                 words.say(cores);
             }
@@ -194,12 +193,12 @@ fn say_expected(words: &mut Words, keys: &Table, place: ConfigPlace) {
         ConfigKey::SourceDiscipline | ConfigKey::DestinationDiscipline => {
             words.say("\"FIFO\" or \"PRIORITY\"");
         }
-        ConfigKey::Port => words.say("a text of 1 to 32 bytes from 0x20 to 0x7E"),
+        ConfigKey::Port => words.say("a string of 1 to 32 bytes from 0x20 to 0x7E"),
         _ => words.say("a list of tables"),
     }
 }
 
-// What stands under a key, in words.
+// What is found under a key, in words.
 #[derive(Clone, Copy)]
 struct Given<'a>(&'a Value);
 
@@ -209,7 +208,7 @@ impl fmt::Display for Given<'_> {
             return write!(f, "{number}");
         }
         if let Some(text) = self.0.as_str() {
-            return write!(f, "the text {}", Found(text.as_bytes()));
+            return write!(f, "the string {}", Found(text.as_bytes()));
         }
         if let Some(items) = self.0.as_array() {
             return write!(f, "a list of {}", Count(items.len(), "item"));

@@ -1,4 +1,4 @@
-// Rows of a text, read once more by the reader of rows, and the lines on which they begin.
+// Rows of a text, read again by the reader of rows, and the lines on which they begin.
 
 ghost use Rattle.std.specs.Prelude.{◌≡◌, false, IsSome};
 
@@ -10,7 +10,7 @@ use std::alloc::Global;
 use std::io::Read;
 use std::mem;
 
-/// How many bytes of a text are read at most.
+/// The most bytes of a text that are read.
 const MOST_BYTES: u64 = 536_870_912;
 
 /// A row of a text.
@@ -30,7 +30,7 @@ pub struct TwoReaders<R> {
     pub lines: R,
 }
 
-/// The row of this number, counted from 0, of a text; None if it is not found among the first 512 MiB.
+/// The row of a text with this number, counted from 0; None if it is not found among the first 512 MiB.
 pub fn find_row<R: Read + Drop>(
     alloc: Global,
     readers: TwoReaders<R>,
@@ -39,7 +39,7 @@ pub fn find_row<R: Read + Drop>(
     find_rows(alloc, readers, &[wanted]).pop()
 }
 
-/// The rows of these numbers, which rise, of a text: those that are found among the first 512 MiB, up to the first that is not.
+/// The rows of a text with these numbers, which rise: those that are found among the first 512 MiB, up to the first that is not.
 pub fn find_rows<R: Read + Drop>(
     alloc: Global,
     readers: TwoReaders<R>,
@@ -73,8 +73,8 @@ pub fn find_rows<R: Read + Drop>(
     found
 }
 
-/// Finds the lines, counted from 1, on which the rows from this number on begin, as many as there is room for. A row that is not
-/// among the first 512 MiB has none.
+/// Finds the lines, counted from 1, on which the rows from this number on begin, as many as there is room for. A row that is not among the
+/// first 512 MiB has none.
 pub fn find_lines<R: Read + Drop>(
     alloc: Global,
     readers: TwoReaders<R>,
@@ -97,7 +97,7 @@ pub fn find_lines<R: Read + Drop>(
     }
 }
 
-// Reads the next row, and finds the line on which it begins. None where there is no further row, or it can't be read.
+// Reads the next row, and finds the line on which it begins. None if there is no further row, or it cannot be read.
 fn read_row<S: TextSource, R: Read>(
     rows: &mut CsvRows<S>,
     lines: &mut Lines<R>,

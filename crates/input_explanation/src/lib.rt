@@ -1,7 +1,14 @@
-//! A refusal in words, for the person who reads it: of a command line, a configuration, a row of a recording or of the certificate,
-//! or an order, what was found and what is wanted.
+//! A refusal in words, for the person who reads it: for a command line, a configuration, a row of a recording or of the certificate, or an
+//! order, what was found and what was expected.
 //!
-//! Promises nothing but that its functions end and take no memory beyond their texts: it decides nothing.
+//! Promises only that its functions end and take no memory except for their texts: it decides nothing.
+//!
+//! It opens the text again to find the row or the key, and it finds the unknown keys (`unknown_keys.rt`). A row is found by the reader that
+//! read it (`CsvRows`), while a second walk over the text counts the lines (`lines.rt`). The faulty field of a row is the one that
+//! `read_record_explained` reports.
+//!
+//! The check has its answer before words are made, and no clause speaks of them. The functions have no contracts, and are proved only to
+//! end and to meet no fault.
 #![tactic(auto)]
 
 mod command_line;

@@ -15,14 +15,14 @@ pub struct Lines<R> {
     piece: [u8; PIECE],
     filled: usize,
     at: usize,
-    // How many bytes were passed, and the line of the next one.
+    // How many bytes have been passed, and the line of the next one.
     passed: u64,
     line: u64,
     is_after_return: bool,
 }
 
 impl<R: Read> Lines<R> {
-    /// At the beginning of the text that a reader gives.
+    /// The beginning of the text that a reader gives.
     pub fn new(reader: R) -> Lines<R> {
         Lines {
             reader,
@@ -35,7 +35,7 @@ impl<R: Read> Lines<R> {
         }
     }
 
-    /// The line of the first byte, after so many bytes of the text, that does not end a line. Later calls are of later bytes.
+    /// The line of the first byte, after this many bytes of the text, that does not end a line. Later calls must ask for later bytes.
     pub fn first_filled(&mut self, bytes: u64) -> u64 {
         for _ in 0..u64::MAX {
             let Some(byte) = self.next_byte() else {
@@ -63,7 +63,7 @@ impl<R: Read> Lines<R> {
         self.piece[..filled].get(self.at).copied()
     }
 
-    // Goes on after this byte.
+    // Continues after this byte.
     fn pass(&mut self, byte: u8) {
         if byte == b'\r' || (byte == b'\n' && !self.is_after_return) {
             self.line = self.line.saturating_add(1);

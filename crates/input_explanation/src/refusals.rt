@@ -4,7 +4,7 @@ use csv_rows::RowFields;
 use order_cert::{CertFault, OrderFault};
 use wording::{Count, Found, Part, Words};
 
-/// Tells the fault of a row of the certificate.
+/// Reports the fault of a row of the certificate.
 pub fn tell_certificate(words: &mut Words, fault: CertFault, fields: Option<&RowFields>) {
     words.say(fault);
     if let Some(fields) = fields {
@@ -28,22 +28,22 @@ pub fn tell_certificate(words: &mut Words, fault: CertFault, fields: Option<&Row
     words.say("the certificate: docs/FORMATS.md, The certificate");
 }
 
-/// Tells why a pair may not stand in its place, or why the order may not end there: of this core, whose next record has this
-/// number, where the pair names that one, if it could be read once more.
+/// Reports why a pair may not be at its place, or why the order may not end there. The core's next record has this number, and the pair
+/// names that one, if it could be read again.
 pub fn tell_order(words: &mut Words, fault: OrderFault, core: u32, named: Option<u64>) {
     match fault {
         OrderFault::NoSuchCore => words.say(format_args!("core {core} is not configured")),
         OrderFault::Missing => words.say(format_args!(
-            "the certificate ends here, but the recording of core {core} has a further record"
+            "the certificate ends here, but the recording of core {core} has another record"
         )),
-        _ => words.say(format_args!("of core {core}: {fault}")),
+        _ => words.say(format_args!("core {core}: {fault}")),
     }
     if let Some(named) = named {
         match fault {
             OrderFault::NoSuchCore | OrderFault::Missing => {}
             _ => {
-                words.say(": the row names ");
-                words.say_part(Part::Recorded, format_args!("its record {named}"));
+                words.say("; the row names ");
+                words.say_part(Part::Recorded, format_args!("record {named}"));
             }
         }
     }
@@ -57,12 +57,12 @@ pub fn tell_order(words: &mut Words, fault: OrderFault, core: u32, named: Option
     words.say("lawful orders: docs/SPECIFICATION.md, part 15 (IsLawfulOrder)");
 }
 
-// What is expected in place of an order's fault.
+// What is expected instead of an order's fault.
 fn expected_of(fault: OrderFault) -> &'static str {
     match fault {
         OrderFault::NoSuchCore => "a core of the configuration",
-        OrderFault::Skipped => "the core's next record, a smaller number",
-        OrderFault::Repeated => "the core's next record, a greater number",
+        OrderFault::Skipped => "the core's next record, which has a smaller number",
+        OrderFault::Repeated => "the core's next record, which has a greater number",
         OrderFault::Absent => "a longer recording, or a certificate without this row",
         OrderFault::Missing => "a row for each record of each core",
     }

@@ -1,4 +1,4 @@
-// The faults of rows in words: which field, what it holds, and what is wanted.
+// The faults of rows in words: which field, what it holds, and what was expected.
 
 use apex_types::Format;
 use apex_types::limits::{LONGEST_MESSAGE, LONGEST_NAME};
@@ -16,14 +16,14 @@ pub struct Row<'a> {
     pub fields: &'a RowFields,
 }
 
-/// Tells the fault of a row, if it was found once more: its reader reads it again, and reports the field that has the fault.
+/// Reports the fault of a row, if the row was found again: its reader reads it again, and reports the field that has the fault.
 pub fn tell_row_fault(words: &mut Words, alloc: Global, fault: RowFault, row: Option<Row<'_>>) {
     words.say(fault);
     let Some(row) = row else {
         return;
     };
     match read_record_explained(alloc, row.format, row.number, row.fields) {
-        // A row that has changed in the meantime can have another fault.
+        // A row that has changed in the meantime may have another fault.
         Err(misread) if misread.fault == fault => tell_misread(words, misread, row),
         _ => {}
     }
@@ -31,7 +31,7 @@ pub fn tell_row_fault(words: &mut Words, alloc: Global, fault: RowFault, row: Op
     words.say("the rows: docs/FORMATS.md, Refusals of a row");
 }
 
-// Tells the field that has the fault, or how many fields there are, and what was expected.
+// Reports the field that has the fault, or how many fields there are, and what was expected.
 fn tell_misread(words: &mut Words, misread: Misread, row: Row<'_>) {
     if let Some(column) = misread.column {
         words.next_line();
@@ -42,11 +42,11 @@ fn tell_misread(words: &mut Words, misread: Misread, row: Row<'_>) {
         words.next_line();
         words.say("it has ");
         words.say_part(Part::Recorded, Count(row.fields.len(), "field"));
-        expect(words, "18 if the first row has 18, and else 16");
+        expect(words, "18 if the first row has 18, otherwise 16");
     }
 }
 
-// Tells what was expected in the field of a column that has this fault.
+// Reports what was expected in the field of a column that has this fault.
 fn tell_expected(words: &mut Words, fault: RowFault, column: Column, row: Row<'_>) {
     let given = text(row.fields, column);
     match fault {
@@ -72,9 +72,9 @@ fn tell_expected(words: &mut Words, fault: RowFault, column: Column, row: Row<'_
         RowFault::BadOut => expect(words, "the name of a code, or in a call also wait or none"),
         RowFault::BadWoken => expect(
             words,
-            "processes as part:proc in strictly rising order, separated by semicolons, each proc 1 or more",
+            "processes as part:proc in strictly ascending order, separated by semicolons, each proc 1 or more",
         ),
-        // No field has one of these.
+        // No field has any of these.
         RowFault::Read
         | RowFault::Memory
         | RowFault::TooMany
@@ -83,24 +83,24 @@ fn tell_expected(words: &mut Words, fault: RowFault, column: Column, row: Row<'_
     }
 }
 
-// Tells what was expected.
+// Reports what was expected.
 fn expect(words: &mut Words, expected: impl Display + Drop) {
     words.say("; expected ");
     words.say_part(Part::Expected, expected);
 }
 
-// Tells which numbers a column can have.
+// Reports which numbers a column can have.
 fn expect_number(words: &mut Words, column: Column) {
     match column.greatest() {
         Some(most) => expect(
             words,
             format_args!("a number in its shortest form, from 0 to {most}"),
         ),
-        None => expect(words, "a number in its shortest form, signed, of 64 bits"),
+        None => expect(words, "a signed 64-bit number in its shortest form"),
     }
 }
 
-// Tells how many bytes the message in a column can have.
+// Reports how many bytes the message in a column can have.
 fn expect_length(words: &mut Words, column: Column, fields: &RowFields) {
     if column == Column::Message {
         let length = text(fields, Column::SecondNumber);

@@ -1,4 +1,4 @@
-// The keys of a configuration that no rule of it reads: they are ignored, and one of them may be a word misspelt.
+// The keys of a configuration that the reader ignores; one of them may be misspelt.
 
 use module_config::ConfigKey;
 use std::alloc::Global;
@@ -86,7 +86,7 @@ fn tell_items(words: &mut Words, keys: &Table, list: &str, known: &[ConfigKey]) 
     }
 }
 
-// The keys of one table that are none of these.
+// The keys of a table that are none of these.
 fn tell_unknown(
     words: &mut Words,
     keys: &Table,
@@ -107,7 +107,7 @@ fn tell_unknown(
     }
 }
 
-/// The items of a list, none where there is none.
+/// The items of a list; none if there is no list.
 pub(crate) fn items<'a>(keys: &'a Table, list: &str) -> &'a [Value] {
     match keys.get(list) {
         Some(value) => match value.as_array() {

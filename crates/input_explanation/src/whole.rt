@@ -14,7 +14,7 @@ const KINDS: [ConfigKey; 2] = [ConfigKey::Sampling, ConfigKey::Queuing];
 // The ends of a channel that have a key of their own.
 const ENDS: [ConfigKey; 2] = [ConfigKey::Source, ConfigKey::Destination];
 
-/// Tells which parts of a configuration do not go together, each of whose keys is right by itself.
+/// Reports which parts of a configuration are not consistent, although each of its keys is right by itself.
 pub fn tell_misfit(words: &mut Words, keys: &Table, misfit: &Misfit) {
     words.next_line();
     match misfit {
@@ -40,7 +40,7 @@ pub fn tell_misfit(words: &mut Words, keys: &Table, misfit: &Misfit) {
     }
 }
 
-// Tells how many tables a list has, and how many are allowed.
+// Reports how many tables a list has, and how many are allowed.
 fn tell_count(words: &mut Words, keys: &Table, list: ConfigKey, most: usize) {
     words.say(format_args!(
         "there are {}; at most {most} are allowed",
@@ -48,7 +48,7 @@ fn tell_count(words: &mut Words, keys: &Table, list: ConfigKey, most: usize) {
     ));
 }
 
-// Tells how many channels there are, and how many are allowed.
+// Reports how many channels there are, and how many are allowed.
 fn tell_channel_count(words: &mut Words, keys: &Table) {
     words.say(format_args!(
         "there are {} sampling channels and {} queuing channels; at most {MOST_CHANNELS} channels are allowed",
@@ -57,7 +57,7 @@ fn tell_channel_count(words: &mut Words, keys: &Table) {
     ));
 }
 
-// Tells that a partition has too many ports of a kind.
+// Reports that a partition has too many ports of a kind.
 fn tell_port_count(words: &mut Words, partition: PartId, kind: &str) {
     words.say(format_args!(
         "partition {} has more than {MOST_PORTS} {kind} ports",
@@ -65,14 +65,14 @@ fn tell_port_count(words: &mut Words, partition: PartId, kind: &str) {
     ));
 }
 
-// Tells a number that is given to two partitions, and which.
+// Reports a number that is given to two partitions, and to which.
 fn tell_partitions(words: &mut Words, keys: &Table, number: PartId) {
     let number = u64::from(number.number());
     words.say(format_args!("two partitions have the number {number}:"));
     say_numbered(words, keys, ConfigKey::Partition, ConfigKey::Number, number);
 }
 
-// Tells a number that is given to two channels, and which.
+// Reports a number that is given to two channels, and to which.
 fn tell_channels(words: &mut Words, keys: &Table, number: ChanId) {
     let number = u64::from(number.number());
     words.say(format_args!("two channels have the number {number}:"));
@@ -81,11 +81,11 @@ fn tell_channels(words: &mut Words, keys: &Table, number: ChanId) {
     }
 }
 
-// Tells a port that is at two ends of channels, and which.
+// Reports a port that is at two ends of channels, and at which.
 fn tell_ports(words: &mut Words, keys: &Table, partition: PartId, name: &[u8]) {
     let partition = u64::from(partition.number());
     words.say(format_args!(
-        "two ends are the port {} of partition {partition}:",
+        "the port {} of partition {partition} is at two ends of channels:",
         Found(name)
     ));
     for list in KINDS {
@@ -95,32 +95,34 @@ fn tell_ports(words: &mut Words, keys: &Table, partition: PartId, name: &[u8]) {
     }
 }
 
-// Tells a window on a core that its partition does not have.
+// Reports a window on a core that its partition does not have.
 fn tell_stray_window(words: &mut Words, keys: &Table, core: CoreId, start: u64, partition: PartId) {
     let (core, partition) = (u64::from(core.number()), u64::from(partition.number()));
-    words.say(format_args!("a window gives core {core} to partition {partition} from {start} on"));
+    words.say(format_args!(
+        "the window of core {core} that starts at {start} belongs to partition {partition}"
+    ));
     if has_number(keys, partition) {
-        words.say(", whose list of cores lacks it:");
+        words.say(", which does not have that core:");
     } else {
-        words.say(", but no partition has that number:");
+        words.say(", which is not configured:");
     }
     say_windows(words, keys, core, &[start]);
 }
 
-// Tells two windows of a core that share a tick.
+// Reports two windows of a core that share a tick.
 fn tell_overlap(words: &mut Words, keys: &Table, core: CoreId, start: u64, later: u64) {
     let core = u64::from(core.number());
     words.say(format_args!(
-        "two windows of core {core} share a tick, one from {start} on and one from {later} on:"
+        "two windows of core {core} overlap; they start at {start} and at {later}:"
     ));
     say_windows(words, keys, core, &[start, later]);
 }
 
-// Tells a channel that does not join configured partitions, and the partitions of its ends.
+// Reports a channel that does not join configured partitions, and the partitions of its ends.
 fn tell_stray_channel(words: &mut Words, keys: &Table, number: ChanId) {
     let number = u64::from(number.number());
     words.say(format_args!(
-        "channel {number} does not lead from a configured partition to other configured partitions:"
+        "channel {number} does not connect a configured partition to other configured partitions:"
     ));
     for list in KINDS {
         for (index, channel) in tables(keys, list).iter().enumerate() {
@@ -219,7 +221,7 @@ fn say_ends(words: &mut Words, keys: &Table, at: At, channel: &Value) {
     }
 }
 
-// Says the partition of an end, and whether it is configured.
+// Reports the partition of an end, and whether it is configured.
 fn say_partition(words: &mut Words, keys: &Table, end: &Value) {
     if let Some(partition) = number_in(end, ConfigKey::Partition) {
         words.say(format_args!(": partition {partition}"));

@@ -6,7 +6,7 @@ use std::sync::Arc;
 use std::sync::atomic::{AtomicBool, AtomicUsize, Ordering};
 use std::{io, thread};
 
-/// What a test sees of a reader that a thread has.
+/// What a test sees of a reader that a thread owns.
 #[derive(Drop)]
 pub struct Trace {
     pub reads: Arc<AtomicUsize>,
@@ -14,7 +14,7 @@ pub struct Trace {
 }
 
 impl Trace {
-    /// Of a reader that was not read yet.
+    /// For a reader that has not been read yet.
     pub fn new(alloc: Global) -> Result<Trace, AllocError> {
         Ok(Trace {
             reads: Arc::new(alloc, AtomicUsize::new(0))?,
@@ -31,7 +31,7 @@ impl Trace {
     }
 }
 
-/// What one read gives: so many bytes at most, or a line.
+/// What one read gives: at most this many bytes, or a line.
 #[derive(Clone, Copy)]
 pub enum Piece {
     Bytes(usize),
@@ -57,7 +57,7 @@ impl Piece {
     }
 }
 
-/// Gives its text piece by piece, and fails in place of each read past the first `given` bytes.
+/// Gives its text piece by piece. Each read past the first `given` bytes fails.
 pub struct Piecewise {
     text: Vec<u8>,
     next: usize,
@@ -108,7 +108,7 @@ impl Drop for Piecewise {
     }
 }
 
-/// What a count has come to once it is this number, or after 1,000,000 yields.
+/// The value of a count once it is this number, or after 1,000,000 yields.
 pub fn awaited(count: &AtomicUsize, wanted: usize) -> usize {
     for _ in 0..1_000_000 {
         let reached = count.load(Ordering::SeqCst);
@@ -120,7 +120,7 @@ pub fn awaited(count: &AtomicUsize, wanted: usize) -> usize {
     count.load(Ordering::SeqCst)
 }
 
-/// Gives its text once a read of another reader has begun too, and fails where that does not come about.
+/// Gives its text once a read of another reader has begun too, and fails if none begins.
 #[derive(Drop)]
 pub struct Meeting {
     pub text: Piecewise,

@@ -1,4 +1,4 @@
-// What no clause says: that the threads read beside one another, how far they read ahead, and what is left behind.
+// What no clause says: that the threads read at the same time, how far they read ahead, and what is left over.
 
 use crate::intake_readers::{Meeting, Piece, Piecewise, Trace, awaited};
 use apex_types::{Body, Record};
@@ -13,10 +13,10 @@ use std::thread;
 
 const WHOLE: usize = usize::MAX;
 
-// A whole text in a read, where the buffer holds it.
+// A whole text in one read, if the buffer holds it.
 const ALL: Piece = Piece::Bytes(WHOLE);
 
-// The text of so many rows of this kind, none with more than its number.
+// The text of this many rows of this kind, none with more than its number.
 fn rows_of(alloc: Global, kind: &str, count: u32) -> Result<Vec<u8>, AllocError> {
     let mut text = Vec::new(alloc);
     for row in 0..count {
@@ -26,13 +26,13 @@ fn rows_of(alloc: Global, kind: &str, count: u32) -> Result<Vec<u8>, AllocError>
     Ok(text)
 }
 
-// A reader of so many rows, of which nothing is watched.
+// A reader of this many rows that is not watched.
 fn reader_of(alloc: Global, kind: &str, count: u32, piece: Piece) -> Result<Piecewise, AllocError> {
     let text = rows_of(alloc, kind, count)?;
     Ok(Piecewise::new(text, piece, WHOLE, Trace::new(alloc)?))
 }
 
-// The next answer of a core that there is.
+// The next answer of a core that exists.
 fn answer<R: TextSource, T: Wait>(
     rt: &T,
     intake: &mut Intake<R>,
@@ -45,7 +45,7 @@ fn answer<R: TextSource, T: Wait>(
     }
 }
 
-// Whether the core's next record is the tick, or the dispatch of no process, of this number.
+// Whether the core's next record has this number and is the tick, or the dispatch of no process.
 fn has_row<R: TextSource, T: Wait>(
     rt: &T,
     intake: &mut Intake<R>,
@@ -69,7 +69,7 @@ fn has_end<R: TextSource, T: Wait>(rt: &T, intake: &mut Intake<R>, core: usize) 
     matches!(answer(rt, intake, core), Some(Ok(None)))
 }
 
-// How often a reader was read, 200 yields after it was read so often or `awaited` gave up.
+// How often a reader was read, 200 yields after it had been read this often or `awaited` gave up.
 fn settled(reads: &AtomicUsize, count: usize) -> usize {
     awaited(reads, count);
     for _ in 0..200 {
@@ -149,8 +149,8 @@ fn close_stops_the_readers(rt: HostRuntime) -> Result<(), Fail> {
     Ok(())
 }
 
-// Each read gives one row. Read and not yet answered are the rows that wait in the channel, the batch that the thread has made, and
-// what is left of the batch at hand.
+// Each read gives one row. Rows that have been read and not yet answered are those that wait in the channel, the batch that the thread has
+// made, and what is left of the current batch.
 #[test]
 fn readers_do_not_run_ahead(rt: HostRuntime) -> Result<(), Fail> {
     let alloc = rt.alloc();
@@ -177,7 +177,7 @@ fn readers_do_not_run_ahead(rt: HostRuntime) -> Result<(), Fail> {
 }
 
 #[test]
-fn a_failed_read_comes_behind_its_rows(rt: HostRuntime) -> Result<(), Fail> {
+fn a_failed_read_comes_after_its_rows(rt: HostRuntime) -> Result<(), Fail> {
     let alloc = rt.alloc();
     for depth in [1, 4096] {
         let text = rows_of(alloc, "tick", 13)?;

@@ -1,8 +1,10 @@
-//! What no clause says of the intake of recordings: that several cores are read at once, how far each reads ahead of what is
+//! What no clause says about the intake of recordings: that several cores are read at the same time, how far each reads ahead of what is
 //! answered, that a failed read comes after the rows before it, and where records are placed in ample memory; and the faulty fields of
-//! rows, beside the record of a sound one.
+//! rows, with the record of a sound one.
 //!
-//! Promises nothing; the crate is tests alone.
+//! Promises nothing: the crate contains only tests.
+//!
+//! The tests go by public calls. No crate has tests but this one, `part_tests` and `crate_tests`.
 #![tactic(auto)]
 
 #[cfg(test)]

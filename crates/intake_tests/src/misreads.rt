@@ -6,7 +6,7 @@ use record_read::{Column, Misread, RowFault, format_by, read_record_explained};
 use std::alloc::Global;
 use std::test::Fail;
 
-// What the first row of a text is, in a recording that begins with it.
+// What the first row of a text gives, in a recording that begins with it.
 fn first_of(alloc: Global, text: &'static str, number: u32) -> Option<Result<Record, Misread>> {
     let mut fields = RowFields::new(alloc);
     let mut rows = CsvRows::new(alloc, text.as_bytes());
@@ -19,7 +19,7 @@ fn first_of(alloc: Global, text: &'static str, number: u32) -> Option<Result<Rec
     }
 }
 
-// Each row with its fault and the field that has it: in a row of several faulty fields the first.
+// Each row with its fault and the field that has it; of several faulty fields, the first.
 const MISREADS: [(&'static str, RowFault, Option<Column>); 17] = [
     ("0,tick", RowFault::FieldCount, None),
     ("0,x,32,,,,,,,,,,,,", RowFault::FieldCount, None),

@@ -1,4 +1,4 @@
-// That the calls succeed where memory is ample.
+// That the calls succeed if memory is ample.
 
 ghost use Rattle.std.specs.Prelude.{◌≡◌, IfOk, IsTrue, false};
 
@@ -33,7 +33,7 @@ fn placer_of<T: Threads + Wait + Copy + Send + 'static>(
     Ok(Placer::new(intake, CertSource::new(alloc, ORDER.as_bytes())))
 }
 
-// Whether a record stands at this place, and is the one of this core and this number.
+// Whether there is a record at this place, and it is the one of this core and this number.
 fn is_placed(ordered: &Ordered, place: u64, core: u8, seq: u32) -> bool {
     ordered.pos.number() == place && ordered.core.number() == core && ordered.rec.seq == seq
 }

@@ -26,7 +26,7 @@ left_one : (claim : Claim) (one : Who) (entries : List Entry) → NamesExactly (
 left_one claim one entries named =
     same_without (λ who. is_named who claim.woken) (λ who. is_same who one) entries (λ who. named who ∙ or_false (is_same who one))
 
--- what cannot be had at once wakes nobody
+-- a call that is unmet wakes no process
 unmet_alone : (time_out : ℤ) → (unmet time_out).woken ≡ []
 unmet_alone time_out = go (is_over time_out)
   where
@@ -34,7 +34,7 @@ unmet_alone time_out = go (is_over time_out)
     go true = refl
     go false = refl
 
--- where there is a message, the oldest is taken, and the message of the sender that waits first moves up
+-- if there is a message, the oldest is taken, and the message of the first sender that waits moves up
 pub after_taking : (time_out : ℤ) (claim : Claim) (queue : Queue) (receivers : Waiters) (first : Option Entry) (messages : Messages)
     → is_some (slice_get messages 0) ≡ true → NamesExactly (received time_out first messages).answer.woken claim.woken
     → moved_up first (record queue { messages = drop 1 messages; receivers = receivers })
@@ -50,7 +50,7 @@ after_taking time_out claim queue receivers None (message ∷ others) some named
 after_taking time_out claim queue receivers (Some sender) (message ∷ others) some named =
     rw (left_one claim sender.who queue.senders.entries named) refl
 
--- where there is no message, nobody leaves the set of senders
+-- if there is no message, no process leaves the set of senders
 pub after_none : (time_out : ℤ) (claim : Claim) (queue : Queue) (receivers : Waiters) (first : Option Entry) (messages : Messages)
     → is_some (slice_get messages 0) ≡ false → NamesExactly (received time_out first messages).answer.woken claim.woken
     → (record queue { messages = drop 1 messages; receivers = receivers })

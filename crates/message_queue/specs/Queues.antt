@@ -11,14 +11,14 @@ use Rattle.wait_set.specs.declared.object.Actor.{Actor}
 use Rattle.wait_set.specs.Actors.{joined_by, left_by}
 use Rattle.wait_set.specs.Sets.{Waiters, without_one}
 
--- a queue: how many messages it holds at most, those that it holds, the oldest first, and those that wait to send and to receive
+-- a queue: the most messages that it holds, the messages in it, the oldest first, and the processes that wait to send and to receive
 pub record Queue : Type 0 where
   pub capacity : ℕ
   pub messages : Messages
   pub senders : Waiters
   pub receivers : Waiters
 
--- the queue without a message, at which nobody waits
+-- the queue with no message, at which no process waits
 abbrev pub empty_queue : ℕ → Discipline → Discipline → Queue
 empty_queue capacity sending receiving = record {
   capacity = capacity;
@@ -27,19 +27,19 @@ empty_queue capacity sending receiving = record {
   receivers = record { discipline = receiving; entries = [] };
 }
 
--- the one of a waiting set that goes on first, if anybody waits
+-- the first entry of a waiting set, if any process waits
 abbrev pub first_of : Waiters → Option Entry
 first_of waiters = first_waiter waiters.discipline waiters.entries
 
--- sending, by the first of those who wait to receive
+-- sending, given the first of the processes that wait to receive
 abbrev pub sent_to : List ℕ → ℤ → Queue → Effect Messages
 sent_to message time_out queue = sent queue.capacity message time_out (first_of queue.receivers) queue.messages
 
--- receiving, by the first of those who wait to send
+-- receiving, given the first of the processes that wait to send
 abbrev pub received_from : ℤ → Queue → Effect Messages
 received_from time_out queue = received time_out (first_of queue.senders) queue.messages
 
--- the queue after a send: a caller that waits stands among the senders with the message
+-- the queue after a send: a caller that waits enters the set of senders with the message
 abbrev pub after_send : Actor → List ℕ → ℤ → Claim → Queue → Queue
 after_send actor message time_out claim queue = record queue {
   messages = (sent_to message time_out queue).next;
@@ -47,7 +47,7 @@ after_send actor message time_out claim queue = record queue {
   receivers = record queue.receivers { entries = left_by claim queue.receivers.entries };
 }
 
--- the queue after a receive: a caller that waits stands among the receivers
+-- the queue after a receive: a caller that waits enters the set of receivers
 abbrev pub after_receive : Actor → ℤ → Claim → Queue → Queue
 after_receive actor time_out claim queue = record queue {
   messages = (received_from time_out queue).next;
@@ -62,7 +62,7 @@ without_waiters leaves queue = record queue {
   receivers = record queue.receivers { entries = without leaves queue.receivers.entries };
 }
 
--- the queue after the message of the sender that waits first, if one waits, became the newest
+-- the queue after the message of the first sender that waits, if one waits, has become the newest
 abbrev pub moved_up : Option Entry → Queue → Queue
 moved_up None queue = queue
 moved_up (Some sender) queue = record queue {

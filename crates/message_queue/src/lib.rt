@@ -1,12 +1,14 @@
 //! Queues of messages, with senders and receivers that wait: what buffers and queuing channels have in common.
 //!
-//! Promises: a queue is seen as its capacity, its messages, and its two waiting sets, each with a discipline of its own. It says
-//! what a send and a receive give their callers; carried out by a claim that is that, they leave the queue that the definitions'
-//! rule leaves, both its waiting sets too; where memory is refused nothing has changed. The places of the messages are taken once,
-//! when the queue is made. A message is copied once, where the queue holds it or its sender waits with it; the message of a sender
-//! that moves up is not copied again.
+//! Promises: contracts see a queue as its capacity, its messages, and its two waiting sets, each with a discipline of its own. The queue
+//! answers what a send and a receive give their callers. Carried out by a claim that is that answer, they leave the queue that the
+//! definitions' rule leaves, including both waiting sets. If memory is refused, nothing has changed. Memory for the places of the messages
+//! is taken once, when the queue is made. A message is copied once, when the queue holds it or its sender waits with it; the message of a
+//! sender that moves up is not copied again.
 //!
-//! A queue needs neither a partition nor a name:
+//! A send and a receive judge what a call claims against what the rule gives, and carry it out if the two agree.
+//!
+//! A queue requires neither a partition nor a name:
 //!
 //! ```text
 //! let mut queue = MessageQueue::new(alloc, 1, Discipline::Fifo, Discipline::Priority)?;

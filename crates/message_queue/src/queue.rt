@@ -2,7 +2,7 @@
 
 ghost use Rattle.std.specs.Prelude.{◌≡◌, ◌↔◌, ◌<◌, ◌||◌, ℕ, List, [], length, nat_eq, slice_get, IfOk, IsTrue, OnErr, OnOk};
 ghost use Rattle.std.specs.Option.{option_copied};
-ghost use Rattle.apex_machine.specs.Demands.{AllHold, answer_demands, stands_in};
+ghost use Rattle.apex_machine.specs.Demands.{AllHold, answer_demands, has_entry_in};
 ghost use Rattle.apex_machine.specs.State.{is_named, is_same};
 ghost use Rattle.wait_set.specs.Actors.{WaitsAlone, entry_with};
 ghost use Rattle.wait_set.specs.Givens.{answer_given};
@@ -15,7 +15,7 @@ use std::alloc::{AllocError, Global};
 use std::marker::Model;
 use wait_set::{Actor, Given, WaitSet};
 
-/// A queue of messages: those that it holds, and those that wait to send and to receive.
+/// A queue of messages: the messages in it, and the processes that wait to send and to receive.
 #[derive(Drop)]
 pub struct MessageQueue {
     alloc: Global,
@@ -36,10 +36,10 @@ impl Model for MessageQueue {
 }
 
 impl MessageQueue {
-    /// The queue without a message, at which nobody waits. It holds at most `capacity` messages; senders wait by the first of the
-    /// two disciplines, receivers by the second.
+    /// The queue with no message, at which no process waits. It holds at most `capacity` messages. Senders wait by the first of the two
+    /// disciplines, receivers by the second.
     ///
-    /// AllocError where memory for the places of its messages is refused. No other operation takes memory for a place.
+    /// AllocError if memory for the places of its messages is refused. No other operation takes memory for a place.
     pub fn new(
         alloc: Global,
         capacity: u16,
@@ -56,7 +56,7 @@ impl MessageQueue {
         })
     }
 
-    /// How many messages it holds at most.
+    /// The most messages that it holds.
     pub fn capacity(&self) -> usize
         ensures { result ≡ self.now.capacity }
     {
@@ -70,29 +70,29 @@ impl MessageQueue {
         self.messages.len()
     }
 
-    /// The oldest message that it holds, or None where it holds none.
+    /// The oldest message in it, or None if it holds none.
     pub fn oldest(&self) -> Option<&Message>
         ensures { option_copied result ≡ slice_get self.now.messages 0 }
     {
         self.messages.front()
     }
 
-    /// Those that wait to send.
+    /// The processes that wait to send.
     pub fn senders(&self) -> &WaitSet
         ensures { result.now ≡ self.now.senders }
     {
         &self.senders
     }
 
-    /// Those that wait to receive.
+    /// The processes that wait to receive.
     pub fn receivers(&self) -> &WaitSet
         ensures { result.now ≡ self.now.receivers }
     {
         &self.receivers
     }
 
-    /// What a send gives its caller: done, and the wait of the receiver that waits first ends, if one waits; where none waits and
-    /// there is no room the caller waits, or gets NOT_AVAILABLE where its time-out is 0.
+    /// What a send gives its caller: it is done, and the wait of the first receiver that waits ends, if one waits. If none waits and there
+    /// is no room, the caller waits, or gets NOT_AVAILABLE if its time-out is 0.
     pub fn answer_to_send(&self, time_out: i64) -> Given<'_>
         ensures { (message : List ℕ) → answer_given result ≡ (rules.sent_to message time_out self.now).answer }
     {
@@ -104,10 +104,10 @@ impl MessageQueue {
         }
     }
 
-    /// Sends a message, where the claim is what a send gives: the receiver that waits first gets it; else, if there is room, the
-    /// queue holds it; else a caller that waits does so with it.
+    /// Sends a message, if the claim is what a send gives. The first receiver that waits gets it; else, if there is room, the queue holds
+    /// it; else a caller that waits waits with it.
     ///
-    /// AllocError where memory is refused for the message or the entry; nothing is changed then.
+    /// AllocError if memory is refused for the message or the entry; nothing is changed then.
     pub fn send(
         &mut self,
         actor: Actor,
@@ -137,8 +137,8 @@ impl MessageQueue {
         self.messages.len() < self.messages.capacity()
     }
 
-    /// What a receive gives its caller: the oldest message, and the wait of the sender that waits first ends, if one waits; where
-    /// there is no message the caller waits, or gets NOT_AVAILABLE where its time-out is 0.
+    /// What a receive gives its caller: the oldest message, and the wait of the first sender that waits ends, if one waits. If there is no
+    /// message, the caller waits, or gets NOT_AVAILABLE if its time-out is 0.
     pub fn answer_to_receive(&self, time_out: i64) -> Given<'_>
         ensures { answer_given result ≡ (rules.received_from time_out self.now).answer }
     {
@@ -149,10 +149,10 @@ impl MessageQueue {
         }
     }
 
-    /// Receives a message, where the claim is what a receive gives: the oldest one, if there is one, is taken, and the message of
-    /// the sender that waits first moves up; else a caller that waits does so.
+    /// Receives a message, if the claim is what a receive gives. The oldest message, if there is one, is taken, and the message of the
+    /// first sender that waits moves up; else a caller that waits enters the set of receivers.
     ///
-    /// AllocError where memory is refused for the entry; nothing is changed then.
+    /// AllocError if memory is refused for the entry; nothing is changed then.
     pub fn receive(&mut self, actor: Actor, time_out: i64, claim: &Claim) -> Result<(), AllocError>
         requires new { IsNew (entry_with actor []) self.old.receivers.entries }
         requires given { AllHold (answer_demands (rules.received_from time_out self.old).answer claim.now) }
@@ -167,7 +167,7 @@ impl MessageQueue {
         Ok(())
     }
 
-    // The message of the sender that waits first, if one waits, becomes the newest. There is room for it.
+    // The message of the first sender that waits, if one waits, becomes the newest. There is room for it.
     fn move_up(&mut self)
         requires room { length self.old.messages < self.old.capacity }
         ensures { self.new ≡ rules.moved_up (rules.first_of self.old.senders) self.old }
@@ -179,16 +179,16 @@ impl MessageQueue {
 
     /// Whether a process waits here, to send or to receive. Takes no memory.
     pub fn has(&self, who: Who) -> bool
-        ensures { result ≡ (stands_in who self.now.senders.entries || stands_in who self.now.receivers.entries) }
+        ensures { result ≡ (has_entry_in who self.now.senders.entries || has_entry_in who self.now.receivers.entries) }
     {
-        // Each set is asked with a copy of its own.
+        // Each set gets a copy of its own.
         let copy = who;
         self.senders.has(who) || self.receivers.has(copy)
     }
 
-    /// Takes a process out of both waiting sets, and says whether it stood in one. Takes no memory.
+    /// Takes a process out of both waiting sets. Returns whether it was in one. Takes no memory.
     pub fn leave(&mut self, who: Who) -> bool
-        ensures stood { result ≡ (stands_in who self.old.senders.entries || stands_in who self.old.receivers.entries) }
+        ensures stood { result ≡ (has_entry_in who self.old.senders.entries || has_entry_in who self.old.receivers.entries) }
         ensures left { self.new ≡ rules.without_waiters (λ other. is_same other who) self.old }
     {
         // Both sets are asked.
@@ -196,7 +196,7 @@ impl MessageQueue {
         self.senders.leave(who) | self.receivers.leave(copy)
     }
 
-    /// Takes all whom a list names out of both waiting sets. Takes no memory.
+    /// Takes all processes that a list names out of both waiting sets. Takes no memory.
     pub fn release(&mut self, named: &[Who])
         ensures { self.new ≡ rules.without_waiters (λ who. is_named who named.now) self.old }
     {
@@ -228,7 +228,7 @@ impl Clone for MessageQueue {
     }
 }
 
-// A ring of as many places with copies of these messages.
+// A ring with as many places and with copies of these messages.
 fn copied(
     alloc: Global,
     messages: &HeapCircularBuffer<Message>,

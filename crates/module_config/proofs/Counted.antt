@@ -25,7 +25,7 @@ pub found-here : {A : Type 0} (test : ChannelEnd → Bool) (ends_of : A → List
 found-here test ends_of channels i channel end below is found =
     rw (drop_more channels i channel below, ← is) (find-append test (ends_of channel) (flat_map ends_of (drop (i + 1) channels)) ∙ ap (λ first. option_or first (find test (flat_map ends_of (drop (i + 1) channels)))) found)
 
--- where none is found among those of a channel, the first from that channel on is the first after it
+-- if none is found among those of a channel, the first from that channel on is the first after it
 pub found-later : {A : Type 0} (test : ChannelEnd → Bool) (ends_of : A → List ChannelEnd) (channels : List A) (i : ℕ) (channel : A)
     → i < length channels → channel ≡ get_or channels i channel → find test (ends_of channel) ≡ None
     → find test (flat_map ends_of (drop i channels)) ≡ find test (flat_map ends_of (drop (i + 1) channels))

@@ -7,7 +7,7 @@ use Rattle.module_config.specs.declared.refusal.ConfigRefusal.{ConfigRefusal}
 use Rattle.module_config.specs.declared.refusal.ExplainedRefusal.{ExplainedRefusal}
 use Rattle.module_config.specs.Misfits.{IsExplained, unexplained}
 
--- it is the refusal of the keys, where they have one
+-- it is the refusal of the keys, if they have one
 pub handed_on : (A : Type 0) {B : Type 0} (reading : Result Configuration ConfigRefusal) (refusal : ConfigRefusal) (result : Result B ExplainedRefusal)
     → IsErrAnd result (λ one. one ≡ unexplained refusal) → IfErr reading (λ first. ◌≡◌ {A = Result A ConfigRefusal} (Err refusal) (Err first)) → IfErr reading (λ first. result ≡ Err (unexplained first))
 handed_on A (Ok configuration) refusal result is same = tt

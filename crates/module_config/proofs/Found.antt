@@ -33,7 +33,7 @@ cores_are_of_module configuration limits number core has = by (limits_of configu
         any-below configuration.cores core own.cores
         (numbered-holds (AreCoresOf configuration.cores) (λ limits. limits.number) number configuration.partitions own limits.own_cores is) one_of
 
--- where each core is below a number above 0, so is the first
+-- if each core is below a number above 0, so is the first
 pub first_of-below : (count : ℕ) (cores : List ℕ) → 0 < count → All (λ core. core < count) cores → first_of cores < count
 first_of-below count [] some below = some
 first_of-below count (core ∷ cores) some below = All-head (λ one. one < count) core cores below

@@ -81,7 +81,7 @@ found-holds configuration core time partition apart in_window =
     let is = only core (time % configuration.frame) configuration.windows holds.configured.0 in_window.0 apart holds.configured.1 holds.configured.2 within in
     rw holds.of_partition at is
 
--- where no partition is found, and where none has such a window
+-- if no partition is found, and if none has such a window
 none-found : (configuration : Configuration) (core time : ℕ) → ((partition : ℕ) → ¬ IsInWindow configuration core time partition) → window_at configuration core time ≡ None
 none-found configuration core time none = by (window_at configuration core time) refl
   where

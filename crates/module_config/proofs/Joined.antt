@@ -32,7 +32,7 @@ two-ends partitions channel joined =
     let (goes, end) = and_parts (goes_to partitions channel.source channel.destination) true both in
     (and_parts (has_number channel.destination.partition partitions) (not (nat_eq channel.source.partition channel.destination.partition)) goes).1
 
--- where no number is there twice and each channel is joined, no partition is at both ends of a number's channels
+-- if no number occurs twice and each channel is joined, no partition is at both ends of a number's channels
 apart : (partitions : List PartitionLimits) (number partition : ℕ) (channels : List QueuingChannel)
     → is_twice (queuing_numbers channels) ≡ false → list_all (is_queuing_joined partitions) channels ≡ true
     → list_any (λ channel. nat_eq channel.number number && nat_eq channel.source.partition partition) channels ≡ true
@@ -71,7 +71,7 @@ ends_are_apart configuration given joined number partition sent received =
     let each = (and_parts (list_all (is_sampling_joined configuration.partitions) configuration.sampling) (list_all (is_queuing_joined configuration.partitions) configuration.queuing) joined).1 in
     apart configuration.partitions number partition configuration.queuing (once-left (queuing_numbers configuration.queuing) [] first) each sent received
 
--- a test passes beside one of two others where it does beside the first, or beside the second
+-- a test passes together with one of two others if it does together with the first, or with the second
 any-either : {A : Type 0} (test one other : A → Bool) (all : List A)
     → list_any (λ item. test item && (one item || (other item || false))) all ≡ (list_any (λ item. test item && one item) all || list_any (λ item. test item && other item) all)
 any-either test one other [] = refl
@@ -86,7 +86,7 @@ any-either test one other (item ∷ all) =
     by true false false left right rest = rest
     by false first second left right rest = rest
 
--- a partition is at an end of a channel where it is at one of a queuing channel's two ends, or at one of a sampling channel's
+-- a partition is at an end of a channel if it is at one of a queuing channel's two ends, or at one of a sampling channel's
 pub at_one_of_two : (configuration : Configuration) (number partition : ℕ) (queued : Bool)
     → queued ≡ list_any (λ channel. nat_eq channel.number number && (nat_eq channel.source.partition partition || (nat_eq channel.destination.partition partition || false))) configuration.queuing
     → (queued || samples configuration number partition) ≡ is_at_end configuration number partition

@@ -10,7 +10,7 @@ use Rattle.module_config.proofs.Numbered.{IsRising-from_ordered, once}
 use Rattle.module_config.proofs.Found.{window_among-found}
 use Rattle.module_config.proofs.Windows.{is_timetable}
 
--- where nothing is refused, each test went well
+-- if nothing is refused, each test passed
 passed : (large twice fit meet joined : Bool)
     → (if large then Some TooMany else if twice then Some Duplicate else if not fit then Some CoreNotOfPartition else if meet then Some Overlap else if not joined then Some ChannelEnds else None) ≡ None
     → (large ≡ false) × (twice ≡ false) × (fit ≡ true) × (meet ≡ false) × (joined ≡ true)

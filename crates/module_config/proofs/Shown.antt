@@ -12,7 +12,7 @@ use Rattle.module_config.specs.declared.ends.Likeness.TheVariants as likeness
 use Rattle.module_config.specs.Ends.{are_too_many, count_alike, is_exceeded}
 use Rattle.module_config.specs.Misfits.{HasMoreEnds, HasStray}
 
--- one is found where one passes
+-- one is found if one passes
 pub found-any : {A : Type 0} (test : A → Bool) (all : List A) → is_some (find test all) ≡ list_any test all
 found-any test [] = refl
 found-any test (one ∷ others) = by (test one) (found-any test others)
@@ -21,7 +21,7 @@ found-any test (one ∷ others) = by (test one) (found-any test others)
     by true later = refl
     by false later = later
 
--- one is found where not all pass the opposite test
+-- one is found if not all pass the opposite test
 pub found-not_all : {A : Type 0} (test : A → Bool) (all : List A) → is_some (find (λ one. not (test one)) all) ≡ not (list_all test all)
 found-not_all test [] = refl
 found-not_all test (one ∷ others) = by (test one) (found-not_all test others)
@@ -64,7 +64,7 @@ counted-first test one others =
     by true = refl
     by false = refl
 
--- some are counted where one passes
+-- some are counted if one passes
 pub any-counted : {A : Type 0} (test : A → Bool) (all : List A) → list_any test all ≡ true → 0 < count_by test all
 any-counted test [] has = cc
 any-counted test (one ∷ others) has =
@@ -85,7 +85,7 @@ pub split-at : {A : Type 0} (all : List A) (i : ℕ) (one : A) → i < length al
 split-at all i one below is =
     sym (take-append-drop i all) ∙ ap (λ rest. take i all ++ rest) (drop_more all i one below ∙ ap (λ first. first ∷ drop (i + 1) all) (sym is))
 
--- two are counted where one passes and one after it does
+-- two are counted if one passes and one after it does
 pub two-counted : {A : Type 0} (test : A → Bool) (all : List A) (i : ℕ) (one : A)
     → i < length all → one ≡ get_or all i one → test one ≡ true → list_any test (take (length all - (i + 1)) (drop (i + 1) all)) ≡ true → 1 < count_by test all
 two-counted test all i one below is passes later =
@@ -97,11 +97,11 @@ two-counted test all i one below is passes later =
     let here : count_by test (one ∷ rest) ≡ 1 + count_by test rest = counted-first test one rest ∙ ap (λ b. cond {A = ℕ} b 1 0 + count_by test rest) passes in
     omega (arith, split, parts, here, some)
 
--- nothing is found where none passes
+-- nothing is found if none passes
 pub none-found : {A : Type 0} (test : A → Bool) (all : List A) → find test all ≡ None → list_any test all ≡ false
 none-found test all none = sym (found-any test all) ∙ ap is_some none
 
--- where an end of a partition is found that has more than so many alike it, so many are the partition's
+-- if an end of a partition is found that has more than this many alike it, the partition has as many
 pub ports-found : (most : ℕ) (places : List ChannelEnd) (end : ChannelEnd) → find (is_exceeded likeness.Partition most places) places ≡ Some end
     → (are_too_many likeness.Partition most places ≡ true) × HasMoreEnds most end.partition places
 ports-found most places end found =
@@ -110,7 +110,7 @@ ports-found most places end found =
     let more : most < count_alike likeness.Partition end places = grind (arith, nat_tests) in
     (sym (found-any test places) ∙ ap is_some found, more)
 
--- where an end is found that has another one alike it, its port is at two ends
+-- if an end is found that has another one alike it, its port is at two ends
 pub port-found : (places : List ChannelEnd) (end : ChannelEnd) → find (is_exceeded likeness.Port 1 places) places ≡ Some end
     → (are_too_many likeness.Port 1 places ≡ true) × (1 < count_by (is_port end.partition end.port) places)
 port-found places end found =
@@ -124,7 +124,7 @@ pub not-true : (b : Bool) → not b ≡ true → b ≡ false
 not-true true is = cc
 not-true false is = refl
 
--- where one is found that fails, not all pass, and it fails
+-- if one is found that fails, not all pass, and it fails
 pub one-fails : {A : Type 0} (joined : A → Bool) (all : List A) (one : A) → find (λ other. not (joined other)) all ≡ Some one
     → (list_all joined all ≡ false) × (joined one ≡ false)
 one-fails joined all one found =
@@ -140,7 +140,7 @@ stray-found number_of joined all one found = record {
   stray = (one-fails joined all one found).1;
 }
 
--- where none is found not to be joined, all are
+-- if none is found that is not joined, all are joined
 pub none-stray : {A : Type 0} (joined : A → Bool) (all : List A) → find (λ channel. not (joined channel)) all ≡ None → list_all joined all ≡ true
 none-stray joined all none = by (list_all joined all) (sym (found-not_all joined all) ∙ ap is_some none)
   where

@@ -1,4 +1,4 @@
--- What the tables of channels configure, key by key.
+-- What the tables of channels configure, read key by key.
 use Rattle.std.specs.Prelude.{ℕ, List, Option, Result, Ok}
 use Rattle.toml.specs.Data.{Data, Items, Members}
 use Rattle.apex_types.specs.declared.discipline.Discipline.{Discipline}
@@ -25,7 +25,7 @@ end_by own keys =
 abbrev pub end_under : ConfigKey → ℕ → Members → ConfigKey → Result ChannelEnd ConfigRefusal
 end_under list index keys end = at (table.Item list index) keys end table_at >>= end_by (table.End list index end)
 
--- the destination at an index of those of a sampling channel, which must be a table
+-- one destination of a sampling channel, by its index, which must be a table
 abbrev pub destination_in : ℕ → ℕ → Data → Result ChannelEnd ConfigRefusal
 destination_in channel index value = placed (table.Item key.Sampling channel) key.Destinations (table_in value) >>= end_by (table.Destination channel index)
 
@@ -56,7 +56,7 @@ sampling_by index keys =
 abbrev pub sampling_in : ℕ → Data → Result SamplingChannel ConfigRefusal
 sampling_in index value = item_in key.Sampling value >>= sampling_by index
 
--- the sampling channels: a list of tables; without the key there is none
+-- the sampling channels: a list of tables, which is empty if the key is missing
 abbrev pub sampling_under : Members → Result (List SamplingChannel) ConfigRefusal
 sampling_under keys = each_under table.Module keys key.Sampling sampling_in
 
@@ -87,6 +87,6 @@ queuing_by index keys =
 abbrev pub queuing_in : ℕ → Data → Result QueuingChannel ConfigRefusal
 queuing_in index value = item_in key.Queuing value >>= queuing_by index
 
--- the queuing channels: a list of tables; without the key there is none
+-- the queuing channels: a list of tables, which is empty if the key is missing
 abbrev pub queuing_under : Members → Result (List QueuingChannel) ConfigRefusal
 queuing_under keys = each_under table.Module keys key.Queuing queuing_in

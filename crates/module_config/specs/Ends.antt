@@ -1,4 +1,4 @@
--- The ends of the channels, and what is judged of them over the whole.
+-- The ends of the channels, and what is judged of them over the whole configuration.
 use Rattle.std.specs.Prelude.{ℕ, List, [], ◌∷◌, ◌++◌, count_by, Bool, not, ◌&&◌, is_some, nat_eq, nat_lt}
 use Rattle.std.specs.List.{flat_map, list_all, list_any}
 use Rattle.apex_machine.specs.Channels.{is_port}
@@ -26,7 +26,7 @@ queuing_ends channels = flat_map queuing_ends_of channels
 abbrev pub ends_of : List SamplingChannel → List QueuingChannel → List ChannelEnd
 ends_of sampling queuing = sampling_ends sampling ++ queuing_ends queuing
 
--- an end is alike another: of the same partition, or the same port of it
+-- an end is alike another: it is of the same partition, or it is the same port of it
 abbrev pub is_alike : Likeness → ChannelEnd → ChannelEnd → Bool
 is_alike by.Partition place other = nat_eq other.partition place.partition
 is_alike by.Port place other = is_port place.partition place.port other
@@ -47,23 +47,23 @@ are_too_many likeness most places = list_any (is_exceeded likeness most places) 
 abbrev pub has_number : ℕ → List PartitionLimits → Bool
 has_number number partitions = is_some (numbered (λ limits. limits.number) number partitions)
 
--- a channel from this end may go to another: the other's partition is configured, and is not this end's
+-- a channel from this end may go to another: the other end's partition is configured, and is not this end's
 abbrev pub goes_to : List PartitionLimits → ChannelEnd → ChannelEnd → Bool
 goes_to partitions source place = has_number place.partition partitions && not (nat_eq source.partition place.partition)
 
--- a channel joins a configured partition with others that are
+-- a channel joins a configured partition with other configured partitions
 abbrev pub is_joined : List PartitionLimits → ChannelEnd → List ChannelEnd → Bool
 is_joined partitions source places = has_number source.partition partitions && list_all (goes_to partitions source) places
 
--- a sampling channel does
+-- a sampling channel joins configured partitions
 abbrev pub is_sampling_joined : List PartitionLimits → SamplingChannel → Bool
 is_sampling_joined partitions channel = is_joined partitions channel.source channel.destinations
 
--- a queuing channel does
+-- a queuing channel joins configured partitions
 abbrev pub is_queuing_joined : List PartitionLimits → QueuingChannel → Bool
 is_queuing_joined partitions channel = is_joined partitions channel.source (channel.destination ∷ [])
 
--- each channel does
+-- each channel joins configured partitions
 abbrev pub are_joined : Configuration → Bool
 are_joined configuration =
     list_all (is_sampling_joined configuration.partitions) configuration.sampling

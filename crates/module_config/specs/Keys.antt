@@ -14,32 +14,32 @@ use Rattle.module_config.specs.declared.keys.ItemType.TheVariants as of
 use Rattle.module_config.specs.declared.refusal.ConfigRefusal.{ConfigRefusal}
 
 infixl 10 ◌>>=◌
--- a reading and then the next one; the first refusal is the answer
+-- a reading followed by the next one; the first refusal is the answer
 abbrev pub ◌>>=◌ : {A B Refusal : Type 0} → Result A Refusal → (A → Result B Refusal) → Result B Refusal
 (Ok value) >>= next = next value
 (Err refusal) >>= next = Err refusal
 
--- what a call gave is the reading: its value as the definitions see it, or its refusal
+-- the answer of a call is the reading: its value as the definitions see it, or its refusal
 abbrev pub Reads : {A B Refusal : Type 0} → (A → B) → Result A Refusal → Result B Refusal → Type 0
 Reads view (Ok value) reading = reading ≡ Ok (view value)
 Reads view (Err refusal) reading = reading ≡ Err refusal
 
--- what a call gave is the reading, unless memory ran out
+-- the answer of a call is the reading, unless memory ran out
 abbrev pub Gives : {A B : Type 0} → (A → B) → Result A ConfigFault → Result B ConfigFault → Type 0
 Gives view (Ok value) reading = reading ≡ Ok (view value)
 Gives view (Err fault) reading = fault ≢ Memory → reading ≡ Err fault
 
--- what a call gave is the reading with the place of its refusal, unless memory ran out
+-- the answer of a call is the reading with the place of its refusal, unless memory ran out
 abbrev pub GivesPlaced : {A B : Type 0} → (A → B) → Result A ConfigRefusal → Result B ConfigRefusal → Type 0
 GivesPlaced view (Ok value) reading = reading ≡ Ok (view value)
 GivesPlaced view (Err refusal) reading = refusal.fault ≢ Memory → reading ≡ Err refusal
 
--- a value that must be there
+-- a value that is required
 abbrev pub required : Option Data → Result Data ConfigFault
 required None = Err Missing
 required (Some value) = Ok value
 
--- an integer, and not a negative one
+-- an integer that is not negative
 abbrev pub natural_in : Data → Result ℕ ConfigFault
 natural_in (integer (pos number)) = Ok number
 natural_in (integer (negsuc number)) = Err OutOfRange
@@ -49,11 +49,11 @@ natural_in _ = Err WrongType
 abbrev pub natural_at : Option Data → Result ℕ ConfigFault
 natural_at value = required value >>= natural_in
 
--- a number from the least to the most that may stand there
+-- a number from the least to the greatest that is allowed
 abbrev pub within : ℕ → ℕ → ℕ → Result ℕ ConfigFault
 within least most number = if nat_le least number && nat_le number most then Ok number else Err OutOfRange
 
--- the integer under a key, from the least to the most that may stand there
+-- the integer under a key, from the least to the greatest that is allowed
 abbrev pub integer_at : ℕ → ℕ → Option Data → Result ℕ ConfigFault
 integer_at least most value = natural_at value >>= within least most
 
@@ -118,24 +118,24 @@ abbrev pub list_of : (Data → Bool) → Data → Result Items ConfigFault
 list_of test (array items) = if all_items test items then Ok items else Err WrongType
 list_of test _ = Err WrongType
 
--- a list with an item at least
+-- a list with at least one item
 abbrev pub at_least_one : Items → Result Items ConfigFault
 at_least_one items = if has_items items then Ok items else Err OutOfRange
 
--- the list under a key, with an item at least, each of this type
+-- the list under a key, with at least one item, each of this type
 abbrev pub some_at : ItemType → Option Data → Result Items ConfigFault
 some_at item_type value = required value >>= list_of (is_of item_type) >>= at_least_one
 
--- a list with this many items at most: there is none at this index
+-- a list with at most this many items: it has no item at this index
 abbrev pub at_most : ℕ → Items → Result Items ConfigFault
 at_most most items = if is_some (get_item most items) then Err OutOfRange else Ok items
 
--- what each item of a list is read as, in turn; the first of them has this index
+-- the readings of the items of a list, in turn; the first item has this index
 abbrev pub each_from : {A : Type 0} → (ℕ → Data → Result A ConfigRefusal) → ℕ → Items → Result (List A) ConfigRefusal
 each_from reading index no_items = Ok []
 each_from reading index (item value items) = reading index value >>= (λ first. each_from reading (index + 1) items >>= (λ rest. Ok (first ∷ rest)))
 
--- what each item of a list is read as, by its index
+-- the readings of the items of a list, by their indexes
 abbrev pub each_item : {A : Type 0} → (ℕ → Data → Result A ConfigRefusal) → Items → Result (List A) ConfigRefusal
 each_item reading items = each_from reading 0 items
 
@@ -147,7 +147,7 @@ table_at value = required value >>= table_in
 abbrev pub tables_in : Data → Result Items ConfigFault
 tables_in value = list_of (is_of of.Table) value
 
--- the tables of the list under a key; without the key there is none
+-- the tables of the list under a key; there are none if the key is missing
 abbrev pub tables_at : Option Data → Result Items ConfigFault
 tables_at None = Ok no_items
 tables_at (Some value) = tables_in value

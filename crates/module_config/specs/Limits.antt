@@ -1,4 +1,4 @@
--- What each configuration keeps.
+-- What every configuration satisfies.
 use Rattle.std.specs.Prelude.{◌≡◌, ℕ, ◌+◌, ◌≤◌, ◌<◌, List, length, map, All, AllPairs, IsTrue, true, false}
 use Rattle.apex_types.specs.declared.limits.TheConstants.{GREATEST_CHANNEL, GREATEST_PARTITION, GREATEST_SPAN, LONGEST_MESSAGE, MOST_CORES, MOST_MESSAGES, MOST_PROCESSES}
 use Rattle.apex_machine.specs.Configuration.{Configuration, PartitionLimits, QueuingChannel, SamplingChannel, Window, has_core, limits_of}
@@ -6,7 +6,7 @@ use Rattle.module_config.specs.declared.described.ModuleSize.{ModuleSize}
 use Rattle.module_config.specs.Ends.{are_joined}
 use Rattle.module_config.specs.Whole.{are_of_partitions, has_overlap, is_given_twice, is_too_large}
 
--- a number is from a low one to a high one
+-- a number is from a lower to an upper limit
 pub record IsFrom (low high number : ℕ) : Type 0 where
   pub least : low ≤ number
   pub most : number ≤ high
@@ -39,11 +39,11 @@ pub record EndsBefore (window other : Window) : Type 0 where
   pub core : window.core ≤ other.core
   pub ends : window.core ≡ other.core → window.start + window.span ≤ other.start
 
--- a window holds a tick at least
+-- a window holds at least one tick
 abbrev pub HasTick : Window → Type 0
 HasTick window = 1 ≤ window.span
 
--- a partition's cores are of a module that has this many
+-- a partition's cores are among this many cores of a module
 abbrev pub AreCoresOf : ℕ → PartitionLimits → Type 0
 AreCoresOf count limits = All (λ core. core < count) limits.cores
 
@@ -73,9 +73,9 @@ pub record IsWithinLimits (configuration : Configuration) : Type 0 where
 abbrev pub CoresAreOfModule : Configuration → Type 0
 CoresAreOfModule configuration = (number core : ℕ) → IsTrue (has_core core (limits_of configuration number)) → core < configuration.cores
 
--- the parts of a configuration go together: no number and no port twice, each window on a core of its
--- partition, no overlap, each channel between partitions; the windows stand by core and start, each before
--- those that begin after its end
+-- the parts of a configuration are consistent: no number and no port is given twice, each window is on a core of its partition, no windows
+-- overlap, each channel joins partitions; the windows are in the order of their cores and starts, each before those that begin after its
+-- end
 pub record IsConsistent (configuration : Configuration) : Type 0 where
   pub not_too_large : is_too_large configuration ≡ false
   pub once : is_given_twice configuration ≡ false

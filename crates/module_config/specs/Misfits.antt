@@ -1,4 +1,4 @@
--- What shows that the parts of a configuration do not go together.
+-- What shows that the parts of a configuration are not consistent.
 use Rattle.std.specs.Prelude.{◌≡◌, ◌≢◌, ◌⊎◌, ℕ, ◌+◌, ◌<◌, List, ◌∷◌, ◌++◌, length, count_by, Contains, Option, Some, None, Result, Ok, Err, Bool, true, false, nat_eq}
 use Rattle.apex_types.specs.declared.limits.TheConstants.{MOST_CHANNELS, MOST_PARTITIONS, MOST_PORTS, MOST_WINDOWS}
 use Rattle.apex_machine.specs.Channels.{channel_numbers, is_port}
@@ -30,7 +30,7 @@ fault_of (misfit.StrayChannel number) = fault.ChannelEnds
 abbrev pub HasMoreEnds : ℕ → ℕ → List ChannelEnd → Type 0
 HasMoreEnds most partition places = most < count_by (λ place. nat_eq place.partition partition) places
 
--- a window of a list gives this core, from this time on, to this partition, and the core is none of its cores
+-- a window of a list gives this core, from this time on, to this partition, which does not have the core
 pub record HasStrayWindow (configuration : Configuration) (core start partition : ℕ) : Type 0 where
   pub window : Window
   pub configured : Contains configuration.windows window
@@ -83,7 +83,7 @@ HasMisfit configuration (misfit.StrayWindow core start partition) = HasStrayWind
 HasMisfit configuration (misfit.Overlap core start later) = HasOverlap configuration.windows core start later
 HasMisfit configuration (misfit.StrayChannel number) = HasStrayChannel configuration number
 
--- what is found: nothing where a test fails, and else a misfit that the configuration has, which shows this fault
+-- what is found: nothing if a test finds no fault, and else a misfit that the configuration has, which shows this fault
 abbrev pub Finds : Configuration → ConfigFault → Bool → Option Misfit → Type 0
 Finds configuration fault is_refused None = is_refused ≡ false
 Finds configuration fault is_refused (Some misfit) = (is_refused ≡ true) × (fault_of misfit ≡ fault) × HasMisfit configuration misfit
@@ -93,7 +93,8 @@ abbrev pub IsShownBy : Configuration → ConfigFault → Option Misfit → Type 
 IsShownBy configuration fault None = ⊥
 IsShownBy configuration fault (Some misfit) = (fault_of misfit ≡ fault) × HasMisfit configuration misfit
 
--- a refusal is explained, where this is what the keys configure: a misfit shows each fault of the whole but want of memory, and no other
+-- a refusal is explained, if this is what the keys configure: a misfit shows each fault of the whole configuration except a lack of memory,
+-- and no other fault
 abbrev pub IsExplained : Result Configuration ConfigRefusal → ExplainedRefusal → Type 0
 IsExplained (Ok configuration) explained = explained.refusal.fault ≢ fault.Memory → IsShownBy configuration explained.refusal.fault explained.misfit
 IsExplained (Err refusal) explained = explained.misfit ≡ None
@@ -102,7 +103,7 @@ IsExplained (Err refusal) explained = explained.misfit ≡ None
 abbrev pub unexplained : ConfigRefusal → ExplainedRefusal
 unexplained refusal = record { refusal = refusal; misfit = None }
 
--- a reading without what shows its refusal
+-- a reading without the misfit that shows its refusal
 abbrev pub without_misfit : {A : Type 0} → Result A ExplainedRefusal → Result A ConfigRefusal
 without_misfit (Ok value) = Ok value
 without_misfit (Err explained) = Err explained.refusal

@@ -19,16 +19,16 @@ text_among (row ∷ rows) key = if keys.eq-value.it row.0 key then row.1.now els
 unfoldable pub text_of : ConfigKey → List ℕ
 text_of key = text_among KEYS key
 
--- a reading of the value under a key of a table: its refusal is at that key
+-- a reading of the value under a key of a table; a refusal is at that key
 abbrev pub placed : {A : Type 0} → ConfigTable → ConfigKey → Result A ConfigFault → Result A ConfigRefusal
 placed table key (Ok value) = Ok value
 placed table key (Err fault) = Err (record { fault = fault; place = Some (record { table = table; key = key }) })
 
--- the value under a key of a table, as it is read
+-- the value under a key of a table, by this reading
 abbrev pub at : {A : Type 0} → ConfigTable → Members → ConfigKey → (Option Data → Result A ConfigFault) → Result A ConfigRefusal
 at table keys key reading = placed table key (reading (get_member (text_of key) keys))
 
--- what each table of the list under a key of a table is read as, by its index; without the key there is none
+-- the readings of the tables in the list under a key of a table, by their indexes; there are none if the key is missing
 abbrev pub each_under : {A : Type 0} → ConfigTable → Members → ConfigKey → (ℕ → Data → Result A ConfigRefusal) → Result (List A) ConfigRefusal
 each_under table keys key reading = at table keys key tables_at >>= each_item reading
 

@@ -8,16 +8,16 @@ use Rattle.module_config.specs.declared.port.ChannelKind.TheVariants.{Queuing, S
 use Rattle.module_config.specs.declared.port.QueuingPort.{QueuingPort}
 use Rattle.module_config.specs.declared.port.SamplingPort.{SamplingPort}
 
--- a sampling port as the definitions have it
+-- a sampling port as the definitions see it
 abbrev pub configured_sampling : SamplingPort → configured.SamplingPort
 configured_sampling port = record { channel = port.channel; size = port.size; direction = port.direction; refresh = port.refresh }
 
--- a queuing port as the definitions have it
+-- a queuing port as the definitions see it
 abbrev pub configured_queuing : QueuingPort → configured.QueuingPort
 configured_queuing port =
     record { channel = port.channel; size = port.size; capacity = port.capacity; direction = port.direction; discipline = port.discipline }
 
--- what is configured of a channel, by the queuing channel and the sampling channel of its number, if there is one
+-- what is configured of a channel, from the queuing channel and the sampling channel of its number, if there is one
 abbrev pub kind_in : Option QueuingChannel → Option SamplingChannel → Option ChannelKind
 kind_in (Some channel) other = Some (Queuing channel.capacity channel.source_discipline channel.destination_discipline channel.source.partition channel.destination.partition)
 kind_in None (Some channel) = Some (Sampling channel.refresh)

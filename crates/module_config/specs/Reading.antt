@@ -13,29 +13,30 @@ use Rattle.module_config.specs.Places.{nowhere, without_place}
 use Rattle.module_config.specs.Walk.{walk}
 use Rattle.module_config.specs.Whole.{whole_fault}
 
--- the table that a text is, where it is UTF-8 and TOML
+-- the table that a text is, if the text is UTF-8 and TOML
 abbrev pub document_of : List ℕ → Option Members
 document_of text = if is_utf8 text then parse_document text else None
 
--- the configuration, where nothing is refused
+-- the configuration, if nothing is refused
 abbrev pub unless_refused : Option ConfigFault → Configuration → Result Configuration ConfigRefusal
 unless_refused None configuration = Ok configuration
 unless_refused (Some fault) configuration = Err (nowhere fault)
 
--- what is read, where its parts go together
+-- what is read, if its parts are consistent
 abbrev pub judged : Result Configuration ConfigRefusal → Result Configuration ConfigRefusal
 judged reading = reading >>= (λ configuration. unless_refused (whole_fault configuration) configuration)
 
--- what a document configures, each key judged by itself, where the text is one
+-- what a document configures, each key judged by itself, if the text is a document
 abbrev pub walk_in : Option Members → Result Configuration ConfigRefusal
 walk_in None = Err (nowhere NotToml)
 walk_in (Some keys) = walk keys
 
--- what a text configures, each key judged by itself; a text of more than 1,048,576 bytes is not looked into
+-- what a text configures, each key judged by itself; a text of more than 1,048,576 bytes is refused unread
 abbrev pub walk_of : List ℕ → Result Configuration ConfigRefusal
 walk_of text = if nat_lt LONGEST_CONFIGURATION (length text) then Err (nowhere TooMany) else walk_in (document_of text)
 
--- what a text configures, or its first refusal with the key at which it is: the walk over its keys, and then the judgement over the whole
+-- what a text configures, or its first refusal with the key at which it is: the walk over the keys, and then the judgement over the whole
+-- configuration
 abbrev pub placed_configuration_of : List ℕ → Result Configuration ConfigRefusal
 placed_configuration_of text = judged (walk_of text)
 

@@ -16,7 +16,7 @@ use Rattle.module_config.specs.Keys.{◌>>=◌, integer_at, natural_at, ticks_at
 use Rattle.module_config.specs.Order.{comes_before, begins_before}
 use Rattle.module_config.specs.Places.{at, each_under, item_in}
 
--- the next core of a partition's list: above those before it, and one that the module has
+-- the next core of a partition's list: above those before it, and one of the module's
 abbrev pub core_in : ℕ → ℕ → Data → Result ℕ ConfigFault
 core_in count least (integer (pos core)) = if nat_le least core && nat_lt core count then Ok core else Err OutOfRange
 core_in count least _ = Err OutOfRange
@@ -28,7 +28,7 @@ rising_cores count least (item value items) =
     core_in count least value >>= (λ core.
     rising_cores count (core + 1) items >>= (λ rest. Ok (core ∷ rest)))
 
--- the cores of a partition: a list of integers, of which there is one at least, rising, and each a core of the module
+-- the cores of a partition: a list of at least one integer, in rising order, each a core of the module
 abbrev pub cores_at : ℕ → Option Data → Result (List ℕ) ConfigFault
 cores_at count value = some_at of.Integer value >>= rising_cores count 0
 
@@ -36,7 +36,7 @@ cores_at count value = some_at of.Integer value >>= rising_cores count 0
 abbrev pub objects_at : Option Data → Result ℕ ConfigFault
 objects_at value = integer_at 0 MOST_OBJECTS value
 
--- what is read, put in an order
+-- what is read, put in order
 abbrev pub put_by : {A : Type 0} → (A → A → Bool) → Result (List A) ConfigRefusal → Result (List A) ConfigRefusal
 put_by precedes reading = reading >>= (λ all. Ok (in_order precedes [] all))
 
@@ -68,11 +68,11 @@ partition_by count own keys =
 abbrev pub partition_in : ℕ → ℕ → Data → Result PartitionLimits ConfigRefusal
 partition_in count index value = item_in key.Partition value >>= partition_by count (table.Item key.Partition index)
 
--- the partitions: a list of tables, of which there is one at least, put in the order of their numbers
+-- the partitions: a list of at least one table, put in the order of their numbers
 abbrev pub partitions_under : ℕ → Members → Result (List PartitionLimits) ConfigRefusal
 partitions_under count keys = put_by comes_before (at table.Module keys key.Partition (some_at of.Table) >>= each_item (partition_in count))
 
--- what the keys of a window's table configure: it ends within the major frame
+-- what the keys of a window's table configure; the window ends within the major frame
 abbrev pub window_by : ℕ → ℕ → ConfigTable → Members → Result Window ConfigRefusal
 window_by count frame own keys =
     at own keys key.Core (integer_at 0 (count - 1)) >>= (λ core.
@@ -85,11 +85,11 @@ window_by count frame own keys =
 abbrev pub window_in : ℕ → ℕ → ℕ → Data → Result Window ConfigRefusal
 window_in count frame index value = item_in key.Window value >>= window_by count frame (table.Item key.Window index)
 
--- the windows: a list of tables, put in the order of their cores and starts; without the key there is none
+-- the windows: a list of tables, put in the order of their cores and starts; there are none if the key is missing
 abbrev pub windows_under : ℕ → ℕ → Members → Result (List Window) ConfigRefusal
 windows_under count frame keys = put_by begins_before (each_under table.Module keys key.Window (window_in count frame))
 
--- what a table configures, each key judged by itself; the channels stand in the order of the text; keys of other names say nothing
+-- what a table configures, each key judged by itself; the channels are in the order of the text; keys of other names are ignored
 abbrev pub walk : Members → Result Configuration ConfigRefusal
 walk keys =
     at table.Module keys key.Cores (integer_at 1 MOST_CORES) >>= (λ cores.

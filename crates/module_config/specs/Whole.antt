@@ -19,7 +19,7 @@ has_many_ports configuration =
     are_too_many by.Partition MOST_PORTS (sampling_ends configuration.sampling)
     || are_too_many by.Partition MOST_PORTS (queuing_ends configuration.queuing)
 
--- more than 32 partitions, 4,096 windows, 256 channels or a partition's 64 ports of a kind
+-- more than 32 partitions, 4,096 windows or 256 channels, or more than 64 ports of a kind in a partition
 abbrev pub is_too_large : Configuration → Bool
 is_too_large configuration =
     nat_lt MOST_PARTITIONS (length configuration.partitions)
@@ -27,17 +27,17 @@ is_too_large configuration =
     || has_many_channels configuration
     || has_many_ports configuration
 
--- two of these items have one number
+-- two of these items have the same number
 abbrev pub has_number_twice : {Item : Type 0} → (Item → ℕ) → List Item → Bool
 has_number_twice number_of [] = false
 has_number_twice number_of (item ∷ items) =
     list_any (λ other. nat_eq (number_of other) (number_of item)) items || has_number_twice number_of items
 
--- two ends of channels are one port
+-- two ends of channels are the same port
 abbrev pub has_port_twice : Configuration → Bool
 has_port_twice configuration = are_too_many by.Port 1 (ends_of configuration.sampling configuration.queuing)
 
--- a partition's number, a channel's number or a partition's port name is given twice; of channels over both kinds
+-- a partition's number, a channel's number or a partition's port name is given twice; channels of both kinds share their numbers
 abbrev pub is_given_twice : Configuration → Bool
 is_given_twice configuration =
     has_number_twice (λ limits. limits.number) configuration.partitions
@@ -63,7 +63,7 @@ abbrev pub has_overlap : List Window → Bool
 has_overlap [] = false
 has_overlap (window ∷ windows) = list_any (shares_tick window) windows || has_overlap windows
 
--- the first refusal of a configuration whose parts do not go together, if there is one
+-- the first refusal of a configuration whose parts are not consistent, if there is one
 abbrev pub whole_fault : Configuration → Option ConfigFault
 whole_fault configuration =
     if is_too_large configuration then Some TooMany

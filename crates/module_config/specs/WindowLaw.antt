@@ -15,8 +15,8 @@ pub record HoldsTime (configuration : Configuration) (core time partition : ℕ)
 abbrev pub IsInWindow : Configuration → ℕ → ℕ → ℕ → Type 0
 IsInWindow configuration core time partition = (window : Window) × HoldsTime configuration core time partition window
 
--- where no two windows overlap, in whatever order they stand: the partition at a time is the one of which a window of the core holds
--- the time, and there is none exactly where no window of the core does
+-- if no two windows overlap, in whatever order they are listed: the partition at a time is the one for which a window of the core holds the
+-- time, and there is none exactly if no window of the core holds it
 abbrev pub WindowAtIsTheSentence : Type 0
 WindowAtIsTheSentence =
     (configuration : Configuration) (core time : ℕ) → has_overlap configuration.windows ≡ false

@@ -37,7 +37,7 @@ impl Config {
         self.numbers.binary_search(&chan.number()).is_ok()
     }
 
-    /// What is configured of the channel of this number, or None where there is none.
+    /// What is configured of the channel of this number, or None if there is none.
     pub fn channel_kind(&self, chan: ChanId) -> Option<ChannelKind>
         ensures { result ≡ kind_of self.now chan }
     {
@@ -63,7 +63,7 @@ impl Config {
         has_end(&self.layout.queuing, chan, part) || has_end(&self.layout.sampling, chan, part)
     }
 
-    /// What is configured of the sampling port that a partition has under this name, or None where it has none.
+    /// What is configured of the sampling port that a partition has under this name, or None if it has none.
     pub fn sampling_port(&self, part: PartId, name: &Name) -> Option<SamplingPort>
         ensures { option_map configured_sampling result ≡ sampling_port self.now part name.now }
     {
@@ -76,7 +76,7 @@ impl Config {
         })
     }
 
-    /// What is configured of the queuing port that a partition has under this name, or None where it has none.
+    /// What is configured of the queuing port that a partition has under this name, or None if it has none.
     pub fn queuing_port(&self, part: PartId, name: &Name) -> Option<QueuingPort>
         ensures { option_map configured_queuing result ≡ queuing_port self.now part name.now }
     {

@@ -32,8 +32,8 @@ use std::marker::Model;
 use toml::Table;
 use toml::de::Error;
 
-/// The configuration of a module: its cores, major frame and skew, its partitions and their windows, its channels and
-/// their numbers in rising order.
+/// The configuration of a module: its cores, major frame and skew, its partitions and windows, and its channels and their numbers in rising
+/// order.
 #[derive(Debug, Drop)]
 pub struct Config {
     pub(crate) layout: Layout,
@@ -56,10 +56,10 @@ impl Model for Config {
 }
 
 impl Config {
-    /// Reads the configuration that a text is, in TOML.
+    /// Reads the configuration that a TOML text gives.
     ///
-    /// Every fault but `Memory` is the first that the text has: a text above 1,048,576 bytes is `TooMany`, then comes
-    /// `NotToml`, then the keys in their order, then what is judged over the whole. Keys of other names are ignored.
+    /// Every fault but `Memory` is the first in the text: `TooMany` for a text above 1,048,576 bytes, then `NotToml`, then the keys in
+    /// their order, then what is judged over the whole configuration. Keys of other names are ignored.
     pub fn read(alloc: Global, text: &[u8]) -> Result<Config, ConfigFault>
         ensures value { Gives (λ config. config) result (configuration_of text.now) }
         ensures too_long { LONGEST_CONFIGURATION < length text.now → result ≡ Err TooMany }
@@ -71,11 +71,10 @@ impl Config {
         }
     }
 
-    /// Reads the configuration that a text is, as `read` does. A refusal says where it is, and what shows it.
+    /// Reads the configuration that a text gives, as `read` does. A refusal says where it is, and what shows it.
     ///
-    /// The refusal is the one of `read`. Its place is a key where the fault is `Missing`, `WrongType` or `OutOfRange`: the
-    /// first that is refused, in the order in which docs/FORMATS.md lists the keys. It has a misfit where the fault is judged
-    /// over the whole.
+    /// The refusal is that of `read`. For `Missing`, `WrongType` and `OutOfRange` it has a key: the first that is refused, in the order in
+    /// which docs/FORMATS.md lists the keys. For a fault that is judged over the whole configuration it has a misfit.
     pub fn read_explained(alloc: Global, text: &[u8]) -> Result<Config, ExplainedRefusal>
         ensures value { GivesPlaced (λ config. config) (without_misfit result) (placed_configuration_of text.now) }
         ensures too_long { LONGEST_CONFIGURATION < length text.now → result ≡ Err (unexplained (nowhere TooMany)) }
@@ -91,7 +90,7 @@ impl Config {
         }
     }
 
-    // The configuration that a table is.
+    // The configuration that a table gives.
     fn from_table(alloc: Global, keys: &Table) -> Result<Config, ExplainedRefusal>
         ensures value { GivesPlaced (λ config. config) (without_misfit result) (judged (walk (table_view keys.now))) }
         ensures refused { IfErr (walk (table_view keys.now)) (λ refusal. result ≡ Err (unexplained refusal)) }
@@ -102,7 +101,7 @@ impl Config {
         Config::from_layout(layout)
     }
 
-    // The configuration that a layout is, where its parts go together.
+    // The configuration that a layout gives, if its parts are consistent.
     fn from_layout(layout: Layout) -> Result<Config, ExplainedRefusal>
         requires limits { IsWithinLimits (laid_out layout) }
         requires ordered { IsOrdered layout.partitions.items }
@@ -122,9 +121,9 @@ impl Config {
         Ok(Config { layout, numbers })
     }
 
-    /// Tells what every configuration keeps: its limits; partitions in rising order, windows of configured partitions
-    /// that share no tick; so that each window is a configured partition's, and each core of a partition one of the
-    /// module's; no partition at both ends of a queuing channel. Does nothing.
+    /// States what every configuration satisfies: its limits; partitions in rising order; windows of configured partitions that share no
+    /// tick, so that each window is of a configured partition; each core of a partition is one of the module's; no partition is at both
+    /// ends of a queuing channel. Does nothing.
     pub fn keeps_limits(&self)
         ensures limits { IsWithinLimits self.now }
         ensures consistent { IsConsistent self.now }
@@ -170,10 +169,10 @@ impl Config {
         self.window_near(0, core, time)
     }
 
-    /// The partition whose window of a core holds a time, if there is one, as `window_at` answers it.
+    /// The partition whose window of a core holds a time, if there is one, as `window_at` answers.
     ///
-    /// The guess is how many windows have begun then, as `windows_begun` counts them. No guess changes the answer; one that
-    /// is right, or one too small, spares the search.
+    /// The guess is how many windows have begun by then, as `windows_begun` counts them. No guess changes the answer. A guess that is
+    /// right, or one too small, saves the search.
     pub fn window_near(&self, guess: usize, core: CoreId, time: u64) -> Option<PartId>
         ensures value { result ≡ window_at self.now core time }
         ensures configured { IfSome result (λ part. has_partition self.now part ≡ true) }
@@ -183,7 +182,7 @@ impl Config {
 
     /// How many windows are of earlier cores, or have begun on this core by a time of the major frame.
     ///
-    /// No guess changes the answer; one that is right, or one too small, spares the search.
+    /// No guess changes the answer. A guess that is right, or one too small, saves the search.
     pub fn windows_begun(&self, guess: usize, core: CoreId, time: u64) -> usize
         ensures { result ≡ windows_begun self.now core time }
     {
@@ -230,7 +229,7 @@ impl Config {
         self.partition(part).is_some()
     }
 
-    /// The first core of a partition, and core 0 where none of this number is configured.
+    /// The first core of a partition, or core 0 if no partition of this number is configured.
     pub fn first_core(&self, part: PartId) -> CoreId
         ensures value { result ≡ first_core self.now part }
         ensures below { result < self.now.cores }
@@ -241,8 +240,7 @@ impl Config {
         }
     }
 
-    /// Whether a number that a caller gives is one of a partition's cores; none is where no partition of this number is
-    /// configured.
+    /// Whether a number that a caller gives is one of a partition's cores; false if no partition of this number is configured.
     pub fn has_core(&self, part: PartId, given: i64) -> bool
         ensures { result ≡ is_core self.now part given }
     {
@@ -250,7 +248,7 @@ impl Config {
             .is_some_and(|limits| given >= 0 && limits.cores.contains(given as u64))
     }
 
-    /// How many processes a partition may create, and 0 where none of this number is configured.
+    /// How many processes a partition may create, or 0 if none of this number is configured.
     pub fn process_limit(&self, part: PartId) -> u32
         ensures value { result ≡ process_limit self.now part }
         ensures most { result ≤ MOST_PROCESSES }
@@ -258,42 +256,42 @@ impl Config {
         self.partition(part).map_or(0, |limits| limits.processes)
     }
 
-    /// How many buffers a partition may create, and 0 where none of this number is configured.
+    /// How many buffers a partition may create, or 0 if none of this number is configured.
     pub fn buffer_limit(&self, part: PartId) -> u32
         ensures { result ≡ object_limit self.now (λ (limits : PartitionLimits). limits.buffers) part }
     {
         self.partition(part).map_or(0, |limits| limits.buffers)
     }
 
-    /// How many blackboards a partition may create, and 0 where none of this number is configured.
+    /// How many blackboards a partition may create, or 0 if none of this number is configured.
     pub fn blackboard_limit(&self, part: PartId) -> u32
         ensures { result ≡ object_limit self.now (λ (limits : PartitionLimits). limits.blackboards) part }
     {
         self.partition(part).map_or(0, |limits| limits.blackboards)
     }
 
-    /// How many semaphores a partition may create, and 0 where none of this number is configured.
+    /// How many semaphores a partition may create, or 0 if none of this number is configured.
     pub fn semaphore_limit(&self, part: PartId) -> u32
         ensures { result ≡ object_limit self.now (λ (limits : PartitionLimits). limits.semaphores) part }
     {
         self.partition(part).map_or(0, |limits| limits.semaphores)
     }
 
-    /// How many events a partition may create, and 0 where none of this number is configured.
+    /// How many events a partition may create, or 0 if none of this number is configured.
     pub fn event_limit(&self, part: PartId) -> u32
         ensures { result ≡ object_limit self.now (λ (limits : PartitionLimits). limits.events) part }
     {
         self.partition(part).map_or(0, |limits| limits.events)
     }
 
-    /// How many mutexes a partition may create, and 0 where none of this number is configured.
+    /// How many mutexes a partition may create, or 0 if none of this number is configured.
     pub fn mutex_limit(&self, part: PartId) -> u32
         ensures { result ≡ object_limit self.now (λ (limits : PartitionLimits). limits.mutexes) part }
     {
         self.partition(part).map_or(0, |limits| limits.mutexes)
     }
 
-    /// The period of a partition in ticks, and 1 where none of this number is configured.
+    /// The period of a partition in ticks, or 1 if none of this number is configured.
     pub fn period(&self, part: PartId) -> u64
         ensures value { result ≡ period_of self.now part }
         ensures least { 1 ≤ result }
@@ -303,7 +301,7 @@ impl Config {
     }
 }
 
-// Why a text was not read as a table.
+// Why a text is not a table.
 fn text_fault(fault: &Error) -> ConfigFault
     ensures memory { (result ≡ Memory) ↔ IsMemory fault.now }
     ensures not_toml { (result ≡ NotToml) ↔ (¬ IsMemory fault.now) }

@@ -31,7 +31,7 @@ pub(crate) trait ConfiguredChannel {
         ensures most { length result.now ≤ MOST_DESTINATIONS };
 }
 
-// How many ends of a channel are alike an end.
+// How many ends of a channel are alike this one.
 fn count_of<Channel: ConfiguredChannel>(
     channel: &Channel,
     likeness: Likeness,
@@ -48,7 +48,7 @@ fn count_of<Channel: ConfiguredChannel>(
     }
 }
 
-/// How many ends of these channels are alike an end.
+/// How many ends of these channels are alike this one.
 pub(crate) fn count_alike<Channel: ConfiguredChannel>(
     channels: &[Channel],
     likeness: Likeness,

@@ -40,7 +40,7 @@ fn put_numbers<Channel: Numbered>(numbers: &mut ArrayVec<u16, MOST_CHANNELS>, ch
     }
 }
 
-/// How many ends of some channels may be alike.
+/// How many ends of some channels may be alike, and in what.
 #[derive(Clone, Copy)]
 pub(crate) struct EndCount<'a> {
     pub(crate) sampling: &'a [SampledChannel],
@@ -50,7 +50,7 @@ pub(crate) struct EndCount<'a> {
 }
 
 impl<'a> EndCount<'a> {
-    /// The first end that has more alike it, itself among them, if there is one.
+    /// The first end that has more than `most` ends alike it, itself among them, if there is one.
     pub(crate) fn find_exceeded(&self) -> Option<&'a PortEnd>
         requires { length self.now.sampling.now + length self.now.queuing.now ≤ MOST_CHANNELS }
         ensures { option_map (λ end. end.now) result ≡ find (is_exceeded self.now.likeness self.now.most (ends_of self.now.sampling.now self.now.queuing.now)) (ends_of self.now.sampling.now self.now.queuing.now) }
@@ -61,7 +61,7 @@ impl<'a> EndCount<'a> {
         }
     }
 
-    // The first end of these channels that has more alike it, if there is one.
+    // The first end of these channels that has more than `most` ends alike it, if there is one.
     fn find_exceeded_in<Channel: ConfiguredChannel>(
         &self,
         channels: &'a [Channel],
@@ -77,7 +77,7 @@ impl<'a> EndCount<'a> {
         None
     }
 
-    // The first end of a channel that has more alike it, if there is one.
+    // The first end of a channel that has more than `most` ends alike it, if there is one.
     fn find_exceeded_of<Channel: ConfiguredChannel>(
         &self,
         channel: &'a Channel,
@@ -91,7 +91,7 @@ impl<'a> EndCount<'a> {
         self.find_exceeded_among(channel.destinations())
     }
 
-    // The first of these ends that has more alike it, if there is one.
+    // The first of these ends that has more than `most` ends alike it, if there is one.
     fn find_exceeded_among(&self, ends: &'a [PortEnd]) -> Option<&'a PortEnd>
         requires { length self.now.sampling.now + length self.now.queuing.now ≤ MOST_CHANNELS }
         ensures { option_map (λ end. end.now) result ≡ find (is_exceeded self.now.likeness self.now.most (ends_of self.now.sampling.now self.now.queuing.now)) ends.now }
@@ -99,7 +99,7 @@ impl<'a> EndCount<'a> {
         ends.iter().find(|end| self.is_exceeded_at(end))
     }
 
-    // Whether an end has more alike it.
+    // Whether an end has more than `most` ends alike it.
     fn is_exceeded_at(&self, end: &PortEnd) -> bool
         requires { length self.now.sampling.now + length self.now.queuing.now ≤ MOST_CHANNELS }
         ensures { result ≡ is_exceeded self.now.likeness self.now.most (ends_of self.now.sampling.now self.now.queuing.now) end.now }

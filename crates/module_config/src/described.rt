@@ -16,14 +16,14 @@ use crate::refusal::ConfigRefusal;
 use std::alloc::Global;
 use toml::Value;
 
-/// How many cores a module has, and how many ticks its major frame.
+/// How many cores a module has, and how many ticks its major frame has.
 #[derive(Clone, Copy)]
 pub(crate) struct ModuleSize {
     pub(crate) cores: u8,
     pub(crate) frame: u64,
 }
 
-/// What a table describes, in a module of a size.
+/// What a table describes, in a module of this size.
 pub(crate) trait Described: Drop {
     // What the value at an index of the list describes, or why and where it describes nothing.
     ghost described: { Size → ℕ → Data → Result Self Refusal };
@@ -38,7 +38,7 @@ pub(crate) trait Described: Drop {
         ensures limits { IfOk result (keeps size) };
 }
 
-/// The items of the list of tables under a key. Each is described as it must be; there is none without the key.
+/// The items of the list of tables under a key, each of which is well described. There are none if the key is missing.
 pub(crate) fn items_under<'a, Item: Described>(
     keys: &PlacedKeys<'a>,
     key: ConfigKey,
@@ -54,7 +54,7 @@ pub(crate) fn items_under<'a, Item: Described>(
     Ok(items)
 }
 
-/// Refuses the first item that is not described as it must be.
+/// Refuses the first item that is not well described.
 pub(crate) fn judge<Item: Described>(items: &[Value], size: ModuleSize) -> Result<(), ConfigRefusal>
     requires { IsSize size }
     ensures { result_err result ≡ result_err (each_item (Item.described size) (items_view items.now)) }

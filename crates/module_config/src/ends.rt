@@ -23,7 +23,7 @@ use arrayvec::ArrayVec;
 use std::marker::Model;
 use toml::{Table, Value};
 
-/// In what two ends are alike: they are of one partition, or they are one port of it.
+/// In what two ends are alike: they are of the same partition, or they are the same port of it.
 #[derive(Clone, Copy)]
 pub(crate) enum Likeness {
     Partition,
@@ -45,7 +45,7 @@ impl Model for PortEnd {
     ghost view = { λ place. record { partition = place.partition; port = place.port.items } };
 }
 
-// What is in the places of a list of ends that are not in use.
+// The value at places of a list of ends that are not in use.
 impl Default for PortEnd {
     fn default() -> PortEnd {
         PortEnd {
@@ -75,7 +75,7 @@ impl PortEnd {
         })
     }
 
-    // Reads the destination at an index of those of a sampling channel.
+    // Reads one destination of a sampling channel, by its index.
     fn read_destination(
         value: &Value,
         channel: usize,
@@ -149,7 +149,7 @@ impl PortEnd {
             .count()
     }
 
-    /// Whether a channel from this end may go to another: to another partition, which is configured.
+    /// Whether a channel from this end may go to another: the other end is of another partition, which is configured.
     pub(crate) fn goes_to(&self, partitions: &[Partition], other: &PortEnd) -> bool
         ensures { result ≡ goes_to partitions.now self.now other.now }
     {

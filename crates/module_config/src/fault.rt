@@ -1,4 +1,4 @@
-// Why a text is no configuration.
+// Why a text is not a configuration.
 
 ghost use Rattle.std.specs.Prelude.{◌≡◌, ◌↔◌, IsTrue};
 ghost use Rattle.module_config.specs.declared.fault.ConfigFault.TheVariants.{Memory};
@@ -6,46 +6,46 @@ ghost use Rattle.module_config.specs.declared.fault.ConfigFault.TheVariants.{Mem
 use std::alloc::AllocFailed;
 use thiserror::Error;
 
-/// Why a text is no configuration that this checker serves.
+/// Why a text is not a configuration that this checker accepts.
 ///
-/// Under a key `Missing` comes before `WrongType`, and that before `OutOfRange`. The variants from `TooMany` to
-/// `ChannelEnds` are judged over the whole, once each key has been read; a text that is too long is `TooMany` at once.
+/// Under a key, `Missing` comes before `WrongType`, and that before `OutOfRange`. The variants from `TooMany` to `ChannelEnds` are judged
+/// over the whole configuration, once each key has been read; but a text that is too long is `TooMany` at once.
 #[derive(Clone, Copy, Debug, Drop, PartialEq, Eq, Error)]
 pub enum ConfigFault {
     /// The text is not UTF-8 or not TOML.
     #[error("the text is not TOML")]
     NotToml,
-    /// A key that must be there is not.
+    /// A required key is missing.
     #[error("a key is missing")]
     Missing,
-    /// A value is of another type than its key has.
+    /// The value of a key has the wrong type.
     #[error("a value has the wrong type")]
     WrongType,
-    /// A value of the right type is not one that its key may have.
+    /// A value of the right type is not one that its key allows.
     #[error("a value is out of range")]
     OutOfRange,
-    /// There is more of something than the checker serves: bytes of text, partitions, windows, channels or ports.
-    #[error("there is more than is served")]
+    /// There is more of something than the checker accepts: bytes of text, partitions, windows, channels or ports.
+    #[error("a limit is exceeded")]
     TooMany,
-    /// Two partitions have one number, or two channels of whatever kind, or a partition has two ports of one name.
-    #[error("a number is given twice")]
+    /// Two partitions have the same number, or two channels of either kind, or a partition has two ports of the same name.
+    #[error("a number or a port is given twice")]
     Duplicate,
     /// A window's partition is not configured, or does not have the window's core.
-    #[error("a window's core is not one of its partition's")]
+    #[error("a window's partition is not configured, or does not have the window's core")]
     CoreNotOfPartition,
     /// Two windows of one core have a tick in common.
     #[error("two windows of a core overlap")]
     Overlap,
-    /// A channel has an end in a partition that is not configured, or its source and a destination in one partition.
-    #[error("a channel does not join two partitions")]
+    /// An end of a channel is in a partition that is not configured, or the source and a destination are in the same partition.
+    #[error("a channel does not join different configured partitions")]
     ChannelEnds,
-    /// There is no memory left.
+    /// Memory ran out.
     #[error("out of memory")]
     Memory,
 }
 
 impl ConfigFault {
-    /// Whether memory ran out, which says nothing of the text.
+    /// Whether memory ran out, which says nothing about the text.
     pub fn is_memory(&self) -> bool
         ensures { IsTrue result ↔ (self.now ≡ Memory) }
     {

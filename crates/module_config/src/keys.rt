@@ -21,14 +21,14 @@ pub(crate) fn member<'a>(table: &'a Table, key: &str) -> Option<&'a Value>
     table.get(key)
 }
 
-// The value under a key, which must be there.
+// The value under a required key.
 fn required<'a>(table: &'a Table, key: &str) -> Result<&'a Value, ConfigFault>
     ensures { Reads (λ value. view value.now) result (required (get_member key.now (table_view table.now))) }
 {
     member(table, key).ok_or(ConfigFault::Missing)
 }
 
-/// The number under a key, which must be there and not be negative.
+/// The number under a required key, which must not be negative.
 pub(crate) fn natural(table: &Table, key: &str) -> Result<u64, ConfigFault>
     ensures { result ≡ natural_at (get_member key.now (table_view table.now)) }
 {
@@ -41,7 +41,7 @@ pub(crate) fn natural(table: &Table, key: &str) -> Result<u64, ConfigFault>
     Ok(number as u64)
 }
 
-/// The number under a key, which must be there and be from `least` to `most`.
+/// The number under a required key, which must be from `least` to `most`.
 pub(crate) fn integer(table: &Table, key: &str, least: u64, most: u64) -> Result<u64, ConfigFault>
     ensures value { result ≡ integer_at least most (get_member key.now (table_view table.now)) }
     ensures least { IfOk result (λ number. least ≤ number) }
@@ -54,7 +54,7 @@ pub(crate) fn integer(table: &Table, key: &str, least: u64, most: u64) -> Result
     Ok(number)
 }
 
-/// The number of ticks under a key, which must be there and be from 1 to 4,294,967,295.
+/// The number of ticks under a required key, which must be from 1 to 4,294,967,295.
 pub(crate) fn ticks(table: &Table, key: &str) -> Result<u64, ConfigFault>
     ensures value { result ≡ ticks_at (get_member key.now (table_view table.now)) }
     ensures least { IfOk result (λ number. 1 ≤ number) }
@@ -71,7 +71,7 @@ pub(crate) fn objects(table: &Table, key: &str) -> Result<u32, ConfigFault>
     Ok(number as u32)
 }
 
-// The string under a key, which must be there.
+// The string under a required key.
 fn text<'a>(table: &'a Table, key: &str) -> Result<&'a str, ConfigFault>
     ensures { Reads (λ text. text.now) result (text_at (get_member key.now (table_view table.now))) }
 {
@@ -81,7 +81,7 @@ fn text<'a>(table: &'a Table, key: &str) -> Result<&'a str, ConfigFault>
     }
 }
 
-/// The name under a key, which must be there and have 1 to 32 bytes, all printable ASCII.
+/// The name under a required key, which must have 1 to 32 bytes, all printable ASCII.
 pub(crate) fn name(table: &Table, key: &str) -> Result<ArrayVec<u8, LONGEST_NAME>, ConfigFault>
     ensures { Reads (λ name. name.items) result (name_at (get_member key.now (table_view table.now))) }
 {
@@ -107,7 +107,7 @@ fn are_printable(bytes: &[u8]) -> bool
     bytes.iter().all(|byte| 0x20 <= *byte && *byte <= 0x7E)
 }
 
-/// A copy of 32 bytes at most.
+/// A copy of at most 32 bytes.
 pub(crate) fn short_bytes(bytes: &[u8]) -> ArrayVec<u8, LONGEST_NAME>
     requires { length bytes.now ≤ LONGEST_NAME }
     ensures { result.items ≡ bytes.now }
@@ -119,7 +119,7 @@ pub(crate) fn short_bytes(bytes: &[u8]) -> ArrayVec<u8, LONGEST_NAME>
     copy
 }
 
-/// The discipline under a key, which must be there and be "FIFO" or "PRIORITY".
+/// The discipline under a required key, which must be "FIFO" or "PRIORITY".
 pub(crate) fn discipline(table: &Table, key: &str) -> Result<Discipline, ConfigFault>
     ensures { result ≡ discipline_at (get_member key.now (table_view table.now)) }
 {
@@ -140,14 +140,14 @@ pub(crate) fn table<'a>(value: &'a Value) -> Result<&'a Table, ConfigFault>
     value.as_table().ok_or(ConfigFault::WrongType)
 }
 
-/// The table under a key, which must be there.
+/// The table under a required key.
 pub(crate) fn table_under<'a>(keys: &'a Table, key: &str) -> Result<&'a Table, ConfigFault>
     ensures { Reads (λ found. table_view found.now) result (table_at (get_member key.now (table_view keys.now))) }
 {
     table(required(keys, key)?)
 }
 
-/// Of what type the items of a list are.
+/// The type of the items of a list.
 #[derive(Clone, Copy)]
 pub(crate) enum ItemType {
     Integer,
@@ -168,7 +168,7 @@ pub(crate) fn list<'a>(value: &'a Value, item_type: ItemType) -> Result<&'a [Val
     Ok(items)
 }
 
-/// The items of the list under a key, which must be there: one at least, each of this type.
+/// The items of the list under a required key: at least one, each of this type.
 pub(crate) fn some_items<'a>(
     table: &'a Table,
     key: &str,
@@ -184,7 +184,7 @@ pub(crate) fn some_items<'a>(
     Ok(items)
 }
 
-/// The items of the list of tables under a key; there is none without the key.
+/// The items of the list of tables under a key; there are none if the key is missing.
 pub(crate) fn tables_under<'a>(table: &'a Table, key: &str) -> Result<&'a [Value], ConfigFault>
     ensures { Reads (λ items. items_view items.now) result (tables_at (get_member key.now (table_view table.now))) }
 {

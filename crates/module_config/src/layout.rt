@@ -36,7 +36,7 @@ pub(crate) struct Layout {
     pub(crate) queuing: Vec<QueuedChannel>,
 }
 
-/// Reads what a table configures: each key is judged, in turn, before memory is asked for.
+/// Reads what a table configures. Each key is judged, in turn, before memory is requested.
 pub(crate) fn read_layout(alloc: Global, keys: &Table) -> Result<Layout, ConfigRefusal>
     ensures value { GivesPlaced laid_out result (walk (table_view keys.now)) }
     ensures refused { IfErr (walk (table_view keys.now)) (λ refusal. result ≡ Err refusal) }
@@ -72,7 +72,7 @@ pub(crate) fn read_layout(alloc: Global, keys: &Table) -> Result<Layout, ConfigR
     })
 }
 
-// The items of the list of partitions. There is one at least, and each describes a partition.
+// The items of the list of partitions. There is at least one, and each describes a partition.
 fn partition_items<'a>(
     keys: &PlacedKeys<'a>,
     size: ModuleSize,

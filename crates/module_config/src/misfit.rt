@@ -1,4 +1,4 @@
-// Why the parts of a configuration do not go together.
+// Why the parts of a configuration are not consistent.
 
 ghost use Rattle.std.specs.Prelude.{◌≡◌};
 ghost use Rattle.module_config.specs.Misfits.{fault_of};
@@ -8,7 +8,7 @@ use apex_types::limits::LONGEST_NAME;
 use apex_types::{ChanId, CoreId, PartId};
 use arrayvec::ArrayVec;
 
-/// What shows that the parts of a configuration do not go together, each of whose keys is right by itself.
+/// What shows that the parts of a configuration are not consistent, although each of its keys is right by itself.
 #[derive(Debug, Drop)]
 pub enum Misfit {
     /// There are more partitions than a module may have: `TooMany`.
@@ -17,9 +17,9 @@ pub enum Misfit {
     Windows,
     /// There are more channels, of both kinds together, than a module may have: `TooMany`.
     Channels,
-    /// More sampling ports are of this partition than it may have: `TooMany`.
+    /// This partition has more sampling ports than it may have: `TooMany`.
     SamplingPorts(PartId),
-    /// More queuing ports are of this partition than it may have: `TooMany`.
+    /// This partition has more queuing ports than it may have: `TooMany`.
     QueuingPorts(PartId),
     /// This number is given to two partitions: `Duplicate`.
     PartitionTwice(PartId),

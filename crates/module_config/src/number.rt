@@ -23,14 +23,14 @@ impl Numbered for u16 {
     }
 }
 
-/// The first of this number, if there is one.
+/// The first item with this number, if there is one.
 pub(crate) fn find<Item: Numbered>(items: &[Item], number: u16) -> Option<&Item>
     ensures { option_map (λ found. found.now) result ≡ numbered Item.number_of number items.now }
 {
     items.iter().find(|item| item.number() == number)
 }
 
-/// The index of the first of a number above this one, or of the end.
+/// The index of the first item whose number is above this one, or the index of the end.
 pub(crate) fn place_among<Item: Numbered>(items: &[Item], number: u16) -> usize
     ensures value { result ≡ position_or_len (λ item. nat_lt number (Item.number_of item)) items.now }
     ensures within { result ≤ length items.now }
@@ -43,7 +43,7 @@ pub(crate) fn place_among<Item: Numbered>(items: &[Item], number: u16) -> usize
     items.len()
 }
 
-/// The first that has the number of one after it, if two have one number.
+/// The first item whose number another item after it has, if there is one.
 pub(crate) fn find_twice<Item: Numbered>(items: &[Item]) -> Option<&Item>
     ensures found { is_some result ≡ has_number_twice Item.number_of items.now }
     ensures twice { IfSome result (λ item. 1 < count_by (λ other. nat_eq (Item.number_of other) (Item.number_of item.now)) items.now) }
@@ -56,7 +56,7 @@ pub(crate) fn find_twice<Item: Numbered>(items: &[Item]) -> Option<&Item>
     None
 }
 
-// Whether one has this number.
+// Whether an item has this number.
 fn has_number<Item: Numbered>(items: &[Item], number: u16) -> bool
     ensures { result ≡ list_any (λ item. nat_eq (Item.number_of item) number) items.now }
 {

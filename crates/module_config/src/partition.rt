@@ -11,7 +11,7 @@ use apex_types::limits::{GREATEST_PARTITION, MOST_PROCESSES};
 use std::marker::Model;
 use toml::Value;
 
-/// A partition: its number, period and cores, and how many of each kind it may create.
+/// A partition: its number, period and cores, and how many processes and objects of each kind it may create.
 #[derive(Debug, Drop)]
 pub(crate) struct Partition {
     pub(crate) number: PartId,

@@ -79,7 +79,7 @@ impl ConfigKey {
     }
 }
 
-/// A table of a configuration, by the lists that lead to it. Each index is from 0, in the order of the text.
+/// A table of a configuration, by the lists that lead to it. Each index counts from 0, in the order of the text.
 #[derive(Clone, Copy, Debug, PartialEq, Eq)]
 pub enum ConfigTable {
     /// The table of the module, which is the whole text.

@@ -1,4 +1,4 @@
-// The keys of a table with the table's place, so that a refusal tells its key.
+// The keys of a table with the table's place, so that a refusal names its key.
 
 ghost use Rattle.std.specs.Prelude.{◌≡◌, ◌≤◌, IfOk, length};
 ghost use Rattle.toml.specs.View.{view, table_view, items_view};
@@ -51,14 +51,14 @@ pub(crate) fn item<'a>(list: ConfigKey, value: &'a Value) -> Result<&'a Table, C
 }
 
 impl<'a> PlacedKeys<'a> {
-    /// The number under a key, which must be there and not be negative.
+    /// The number under a required key, which must not be negative.
     pub(crate) fn natural(&self, key: ConfigKey) -> Result<u64, ConfigRefusal>
         ensures { result ≡ at self.now.table (table_view self.now.keys.now) key natural_at }
     {
         placed(self.table, key, natural(self.keys, key.text()))
     }
 
-    /// The number under a key, which must be there and be from `least` to `most`.
+    /// The number under a required key, which must be from `least` to `most`.
     pub(crate) fn integer(
         &self,
         key: ConfigKey,
@@ -72,7 +72,7 @@ impl<'a> PlacedKeys<'a> {
         placed(self.table, key, integer(self.keys, key.text(), least, most))
     }
 
-    /// The number of ticks under a key, which must be there and be from 1 to 4,294,967,295.
+    /// The number of ticks under a required key, which must be from 1 to 4,294,967,295.
     pub(crate) fn ticks(&self, key: ConfigKey) -> Result<u64, ConfigRefusal>
         ensures value { result ≡ at self.now.table (table_view self.now.keys.now) key ticks_at }
         ensures least { IfOk result (λ number. 1 ≤ number) }
@@ -88,28 +88,28 @@ impl<'a> PlacedKeys<'a> {
         placed(self.table, key, objects(self.keys, key.text()))
     }
 
-    /// The name under a key, which must be there and have 1 to 32 bytes, all printable ASCII.
+    /// The name under a required key, which must have 1 to 32 bytes, all printable ASCII.
     pub(crate) fn name(&self, key: ConfigKey) -> Result<ArrayVec<u8, LONGEST_NAME>, ConfigRefusal>
         ensures { Reads (λ name. name.items) result (at self.now.table (table_view self.now.keys.now) key name_at) }
     {
         placed(self.table, key, name(self.keys, key.text()))
     }
 
-    /// The discipline under a key, which must be there and be "FIFO" or "PRIORITY".
+    /// The discipline under a required key, which must be "FIFO" or "PRIORITY".
     pub(crate) fn discipline(&self, key: ConfigKey) -> Result<Discipline, ConfigRefusal>
         ensures { result ≡ at self.now.table (table_view self.now.keys.now) key discipline_at }
     {
         placed(self.table, key, discipline(self.keys, key.text()))
     }
 
-    /// The table under a key, which must be there.
+    /// The table under a required key.
     pub(crate) fn table(&self, key: ConfigKey) -> Result<&'a Table, ConfigRefusal>
         ensures { Reads (λ keys. table_view keys.now) result (at self.now.table (table_view self.now.keys.now) key table_at) }
     {
         placed(self.table, key, table_under(self.keys, key.text()))
     }
 
-    /// The items of the list under a key, which must be there: one at least, each of this type.
+    /// The items of the list under a required key: at least one, each of this type.
     pub(crate) fn some_items(
         &self,
         key: ConfigKey,
@@ -125,7 +125,7 @@ impl<'a> PlacedKeys<'a> {
         )
     }
 
-    /// The items of the list of tables under a key; there is none without the key.
+    /// The items of the list of tables under a key; there are none if the key is missing.
     pub(crate) fn tables(&self, key: ConfigKey) -> Result<&'a [Value], ConfigRefusal>
         ensures { Reads (λ items. items_view items.now) result (at self.now.table (table_view self.now.keys.now) key tables_at) }
     {

@@ -1,4 +1,4 @@
-// What is configured of ports and of channels, as their users get it.
+// What is configured of ports and of channels, as their users see it.
 
 use apex_machine::Direction;
 use apex_types::{ChanId, Discipline, PartId};
@@ -13,8 +13,8 @@ pub struct SamplingPort {
     pub refresh: u64,
 }
 
-/// What is configured of a queuing port: its channel, the greatest size of its messages in bytes, how many messages the
-/// channel holds, its direction, and the discipline of those who wait at it.
+/// What is configured of a queuing port: its channel, the greatest size of its messages in bytes, how many messages the channel holds, its
+/// direction, and the discipline of the processes that wait at it.
 #[derive(Clone, Copy, Debug, PartialEq, Eq)]
 pub struct QueuingPort {
     pub channel: ChanId,
@@ -31,7 +31,7 @@ pub enum ChannelKind {
     Sampling {
         refresh: u64,
     },
-    /// How many messages it holds, the disciplines of those who wait to send and to receive, and the partitions at its two ends.
+    /// How many messages it holds, the disciplines of the processes that wait to send and to receive, and the partitions at its two ends.
     Queuing {
         capacity: u16,
         sending: Discipline,

@@ -8,10 +8,10 @@ use crate::misfit::Misfit;
 use crate::place::ConfigPlace;
 use std::alloc::AllocFailed;
 
-/// Why a text is no configuration, and where.
+/// Why and where a text is not a configuration.
 ///
-/// `place` is the key at which the walk over the keys ends: the key that is missing, whose value has the wrong type, or
-/// whose value is out of range. It is None for each other fault: no single key has it.
+/// `place` is the key at which the walk over the keys ends: the key is missing, its value has the wrong type, or its value is out of range.
+/// It is None for every other fault, which no single key has.
 #[derive(Clone, Copy, Debug, Drop, PartialEq, Eq)]
 pub struct ConfigRefusal {
     pub fault: ConfigFault,
@@ -41,8 +41,8 @@ impl<T: Drop> From<AllocFailed<T>> for ConfigRefusal {
 
 /// A refusal of a configuration, with what shows it.
 ///
-/// The misfit is there where each key is right by itself and the parts do not go together: the faults from `TooMany` to
-/// `ChannelEnds`, of a text that is not too long.
+/// There is a misfit if each key is right by itself and the parts are not consistent: for the faults from `TooMany` to `ChannelEnds`, of a
+/// text that is not too long.
 #[derive(Debug, Drop)]
 pub struct ExplainedRefusal {
     pub refusal: ConfigRefusal,

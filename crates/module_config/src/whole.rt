@@ -22,7 +22,7 @@ use crate::window::TimeWindow;
 use apex_types::limits::{MOST_CHANNELS, MOST_PARTITIONS, MOST_PORTS, MOST_WINDOWS};
 use apex_types::{ChanId, PartId};
 
-/// A misfit that shows the first refusal over the whole of a layout, if its parts do not go together.
+/// A misfit that shows the first refusal over the whole of a layout, if its parts are not consistent.
 pub(crate) fn find_misfit(layout: &Layout) -> Option<Misfit>
     requires by_start { AllPairs BeginsNoLater layout.now.windows.items }
     requires some_tick { All HasTick layout.now.windows.items }
@@ -124,7 +124,7 @@ fn find_repeated_port(layout: &Layout) -> Option<Misfit>
     })
 }
 
-// A window whose core is none of its partition's cores.
+// A window whose core is not one of its partition's.
 fn find_stray_window(layout: &Layout) -> Option<Misfit>
     ensures { Finds (laid_out layout.now) CoreNotOfPartition (not (are_of_partitions (laid_out layout.now).partitions (laid_out layout.now).windows)) result }
 {
@@ -136,7 +136,7 @@ fn find_stray_window(layout: &Layout) -> Option<Misfit>
     })
 }
 
-// The first window whose core is none of its partition's cores, if there is one.
+// The first window whose core is not one of its partition's, if there is one.
 fn stray_window<'a>(partitions: &[Partition], windows: &'a [TimeWindow]) -> Option<&'a TimeWindow>
     ensures { option_map (λ window. window.now) result ≡ find (λ window. not (is_of_partition partitions.now window)) windows.now }
 {
@@ -177,7 +177,7 @@ pub(crate) fn find_partition(partitions: &[Partition], number: PartId) -> Option
     find_numbered(partitions, u16::from(number.number()))
 }
 
-// Whether a window's partition is there and has the window's core.
+// Whether a window's partition is configured and has the window's core.
 fn is_of_partition(partitions: &[Partition], window: &TimeWindow) -> bool
     ensures { result ≡ is_of_partition partitions.now window.now }
 {

@@ -17,7 +17,7 @@ use std::alloc::{AllocError, Global};
 use std::marker::Model;
 use wait_set::{Actor, ApexObject, Given, Named, Owners, WaitSet};
 
-/// A mutex: its priority, the process that owns it, how often its owner has acquired it, and those that wait.
+/// A mutex: its priority, the process that owns it, how often its owner has acquired it, and the processes that wait.
 #[derive(Drop)]
 pub struct Mutex653 {
     name: Name,
@@ -36,7 +36,7 @@ impl Model for Mutex653 {
 }
 
 impl Mutex653 {
-    /// The mutex of this priority that is free, and for which nobody waits. Takes no memory.
+    /// The free mutex of this priority, for which no process waits. Takes no memory.
     pub fn new(alloc: Global, name: Name, priority: u8, discipline: Discipline) -> Mutex653
         ensures { result ≡ record { name = name; priority = priority; discipline = discipline; owner = None; count = 0; waiters = [] } }
     {
@@ -49,7 +49,7 @@ impl Mutex653 {
         }
     }
 
-    /// The process that owns it, or None where it is free.
+    /// The process that owns it, or None if it is free.
     pub fn owner(&self) -> Option<ProcId>
         ensures { result ≡ self.now.owner }
     {
@@ -73,14 +73,14 @@ impl Mutex653 {
         self.priority
     }
 
-    /// How often its owner has acquired it and not released it: 0 where it is free.
+    /// How often its owner has acquired it and not released it: 0 if it is free.
     pub fn count(&self) -> u64
         ensures { result ≡ self.now.count }
     {
         self.count
     }
 
-    /// Those that wait for it.
+    /// The processes that wait for it.
     pub fn waiters(&self) -> &WaitSet
         ensures discipline { result.now.discipline ≡ self.now.discipline }
         ensures entries { result.now.entries ≡ self.now.waiters }
@@ -88,7 +88,7 @@ impl Mutex653 {
         &self.waiters
     }
 
-    /// GET_MUTEX_STATUS: its owner, or 0 where it is free, how many wait, and how often it was acquired. Takes no memory.
+    /// GET_MUTEX_STATUS: its owner, or 0 if it is free, how many processes wait, and how often it was acquired. Takes no memory.
     pub fn status(&self) -> Status
         ensures { result ≡ mutex_status self.now }
     {
@@ -103,11 +103,11 @@ impl Mutex653 {
         }
     }
 
-    /// ACQUIRE_MUTEX by a claim that is what it gives: a free mutex is the caller's, its owner acquires it once more, another
-    /// process waits. Says who owned it and who owns it now.
+    /// ACQUIRE_MUTEX by a claim that is what it gives: a free mutex becomes the caller's, its owner acquires it once more, and any other
+    /// process waits. Returns the owner before and the owner after.
     ///
-    /// Each call adds one to the count at most, so that the count is not above the place of a later call.
-    /// AllocError where memory is refused to a caller that waits; nothing is changed then.
+    /// Each call adds at most one to the count, so the count is not above the place of a later call. AllocError if memory is refused to a
+    /// caller that waits; nothing is changed then.
     pub fn acquire(
         &mut self,
         actor: Actor,
@@ -130,7 +130,7 @@ impl Mutex653 {
         Ok(self.owners_since(before))
     }
 
-    // The mutex after ACQUIRE_MUTEX, but for those who wait: it is as it was where another process owns it.
+    // The mutex after ACQUIRE_MUTEX, except for the processes that wait: it is as it was if another process owns it.
     fn take(&mut self, actor: &Actor)
         requires { self.old.count < PLACE_COUNT }
         ensures { (time_out : ℤ) → self.new ≡ (mutex_effect actor.now.who.proc (on_mutex.Acquire time_out) self.old).next }
@@ -142,8 +142,8 @@ impl Mutex653 {
         }
     }
 
-    /// RELEASE_MUTEX by a claim that is what it gives: one is taken from a count above 1; else the first who waits owns the mutex,
-    /// or it is free. Says who owned it and who owns it now. Takes no memory.
+    /// RELEASE_MUTEX by a claim that is what it gives: a count above 1 falls by one; else the first waiter becomes the owner, or the mutex
+    /// becomes free. Returns the owner before and the owner after. Takes no memory.
     pub fn release(&mut self, claim: &Claim) -> Owners
         ensures after { self.new ≡ record (mutex_released (first_waiter self.old.discipline self.old.waiters) self.old).next { waiters = left_by claim.now self.old.waiters } }
         ensures counted { self.new.count ≤ self.old.count + 1 }
@@ -155,7 +155,7 @@ impl Mutex653 {
         self.owners_since(before)
     }
 
-    // The mutex after RELEASE_MUTEX, but for those who wait.
+    // The mutex after RELEASE_MUTEX, except for the processes that wait.
     fn give_up(&mut self)
         ensures { self.new ≡ (mutex_released (first_waiter self.old.discipline self.old.waiters) self.old).next }
     {
@@ -170,7 +170,7 @@ impl Mutex653 {
         }
     }
 
-    // Its owners, where this process owned it before.
+    // Its owners, if this process owned it before.
     fn owners_since(&self, before: Option<ProcId>) -> Owners
         ensures { result ≡ record { before = before; after = self.now.owner; priority = self.now.priority } }
     {
@@ -181,7 +181,7 @@ impl Mutex653 {
         }
     }
 
-    // The process owns the mutex, acquired once.
+    // The process becomes the owner of the mutex, acquired once.
     fn give_to(&mut self, owner: ProcId)
         ensures { self.new ≡ owned_by owner self.old }
     {
@@ -189,7 +189,7 @@ impl Mutex653 {
         self.count = 1;
     }
 
-    // The mutex is free.
+    // The mutex becomes free.
     fn set_free(&mut self)
         ensures { self.new ≡ record self.old { owner = None; count = 0 } }
     {
@@ -223,11 +223,11 @@ impl ApexObject for Mutex653 {
 
     fn answer(&self, actor: &Actor, operation: &MutexOperation) -> Given<'_> {
         match operation {
-            // A free mutex and its own are had at once.
+            // A free mutex, or the caller's own, is acquired at once.
             MutexOperation::Acquire { .. } if self.owner.is_none() => Given::done(),
             MutexOperation::Acquire { .. } if self.is_owned_by(actor.who.proc) => Given::done(),
             MutexOperation::Acquire { time_out } => Given::unmet(*time_out),
-            // The wait of the first ends by the last release.
+            // The last release ends the wait of the first waiter.
             MutexOperation::Release if self.count > 1 => Given::done(),
             MutexOperation::Release => Given::waking(self.waiters.first().map(|entry| entry.who)),
         }

@@ -1,9 +1,9 @@
 -- A copy of a table.
 use Rattle.std.proofs.Common.{◌≡◌, ◌∙◌, ℕ, List, [], ◌∷◌, ap, refl}
-use Rattle.object_table.specs.Copies.{AreCopies}
+use Rattle.object_table.specs.Copies.{AreCopies, CopiesAreSame}
 use Rattle.object_table.specs.Numbers.{NumbersFit}
 
--- its numbers fit 32 bits where those of the table do
+-- its numbers fit 32 bits if those of the table do
 pub numbers_of_copies : {Object : Type 0} (IsCopy : Object → Object → Type 0) (table copy : List (ℕ × Object)) → AreCopies IsCopy table copy
     → NumbersFit table → NumbersFit copy
 numbers_of_copies IsCopy [] [] copies fit = tt
@@ -12,8 +12,8 @@ numbers_of_copies IsCopy (entry ∷ entries) [] copies fit = absurd copies
 numbers_of_copies IsCopy (entry ∷ entries) (other ∷ others) copies fit =
     (rw copies.0.0 fit.0, numbers_of_copies IsCopy entries others copies.1 fit.1)
 
--- it is the table where each copy of an object is that object
-pub copies_are_same : {Object : Type 0} (IsCopy : Object → Object → Type 0) → ((object copied : Object) → IsCopy object copied → copied ≡ object)
+-- it is the table if each copy of an object is that object
+pub copies_are_same : {Object : Type 0} (IsCopy : Object → Object → Type 0) → CopiesAreSame IsCopy
     → (table copy : List (ℕ × Object)) → AreCopies IsCopy table copy → copy ≡ table
 copies_are_same IsCopy same [] [] copies = refl
 copies_are_same IsCopy same [] (other ∷ others) copies = absurd copies

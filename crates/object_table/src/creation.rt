@@ -1,4 +1,4 @@
-// What is claimed of a creation, whatever is created.
+// What a creation claims, whatever it creates.
 
 ghost use Rattle.std.specs.Prelude.{◌≡◌, IfErr, IfOk, OnOk};
 ghost use Rattle.apex_machine.specs.Answer.{NewNumber, done_with};
@@ -27,7 +27,7 @@ impl<Object> ObjectTable<Object> {
     }
 }
 
-/// A name of the same bytes, for what is created. Refused where memory is refused.
+/// A copy of a name, for what is created. Refused if memory is refused.
 pub fn copy_of(alloc: Global, name: &Name) -> Result<Name, ObjFault>
     ensures copied { IfOk result (λ copy. copy ≡ name.now) }
     ensures memory { IfErr result (λ fault. fault ≡ Memory) }

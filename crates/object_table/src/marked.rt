@@ -1,12 +1,12 @@
-// What keeps a mark of a call.
+// What keeps the mark of a call.
 
 ghost use Rattle.std.specs.Prelude.{◌≡◌};
 
-/// What keeps a mark of a call by which it was used elsewhere, as a port does of a call through its channel.
+/// What keeps the mark of a call that is judged elsewhere, as a port does for a call through its channel.
 pub trait Marked {
     ghost use Rattle.std.specs.Prelude.{Option, ℤ};
 
-    // What it is once it was used by a call that claims this value.
+    // What it is after a call that claims this value.
     ghost marked: { Option ℤ → Self → Self };
 
     /// Keeps the mark of a call that claims this value. Takes no memory.

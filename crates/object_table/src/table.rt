@@ -15,7 +15,7 @@ ghost use Rattle.apex_machine.specs.State.{change_at, given_object, is_free, ite
 ghost use Rattle.wait_set.specs.Actors.{Refuses, entry_with};
 ghost use Rattle.wait_set.specs.Sets.{IsNewInEach};
 ghost use Rattle.wait_set.specs.declared.object.ObjFault.TheVariants.{Memory};
-ghost use Rattle.object_table.specs.Copies.{AreCopies};
+ghost use Rattle.object_table.specs.Copies.{AreCopies, CopiesAreSame};
 ghost use Rattle.object_table.specs.Numbers.{NumbersFit, number_of};
 
 use crate::marked::Marked;
@@ -45,7 +45,7 @@ impl<Object> Model for ObjectTable<Object> {
 }
 
 impl<Object> ObjectTable<Object> {
-    /// The table of no object. Takes no memory.
+    /// The empty table. Takes no memory.
     pub fn new(alloc: Global) -> ObjectTable<Object>
         ensures { result ≡ [] }
     {
@@ -54,24 +54,24 @@ impl<Object> ObjectTable<Object> {
         }
     }
 
-    /// The object of the number that a caller gives, or None where there is none.
+    /// The object of the number that a caller gives, or None if there is none.
     pub fn given(&self, number: i64) -> Option<&Object>
         ensures { option_copied result ≡ given_object self.now number }
     {
-        // What is known of each table, that its numbers fit 32 bits, is known where one of its fields is used.
+        // A fact of every table, that its numbers fit 32 bits, is known when one of its fields is used.
         let _ = &self.objects;
         let number = object_number(number)?;
         self.at(number)
     }
 
-    /// The object of this number, or None where there is none.
+    /// The object of this number, or None if there is none.
     pub fn at(&self, number: u32) -> Option<&Object>
         ensures { option_copied result ≡ item_at self.now number }
     {
         self.objects.get(&number)
     }
 
-    /// Says of a table what each keeps: the numbers of its objects fit 32 bits. It does nothing.
+    /// States what every table keeps: the numbers of its objects fit 32 bits. Does nothing.
     pub fn keeps_numbers(&self)
         ensures { NumbersFit self.now }
     {
@@ -93,7 +93,7 @@ impl<Object> ObjectTable<Object> {
         self.objects.iter()
     }
 
-    /// Whether a claimed value is a number that a new object can take: 1 to 2,147,483,647, and no object has it.
+    /// Whether a claimed value is a number that a new object can take: it is from 1 to 2,147,483,647, and no object has it.
     pub fn is_new_number(&self, claimed: Option<i64>) -> bool
         ensures { result ≡ is_new (is_free self.now) claimed }
     {
@@ -107,9 +107,10 @@ impl<Object> ObjectTable<Object> {
 }
 
 impl<Object: Drop> ObjectTable<Object> {
-    /// Adds what is created after the others, under the number that its creation claims. The caller sees to it that it is a new one.
+    /// Adds what is created after the others, under the number that its creation claims. The caller must ensure that the number is a new
+    /// one.
     ///
-    /// Memory where memory is refused; nothing has changed then.
+    /// Memory if memory is refused; nothing has changed then.
     pub fn add(&mut self, claimed: Option<i64>, object: Object) -> Result<(), ObjFault>
         requires new { IsTrue (is_new (is_free self.old) claimed) }
         ensures added { OnOk result (self.new ≡ self.old ++ numbered claimed object) }
@@ -144,7 +145,7 @@ impl<Object: Named> ObjectTable<Object> {
             .any(|object| name.as_bytes() == object.name().as_bytes())
     }
 
-    /// The number of the first object that has this name, or None where none has.
+    /// The number of the first object that has this name, or None if none has it.
     pub fn number_named(&self, name: &Name) -> Option<u32>
         ensures { result ≡ number_named Object.name_of name.now self.now }
     {
@@ -154,9 +155,9 @@ impl<Object: Named> ObjectTable<Object> {
 }
 
 impl<Object: ApexObject> ObjectTable<Object> {
-    /// Carries out an operation on the object of the number that a caller gives, where the claim is what it gives its caller.
+    /// Carries out an operation on the object of the number that a caller gives, if the claim is what it gives its caller.
     ///
-    /// Refused, with nothing changed, where the claim is another, or where memory is refused.
+    /// Refused, with nothing changed, if the claim is another, or if memory is refused.
     pub fn apply(
         &mut self,
         number: i64,
@@ -174,7 +175,7 @@ impl<Object: ApexObject> ObjectTable<Object> {
         ensures refused { IfErr result (λ fault. IfSome (given_object self.old number) (λ object. Refuses (answer_demands (Object.answer actor operation.now object) claim.now) fault)) }
         ensures unchanged { OnErr result (self.new ≡ self.old) }
     {
-        // What is known of each table, that its numbers fit 32 bits, is known where one of its fields is used.
+        // A fact of every table, that its numbers fit 32 bits, is known when one of its fields is used.
         let _ = &self.objects;
         let Some(key) = object_number(number) else {
             unreachable!()
@@ -185,7 +186,7 @@ impl<Object: ApexObject> ObjectTable<Object> {
         }
     }
 
-    /// Takes a process out of the waiting sets of the object of this number, where there is one. Takes no memory.
+    /// Takes a process out of the waiting sets of the object of this number, if there is one. Takes no memory.
     pub fn leave(&mut self, number: u32, who: Who)
         ensures { self.new ≡ change_at number (Object.without_one who) self.old }
     {
@@ -201,7 +202,7 @@ impl<Object: Marked> ObjectTable<Object> {
         requires found { given_object self.old number ≢ None }
         ensures { self.new ≡ change_at (natural_of number) (Object.marked claimed) self.old }
     {
-        // What is known of each table, that its numbers fit 32 bits, is known where one of its fields is used.
+        // A fact of every table, that its numbers fit 32 bits, is known when one of its fields is used.
         let _ = &self.objects;
         let Some(key) = object_number(number) else {
             unreachable!()
@@ -220,7 +221,7 @@ fn has_name<Object: Named>(object: &Object, name: &Name) -> bool
     name.as_bytes() == object.name().as_bytes()
 }
 
-// The number of an object that a caller's number can be: 0 to 4,294,967,295; None for any other.
+// The object number that a caller's number gives: 0 to 4,294,967,295; None for any other.
 fn object_number(given: i64) -> Option<u32>
     ensures { result ≡ number_of given }
 {
@@ -232,12 +233,27 @@ fn object_number(given: i64) -> Option<u32>
 }
 
 impl<Object: Clone> Clone for ObjectTable<Object> {
-    // The objects have their numbers, in the same order, and each is a copy of its own.
+    // The objects have the same numbers in the same order, and each is a copy of its original.
     ghost is_clone = { AreCopies Object.is_clone };
 
     fn clone(&self) -> Result<ObjectTable<Object>, AllocError> {
         Ok(ObjectTable {
             objects: self.objects.clone()?,
         })
+    }
+}
+
+impl<Object: Clone + Drop> ObjectTable<Object> {
+    /// Replaces its objects by copies of another table's, under the same numbers and in the same order.
+    ///
+    /// AllocError where memory is refused; nothing has changed then.
+    #[tactic(auto, using(crate::proofs::Copies::copies_are_same))]
+    pub fn copy_from(&mut self, other: &ObjectTable<Object>) -> Result<(), AllocError>
+        requires same { CopiesAreSame Object.is_clone }
+        ensures copied { OnOk result (self.new ≡ other.now) }
+        ensures unchanged { OnErr result (self.new ≡ self.old) }
+    {
+        *self = other.clone()?;
+        Ok(())
     }
 }

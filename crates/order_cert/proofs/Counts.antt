@@ -5,12 +5,12 @@ use Rattle.std.proofs.lemmas.List.Sums.{sum_by-cons}
 sum_cons : (x : ℕ) (xs : List ℕ) → sum (x ∷ xs) ≡ x + sum xs
 sum_cons x xs = sum_by-cons (λ y. y) x xs
 
--- numbers of at most max sum up to at most so many times max
+-- numbers of at most max sum up to at most this many times max
 pub sum_bound : (max : ℕ) (xs : List ℕ) → ((k : ℕ) → get_or xs k 0 ≤ max) → sum xs ≤ length xs * max
 sum_bound max [] h = omega arith
 sum_bound max (x ∷ xs) h = omega (arith, sum_cons x xs, sum_bound max xs (λ k. h (suc k)), h 0)
 
--- and to less, where one of them is less
+-- and to less, if one of them is less
 pub sum_below : (max : ℕ) (xs : List ℕ) (i : ℕ) → ((k : ℕ) → get_or xs k 0 ≤ max) → i < length xs → get_or xs i 0 < max → sum xs < length xs * max
 sum_below max [] i h within less = absurd (omega arith)
 sum_below max (x ∷ xs) zero h within less = omega (arith, sum_cons x xs, sum_bound max xs (λ k. h (suc k)))

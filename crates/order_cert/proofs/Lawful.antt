@@ -105,7 +105,7 @@ prefix_from_tidy cores pairs h = record {
   lawful = rw append-nil (record { numbers = h.numbers; known = h.known });
 }
 
--- where all counts are zero nothing was taken
+-- if all counts are zero, nothing was taken
 pub zeros : (cores core : ℕ) → ◌≡◌ {A = ℕ} (get_or (replicate cores 0) core 0) 0
 zeros zero core = refl
 zeros (suc cores) zero = refl
@@ -118,7 +118,7 @@ follows_none kept h = record {
   counts = h;
 }
 
--- a pair that may stand next
+-- a pair that may come next
 pub follows_taken : (kept next : Kept) (pairs : List Pair) (p : Pair) → next.cores ≡ kept.cores → next.counts ≡ set kept.counts p.core (taken_of kept p.core + 1)
     → p.core < length kept.counts → p.core < kept.cores → p.seq ≡ taken_of kept p.core → p.seq < MOST_RECORDS → Follows kept pairs → Follows next (pairs ++ p ∷ [])
 follows_taken kept next pairs p cores counts within known is_next below f =
@@ -161,7 +161,7 @@ follows_taken kept next pairs p cores counts within known is_next below f =
       | inr h ↦ get_or-set_other kept.counts p.core core (taken_of kept p.core + 1) 0 h ∙ f.counts core ∙ ap length (sym (there core h))
     ]
 
--- what a pair is that may stand next
+-- which pairs may come next
 pub record IsNext (kept : Kept) (p : Pair) : Type 0 where
   pub known : p.core < kept.cores
   pub seq : p.seq ≡ taken_of kept p.core
@@ -198,7 +198,7 @@ counted (p ∷ ps) counts h known =
 pub place_is : (kept : Kept) (pairs : List Pair) → kept.cores ≤ length kept.counts → Follows kept pairs → sum kept.counts ≡ length pairs
 place_is kept pairs long f = counted pairs kept.counts f.counts (known_more kept.cores (length kept.counts) pairs long (tidy_from_prefix kept.cores pairs f.lawful).known)
 
--- the pairs are a lawful order of recordings of these lengths where every record was taken, and nowhere else
+-- the pairs are a lawful order of recordings of these lengths exactly if every record was taken
 pub whole_is_lawful : (kept : Kept) (pairs : List Pair) (lens : ℕ → ℕ) → Follows kept pairs
     → ((core : ℕ) → core < kept.cores → taken_of kept core ≡ lens core) ↔ IsLawfulOrder kept.cores lens pairs
 whole_is_lawful kept pairs lens f = (

@@ -10,11 +10,11 @@ use Rattle.apex_types.specs.declared.record.Pair.{Pair}
 use Rattle.order_cert.specs.declared.fault.CertFault.{CertFault}
 use Rattle.order_cert.specs.declared.fault.CertFault.TheVariants.{Read, Memory, TooMany, FieldCount, BadNumber}
 
--- a pair, or why a row is none
+-- a pair, or why a row is not a pair
 abbrev pub Item : Type 0
 Item = Result Pair CertFault
 
--- a fault of which the text says nothing: the failure of a source that can fail, or want of memory
+-- a fault that does not come from the text: the failure of a source that can fail, or a lack of memory
 abbrev pub IsOutside : Bool → CertFault → Type 0
 IsOutside can_fail fault = ((fault ≡ Read) × (can_fail ≡ true)) ⊎ (fault ≡ Memory)
 
@@ -39,7 +39,7 @@ pair_of fields = if length fields == 2 then (do
   seq ← number_at fields 1
   Ok (record { core = core; seq = seq })) else Err FieldCount
 
--- the row of this number, from 0; there are no more rows than the records of sixteen cores
+-- the row of this number, counted from 0; there are no more rows than sixteen cores have records
 abbrev pub item_of : ℕ → Fields → Item
 item_of number fields = if nat_lt number PLACE_COUNT then pair_of fields else Err TooMany
 
@@ -49,6 +49,6 @@ pairs_of text = items_of item_of text
 
 -- the law
 
--- a row that is no pair has a fault that the text itself has: neither the failure of a source nor want of memory
+-- a row that is not a pair has a fault of the text itself: neither the failure of a source nor a lack of memory
 abbrev pub FaultsAreOfRows : Type 0
 FaultsAreOfRows = (number : ℕ) (fields : Fields) (fault : CertFault) → item_of number fields ≡ Err fault → IsOfRow fault

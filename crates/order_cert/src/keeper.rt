@@ -32,7 +32,7 @@ impl Model for Keeper {
 }
 
 impl Keeper {
-    /// A keeper of so many cores, before the first pair. Takes no memory.
+    /// A keeper for this many cores, before the first pair. Takes no memory.
     pub fn new(cores: u8) -> Keeper
         requires some { 1 ≤ cores }
         requires few { cores ≤ MOST_CORES }
@@ -48,10 +48,10 @@ impl Keeper {
         }
     }
 
-    /// Takes the pair of this core and this number, where it may stand next, and gives its place. Takes no memory.
+    /// Takes the pair of this core and this number, if it may come next, and returns its place. Takes no memory.
     ///
-    /// NoSuchCore where the module has no such core, Repeated where the number was taken before, Skipped where it is
-    /// above the core's next one; a core that has 4,294,967,295 records has no next one. A refusal changes nothing.
+    /// NoSuchCore if the module has no such core, Repeated if the number was taken before, Skipped if it is above the core's next one; a
+    /// core that has 4,294,967,295 records has no next one. A refusal changes nothing.
     pub fn take(&mut self, core: u32, seq: u64) -> Result<Place, OrderFault>
         ensures cores { self.new.cores ≡ self.old.cores }
         ensures refused { IfErr result (λ fault. misplaced self.old.cores (taken_of self.old) (pair_of core seq) ≡ Some fault) }
@@ -80,7 +80,7 @@ impl Keeper {
         Ok(place)
     }
 
-    /// The place of the next pair: how many were taken. Takes no memory.
+    /// The place of the next pair: how many pairs were taken. Takes no memory.
     pub fn place(&self) -> u64
         ensures { result ≡ place_of self.now }
     {
@@ -89,7 +89,7 @@ impl Keeper {
 
     /// Whether the pairs taken are a lawful order of recordings of these lengths. Takes no memory.
     ///
-    /// Missing where a record of a core is left that no pair has named.
+    /// Missing if a core has a record left that no pair has named.
     pub fn finish(&self, lens: &[u64]) -> Result<(), OrderFault>
         requires each { length lens.now ≡ self.now.cores }
         requires enough { (core : ℕ) → core < self.now.cores → taken_of self.now core ≤ slice_index lens.now core }
@@ -105,7 +105,7 @@ impl Keeper {
         Ok(())
     }
 
-    /// How many records of this core the pairs so far have named: 0 for a core that the module has not.
+    /// How many records of this core the pairs so far have named: 0 for a core that the module does not have.
     pub fn taken(&self, core: u32) -> u64
         ensures { result ≡ taken_of self.now core }
     {

@@ -2,7 +2,7 @@
 
 ghost use Rattle.order_cert.specs.Row.{FaultsAreOfRows};
 
-/// A row that is no pair has a fault that its text has: neither the failure of a source nor want of memory.
+/// A row that is not a pair has a fault of its text: neither the failure of a source nor a lack of memory.
 pub fn faults_are_of_rows()
     ensures { FaultsAreOfRows }
 {}

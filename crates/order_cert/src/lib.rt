@@ -1,8 +1,10 @@
 //! The order certificate, row by row, and the keeper of the order that it proposes.
 //!
-//! Promises: the n-th answer of a source is the n-th row of the certificate's text, or why it is none; a keeper takes a
-//! pair exactly where the pairs so far with it begin a lawful order, and gives its place; at the end it says whether
-//! the pairs are a lawful order of recordings of the given lengths.
+//! Promises: the n-th answer of a source is the n-th row of the certificate's text, or why it is not a pair. A keeper takes a pair exactly
+//! if the pairs so far and this one begin a lawful order, and returns its place. At the end it says whether the pairs are a lawful order of
+//! recordings of the given lengths.
+//!
+//! The keeper says of each pair whether it may come next. It holds no recording: the lengths are given to it at the end.
 #![tactic(auto)]
 
 mod fault;

@@ -9,7 +9,7 @@ use apex_types::Pair;
 use apex_types::limits::PLACE_COUNT;
 use csv_rows::{RowFields, read_decimal};
 
-/// The pair that the row of this number is, numbers from 0, or the first fault from left to right. Takes no memory.
+/// The pair that the row of this number, counted from 0, gives, or the first fault from left to right. Takes no memory.
 #[tactic(auto, unfolding(crate::specs::Row::pair_of))]
 pub fn read_item(number: u64, fields: &RowFields) -> Result<Pair, CertFault>
     ensures value { result ≡ item_of number fields.now }

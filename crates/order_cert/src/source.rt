@@ -11,7 +11,7 @@ use csv_rows::{CsvRows, RowFields, StreamFault, TextSource};
 use std::alloc::Global;
 use std::marker::Model;
 
-/// The pairs that the rows of a certificate are, one for each call of `next`.
+/// The pairs that the rows of a certificate give, one for each call of `next`.
 #[derive(Drop)]
 pub struct CertSource<R: TextSource> {
     rows: CsvRows<R>,
@@ -55,9 +55,9 @@ impl<R: TextSource> CertSource<R> {
         }
     }
 
-    /// The next pair, or None after the last, then and from then on. After a fault every call answers Ended.
+    /// The next pair, or None once the last has been given. After a fault every call answers Ended.
     ///
-    /// Read where the source has failed, Memory where its rows stopped with no failed read; else the row's own fault.
+    /// Read if the source failed, Memory if its rows stopped without a failed read; else the row's own fault.
     pub fn next(&mut self) -> Result<Option<Pair>, CertFault>
         ensures ended { self.old.stopped ≡ true → result ≡ Err CertFault.Ended }
         ensures fresh { self.old.stopped ≡ false → result ≢ Err CertFault.Ended }

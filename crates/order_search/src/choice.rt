@@ -45,6 +45,7 @@ impl Candidate {
 pub fn choose<T: Tip>(tip: &mut T, placed: &Placed, tree: &Tree) -> Result<Choice, AllocError>
     ensures undecided { OnOk result (T.undecided tip.new ≡ T.undecided tip.old) }
     ensures decided { OnOk result (T.decided tip.new ≡ T.decided tip.old) }
+    ensures input { OnOk result (T.input tip.new ≡ T.input tip.old) }
     ensures within { IfOk result (IsWithin placed.now.most) }
     ensures at_end { result ≡ Ok AtEnd → AllEnded placed.now.most (T.is_ended tip.new) }
 {
@@ -93,6 +94,7 @@ fn is_free<T: Tip>(
 ) -> Result<bool, AllocError>
     ensures undecided { OnOk result (T.undecided tip.new ≡ T.undecided tip.old) }
     ensures decided { OnOk result (T.decided tip.new ≡ T.decided tip.old) }
+    ensures input { OnOk result (T.input tip.new ≡ T.input tip.old) }
 {
     if tree.holds(placed, core) {
         return Ok(false);

@@ -81,6 +81,7 @@ impl Search {
         requires agrees { Agrees self.old (T.undecided tip.old) (T.is_ended tip.old) }
         ensures agrees { OnOk result (Agrees self.new (T.undecided tip.new) (T.is_ended tip.new)) }
         ensures decided { IfOk result (λ step. T.decided tip.new ≡ T.decided tip.old + decided_by step) }
+        ensures input { OnOk result (T.input tip.new ≡ T.input tip.old) }
         ensures core { IfOk result (IsOfModule (cores_of self.old)) }
         ensures last { IfOk result (IsLast (T.last_decided tip.new)) }
         ensures cores { OnOk result (cores_of self.new ≡ cores_of self.old) }
@@ -100,6 +101,7 @@ impl Search {
     fn fill<T: Tip>(&mut self, tip: &mut T) -> Result<(), AllocError>
         requires agrees { Agrees self.old (T.undecided tip.old) (T.is_ended tip.old) }
         ensures keeps { OnOk result (DecidesNone self.old (T.decided tip.old) self.new (T.decided tip.new) (T.undecided tip.new) (T.is_ended tip.new)) }
+        ensures input { OnOk result (T.input tip.new ≡ T.input tip.old) }
     {
         for _ in 0..u64::MAX {
             if self.placed.len() >= self.window {
@@ -128,6 +130,7 @@ impl Search {
     fn advance<T: Tip>(&mut self, tip: &mut T) -> Result<(), AllocError>
         requires open { IsOpen self.old (T.undecided tip.old) }
         ensures keeps { OnOk result (DecidesNone self.old (T.decided tip.old) self.new (T.decided tip.new) (T.undecided tip.new) (T.is_ended tip.new)) }
+        ensures input { OnOk result (T.input tip.new ≡ T.input tip.old) }
     {
         if self.budget.is_used_up() {
             return self.give_up(tip);
@@ -153,6 +156,7 @@ impl Search {
         requires core { core < cores_of self.old }
         requires open { IsOpen self.old (T.undecided tip.old) }
         ensures keeps { OnOk result (DecidesNone self.old (T.decided tip.old) self.new (T.decided tip.new) (T.undecided tip.new) (T.is_ended tip.new)) }
+        ensures input { OnOk result (T.input tip.new ≡ T.input tip.old) }
     {
         if !tip.take(core)? {
             self.finished = Some(End::Stuck);
@@ -173,6 +177,7 @@ impl Search {
     fn turn_back<T: Tip>(&mut self, tip: &mut T) -> Result<(), AllocError>
         requires open { IsOpen self.old (T.undecided tip.old) }
         ensures keeps { OnOk result (DecidesNone self.old (T.decided tip.old) self.new (T.decided tip.new) (T.undecided tip.new) (T.is_ended tip.new)) }
+        ensures input { OnOk result (T.input tip.new ≡ T.input tip.old) }
     {
         self.longest.keep(&self.placed)?;
         let swaps = self.swaps(tip)?;
@@ -188,6 +193,7 @@ impl Search {
     fn swaps<T: Tip>(&self, tip: &mut T) -> Result<Vec<Swap>, AllocError>
         ensures undecided { OnOk result (T.undecided tip.new ≡ T.undecided tip.old) }
         ensures decided { OnOk result (T.decided tip.new ≡ T.decided tip.old) }
+        ensures input { OnOk result (T.input tip.new ≡ T.input tip.old) }
     {
         let mut swaps: Vec<Swap> = Vec::new(self.alloc);
         for core in 0..self.placed.most {
@@ -212,6 +218,7 @@ impl Search {
     ) -> Result<(), AllocError>
         ensures undecided { OnOk result (T.undecided tip.new ≡ T.undecided tip.old) }
         ensures decided { OnOk result (T.decided tip.new ≡ T.decided tip.old) }
+        ensures input { OnOk result (T.input tip.new ≡ T.input tip.old) }
     {
         let number = self.placed.count(core);
         let next = RecordName { core, number };
@@ -271,6 +278,7 @@ impl Search {
         requires open { IsOpen self.old (T.undecided tip.old) }
         ensures open { OnOk result (IsOpen self.new (T.undecided tip.new)) }
         ensures keeps { OnOk result (DecidesNone self.old (T.decided tip.old) self.new (T.decided tip.new) (T.undecided tip.new) (T.is_ended tip.new)) }
+        ensures input { OnOk result (T.input tip.new ≡ T.input tip.old) }
     {
         let kept = level.saturating_sub(self.first);
         if kept >= self.placed.len() as u64 {
@@ -287,6 +295,7 @@ impl Search {
     fn give_up<T: Tip>(&mut self, tip: &mut T) -> Result<(), AllocError>
         requires open { IsOpen self.old (T.undecided tip.old) }
         ensures keeps { OnOk result (DecidesNone self.old (T.decided tip.old) self.new (T.decided tip.new) (T.undecided tip.new) (T.is_ended tip.new)) }
+        ensures input { OnOk result (T.input tip.new ≡ T.input tip.old) }
     {
         if self.placed.len() < self.longest.cores.len() {
             self.return_to_longest(tip)?;
@@ -300,6 +309,7 @@ impl Search {
         requires open { IsOpen self.old (T.undecided tip.old) }
         ensures undecided { OnOk result (T.undecided tip.new ≡ self.new.placed.cores.items) }
         ensures decided { OnOk result (T.decided tip.new ≡ T.decided tip.old) }
+        ensures input { OnOk result (T.input tip.new ≡ T.input tip.old) }
         ensures cores { OnOk result (cores_of self.new ≡ cores_of self.old) }
     {
         let same = self.longest.common(&self.placed);

@@ -29,7 +29,7 @@ pub struct Rivals {
 /// The machine at the tip of a search: what each core's next record is like here, and the way on and back.
 ///
 /// The records that it has taken are undecided until they are decided, the oldest first. It never goes back before a decided one.
-/// An Err of any call is a refusal of memory, after which nothing is said of the machine.
+/// An Err of any call is a refusal of memory, or says that a recording could not be read on: nothing is said of the machine then.
 pub trait Tip {
     // The cores of the undecided records, in the order in which they were taken.
     ghost undecided: { Self → List ℕ };
@@ -43,24 +43,32 @@ pub trait Tip {
     // Whether a core is at the end of its recording.
     ghost is_ended: { Self → ℕ → Bool };
 
+    // What the recordings are.
+    ghost Input: { Type 0 };
+
+    ghost input: { Self → Input };
+
     /// What the machine says of a core's next record. Nothing is taken.
     fn judge(&mut self, core: usize) -> Result<Answer, AllocError>
         ensures undecided { OnOk result (undecided self.new ≡ undecided self.old) }
         ensures decided { OnOk result (decided self.new ≡ decided self.old) }
         ensures ended { result ≡ Ok Ended → is_ended self.new core ≡ true }
-        ensures stays_ended { OnOk result ((other : ℕ) → is_ended self.old other ≡ true → is_ended self.new other ≡ true) };
+        ensures stays_ended { OnOk result ((other : ℕ) → is_ended self.old other ≡ true → is_ended self.new other ≡ true) }
+        ensures input { OnOk result (input self.new ≡ input self.old) };
 
     /// Takes a core's next record. If it is rejected, nothing is taken and the answer is false.
     fn take(&mut self, core: usize) -> Result<bool, AllocError>
         ensures taken { result ≡ Ok true → undecided self.new ≡ undecided self.old ++ core ∷ [] }
         ensures rejected { result ≡ Ok false → undecided self.new ≡ undecided self.old }
-        ensures decided { OnOk result (decided self.new ≡ decided self.old) };
+        ensures decided { OnOk result (decided self.new ≡ decided self.old) }
+        ensures input { OnOk result (input self.new ≡ input self.old) };
 
     /// Goes back to when only so many of the undecided records were taken, and returns how many it took again for that.
     fn back(&mut self, kept: usize) -> Result<u64, AllocError>
         requires { kept ≤ length (undecided self.old) }
         ensures undecided { OnOk result (undecided self.new ≡ take kept (undecided self.old)) }
-        ensures decided { OnOk result (decided self.new ≡ decided self.old) };
+        ensures decided { OnOk result (decided self.new ≡ decided self.old) }
+        ensures input { OnOk result (input self.new ≡ input self.old) };
 
     /// The oldest undecided record, which is this core's, is decided.
     fn decide(&mut self, core: usize)
@@ -68,20 +76,24 @@ pub trait Tip {
         ensures undecided { undecided self.new ≡ drop 1 (undecided self.old) }
         ensures decided { decided self.new ≡ decided self.old + 1 }
         ensures last { last_decided self.new ≡ Some core }
-        ensures stays_ended { (other : ℕ) → is_ended self.old other ≡ true → is_ended self.new other ≡ true };
+        ensures stays_ended { (other : ℕ) → is_ended self.old other ≡ true → is_ended self.new other ≡ true }
+        ensures input { input self.new ≡ input self.old };
 
     /// Adds what a core's next record changes that records of other cores may see, each as a number that means the same at each call.
     fn touched(&mut self, core: usize, things: &mut Vec<u64>) -> Result<(), AllocError>
         ensures undecided { OnOk result (undecided self.new ≡ undecided self.old) }
-        ensures decided { OnOk result (decided self.new ≡ decided self.old) };
+        ensures decided { OnOk result (decided self.new ≡ decided self.old) }
+        ensures input { OnOk result (input self.new ≡ input self.old) };
 
     /// Adds what the machine looks at when it rejects a core's next record.
     fn blamed(&mut self, core: usize, things: &mut Vec<u64>) -> Result<(), AllocError>
         ensures undecided { OnOk result (undecided self.new ≡ undecided self.old) }
-        ensures decided { OnOk result (decided self.new ≡ decided self.old) };
+        ensures decided { OnOk result (decided self.new ≡ decided self.old) }
+        ensures input { OnOk result (input self.new ≡ input self.old) };
 
     /// Names two records because of whose order a core's next record is rejected, if the machine knows two.
     fn rivals(&mut self, core: usize) -> Result<Option<Rivals>, AllocError>
         ensures undecided { OnOk result (undecided self.new ≡ undecided self.old) }
-        ensures decided { OnOk result (decided self.new ≡ decided self.old) };
+        ensures decided { OnOk result (decided self.new ≡ decided self.old) }
+        ensures input { OnOk result (input self.new ≡ input self.old) };
 }

@@ -40,6 +40,7 @@ impl Touches {
     ) -> Result<(), AllocError>
         ensures undecided { OnOk result (T.undecided tip.new ≡ T.undecided tip.old) }
         ensures decided { OnOk result (T.decided tip.new ≡ T.decided tip.old) }
+        ensures input { OnOk result (T.input tip.new ≡ T.input tip.old) }
     {
         let mut things: Vec<u64> = Vec::new(alloc);
         tip.touched(core, &mut things)?;

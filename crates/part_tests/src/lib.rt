@@ -1,7 +1,9 @@
-//! What no clause says of single parts: which rows texts have, which rules options and rules files ask for, and what comes of waiting
-//! sets, of a semaphore and of an event, in ample memory and where memory is refused.
+//! What no clause says about single parts: which rows texts have, which rules options and rules files request, and what happens to waiting
+//! sets, to a semaphore and to an event, both in ample memory and if memory is refused.
 //!
-//! Promises nothing; the crate is tests alone.
+//! Promises nothing: the crate contains only tests.
+//!
+//! The tests go by public calls. No crate has tests but this one, `intake_tests` and `crate_tests`.
 #![tactic(auto)]
 
 #[cfg(test)]

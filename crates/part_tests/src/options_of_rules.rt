@@ -1,4 +1,4 @@
-// Rules that options ask for: what their texts give, their numbers, and their relations.
+// Rules that options request: what their texts give, their numbers, and their relations.
 
 use apex_types::{Service, View};
 use rule_options::{RuleOption, RuleOptions, relations_of};
@@ -22,7 +22,7 @@ pub fn call_of(service: i64) -> View {
     }
 }
 
-fn return_behind(elapsed: i64) -> View {
+fn return_after(elapsed: i64) -> View {
     View {
         kind: 1,
         elapsed,
@@ -30,7 +30,7 @@ fn return_behind(elapsed: i64) -> View {
     }
 }
 
-// What texts give: ticks have one text, and are not above the most; a service has its whole name.
+// What texts give: a number of ticks has one text, and is at most the greatest; a service has its whole name.
 #[test]
 fn reads_values(rt: HostRuntime) -> Result<(), Fail> {
     for (text, expected) in [
@@ -69,7 +69,7 @@ fn reads_values(rt: HostRuntime) -> Result<(), Fail> {
     Ok(())
 }
 
-// The first rule is about ticks, the second about a service; one that is not given has no number.
+// The first rule is about ticks, the second about a service; a rule that is not given has no number.
 #[test]
 fn numbers_the_options(rt: HostRuntime) -> Result<(), Fail> {
     let heap: Global = rt.alloc();
@@ -104,8 +104,8 @@ fn asks_for_relations(rt: HostRuntime) -> Result<(), Fail> {
     let relations = relations_of(heap, &options)?;
     assert_eq!(rt; relations.len(), 2);
     for (view, within, allowed) in [
-        (return_behind(4), true, true),
-        (return_behind(5), false, true),
+        (return_after(4), true, true),
+        (return_after(5), false, true),
         (call_of(24), true, false),
         (call_of(23), true, true),
     ] {

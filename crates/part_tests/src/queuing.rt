@@ -1,4 +1,4 @@
-// A waiting set in ample memory, and where memory is refused.
+// A waiting set in ample memory, and if memory is refused.
 
 ghost use Rattle.std.specs.Prelude.{◌≡◌, ◌<◌, [], ◌∷◌, IfOk};
 
@@ -63,7 +63,7 @@ fn a_set_goes_by_its_discipline(rt: HostRuntime) -> Result<(), Fail> {
     Ok(())
 }
 
-// Under a refusal of an allocation in it, the entry comes back whole, and the set is as it was.
+// If one of its allocations is refused, the entry comes back whole, and the set is as it was.
 #[test]
 fn a_refused_entry_comes_back(rt: HostRuntime) -> Result<(), Fail> {
     let mut set = WaitSet::new(rt.alloc(), Discipline::Priority);

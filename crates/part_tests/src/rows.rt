@@ -1,4 +1,4 @@
-// The rows of texts: lines that are plain and lines that are not, after one another, whole and a byte at a time.
+// The rows of texts: plain lines and others, one after the other, read whole and a byte at a time.
 
 use csv_rows::{CsvRows, RowFields, Watched};
 use std::alloc::{AllocError, Global};
@@ -23,8 +23,8 @@ impl Read for Stepwise {
     }
 }
 
-// The rows of a text that is read so many bytes at a time: each field with a bar after it, and each row with a slash. A text
-// whose rows do not end, or fail, has an exclamation mark at its end.
+// The rows of a text that is read this many bytes at a time: each field with a bar after it, and each row with a slash. A text whose rows
+// do not end, or fail, has an exclamation mark at its end.
 fn rows_of(alloc: Global, text: &'static str, step: usize) -> Result<Vec<u8>, AllocError> {
     let text = text.as_bytes();
     let mut rows = CsvRows::new(alloc, Watched::new(Stepwise { text, step }));
@@ -86,7 +86,7 @@ fn texts_have_their_rows(rt: HostRuntime) -> Result<(), Fail> {
     Ok(())
 }
 
-// The places in a text that is read so many bytes at a time, each after a row.
+// The places in a text that is read this many bytes at a time, one after each row.
 fn places_of(alloc: Global, text: &'static str, step: usize) -> Result<Vec<u64>, AllocError> {
     let text = text.as_bytes();
     let mut rows = CsvRows::new(alloc, Watched::new(Stepwise { text, step }));

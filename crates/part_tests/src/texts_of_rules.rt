@@ -1,4 +1,4 @@
-// Texts of rules: what they say, why they are refused, and their limits.
+// Rules files: what they say, why they are refused, and their limits.
 
 use crate::options_of_rules::call_of;
 use apex_types::View;
@@ -13,7 +13,7 @@ use std::test::Fail;
 // The number of SEND_BUFFER.
 const SEND_BUFFER: i64 = 16;
 
-// A text of one rule that holds of what this says.
+// A rules file with one rule, which holds for what this says.
 fn rule_text(alloc: Global, holds: &str) -> Result<Vec<u8>, Fail> {
     let mut text = Vec::new(alloc);
     text.extend_from_slice(b"[[rule]]\nname = \"r\"\nholds = ")?;
@@ -21,7 +21,7 @@ fn rule_text(alloc: Global, holds: &str) -> Result<Vec<u8>, Fail> {
     Ok(text)
 }
 
-// A text of one rule: a comparison after so many times `not`.
+// A rules file with one rule: a comparison under this many levels of `not`.
 fn negated_text(alloc: Global, count: usize) -> Result<Vec<u8>, Fail> {
     let mut text = rule_text(alloc, "")?;
     for _ in 0..count {
@@ -34,7 +34,7 @@ fn negated_text(alloc: Global, count: usize) -> Result<Vec<u8>, Fail> {
     Ok(text)
 }
 
-// A text of one rule: so many comparisons with `or` between them.
+// A rules file with one rule: this many comparisons with `or` between them.
 fn listed_text(alloc: Global, count: usize) -> Result<Vec<u8>, Fail> {
     let mut text = rule_text(alloc, "{ or = [")?;
     for _ in 0..count {
@@ -51,7 +51,7 @@ fn refusal(alloc: Global, text: &[u8]) -> Option<RulesFault> {
     }
 }
 
-// What a rule that holds of what this says answers of a view.
+// What a rule that holds for what this says answers for a view.
 fn answer(alloc: Global, holds: &str, view: &View) -> Result<Option<bool>, Fail> {
     match read(alloc, &rule_text(alloc, holds)?) {
         Ok(rules) => Ok(rules.first().map(|rule| rule.relation.holds(view))),
@@ -134,7 +134,7 @@ fn compares_each_field(rt: HostRuntime) -> Result<(), Fail> {
     Ok(())
 }
 
-// Kinds, services and outcomes go by the names that recordings have for them; the last one is that of the number.
+// Kinds, services and outcomes have the names that recordings use; the last one is that of the number.
 #[test]
 fn knows_names(rt: HostRuntime) -> Result<(), Fail> {
     let heap: Global = rt.alloc();
@@ -202,7 +202,7 @@ fn refuses_rules(rt: HostRuntime) -> Result<(), Fail> {
     Ok(())
 }
 
-// A fault of the text around the rules, or of a rule after others.
+// A fault of the text outside the rules, or of a rule after others.
 #[test]
 fn refuses_texts(rt: HostRuntime) -> Result<(), Fail> {
     let heap: Global = rt.alloc();
@@ -245,7 +245,7 @@ fn refuses_texts(rt: HostRuntime) -> Result<(), Fail> {
     Ok(())
 }
 
-// The most levels, relations of a list, rules and bytes are served, and one more is refused.
+// The most levels, relations of a list, rules and bytes are accepted, and one more is refused.
 #[test]
 fn keeps_limits(rt: HostRuntime) -> Result<(), Fail> {
     let heap: Global = rt.alloc();

@@ -24,7 +24,7 @@ fn caller(number: u32, place: u64) -> Actor
     }
 }
 
-// A claim of this outcome, by which the waits of these processes end.
+// A claim of this outcome, which ends the waits of these processes.
 fn claim(alloc: Global, out: Out, woken: Woken) -> Claim
     ensures outcome { result.out ≡ out }
     ensures woken { result.woken ≡ woken }
@@ -48,7 +48,7 @@ fn only(alloc: Global, number: u32) -> Result<Woken, AllocError>
     Ok(Woken::new(vec![in alloc; who(number)]?))
 }
 
-// What an operation reports of an object that nobody owns.
+// What an operation reports of an object that no process owns.
 fn effect(waits: bool) -> Effect {
     Effect {
         waits,
@@ -65,7 +65,7 @@ fn a_semaphore_by_itself(rt: HostRuntime) -> Result<(), Fail> {
     let wait = SemaphoreOperation::Wait { time_out: -1 };
     let signal = SemaphoreOperation::Signal;
 
-    // Process 1 takes the one that there is, and process 2 waits.
+    // Process 1 takes the only unit, and process 2 waits.
     let done = claim(alloc, Out::Answer(Code::NoError), Woken::none(alloc));
     let taken = semaphore.apply(caller(1, 0), &wait, &done);
     assert!(rt; taken == Ok(effect(false)));
@@ -73,7 +73,7 @@ fn a_semaphore_by_itself(rt: HostRuntime) -> Result<(), Fail> {
     let waited = semaphore.apply(caller(2, 1), &wait, &waits);
     assert!(rt; waited == Ok(effect(true)));
 
-    // A signal that wakes nobody is refused, and one that wakes process 2 is what the rule gives.
+    // A signal that wakes no process is refused, and one that wakes process 2 is what the rule gives.
     let refused = semaphore.apply(caller(1, 2), &signal, &done);
     assert!(rt; refused == Err(ObjFault::Unlawful(Cause::Woken)));
     let wakes = claim(alloc, Out::Answer(Code::NoError), second);

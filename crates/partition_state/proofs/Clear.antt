@@ -18,7 +18,7 @@ use Rattle.apex_machine.specs.ServiceConditions.{conditions_of}
 use Rattle.apex_machine.specs.Services.{Answer, answer_of}
 use Rattle.apex_machine.specs.State.{Mutex, Partition, Port, created, given_object, item_at, time_of}
 use Rattle.apex_laws.specs.PartLaws.{IsOwnCall}
-use Rattle.apex_laws.proofs.SoundParts.{demands_none, running_stands_nowhere}
+use Rattle.apex_laws.proofs.SoundParts.{demands_none, running_is_in_no_set}
 use Rattle.partition_state.specs.Calls.{IsAtWork, IsClear, ReadsAtPort, served_demands}
 
 -- lists of conditions
@@ -121,12 +121,12 @@ port_found configuration number place core cores partition call own = by call.re
 
 -- the caller
 
--- who runs stands in no waiting set
+-- a process that runs has an entry in no waiting set
 pub at_work : (configuration : Configuration) (cores : List CoreState) (place core : ℕ) (partition : Partition) (call : CallRecord)
     → IsClear configuration cores place core partition call → IsAtWork place partition call.who
 at_work configuration cores place core partition call clear = record {
   sound = clear.sound;
-  nowhere = λ wanted. (running_stands_nowhere call.who.part place core cores partition call.who clear.sound clear.caller.1.0 wanted).0;
+  nowhere = λ wanted. (running_is_in_no_set call.who.part place core cores partition call.who clear.sound clear.caller.1.0 wanted).0;
 }
 
 -- what is demanded of an outcome on which no condition holds, through no channel
@@ -134,7 +134,7 @@ outcome_holds : (conditions : List Condition) (channel : Option ℕ) (number : �
     → claim.chan ≡ None → AllHold (answer_demands answer claim) → AllHold (outcome_demands conditions channel number asked answer claim)
 outcome_holds conditions channel number asked answer claim none nowhere apart holds = rw (none, nowhere) (apart, holds)
 
--- where its claim is what its service gives, all that is demanded of the call holds
+-- if its claim is what its service gives, all that is demanded of the call holds
 pub all_hold : (configuration : Configuration) (cores : List CoreState) (place core : ℕ) (partition : Partition) (call : CallRecord)
     → IsClear configuration cores place core partition call → AllHold (served_demands (time_of cores core) partition call)
     → AllHold (own_call_demands configuration call.who.part cores partition core call)

@@ -89,7 +89,7 @@ owes_there actor operation None counted = tt
 owes_there actor (MutexOperation.Acquire time_out) (Some found) counted = counted
 owes_there actor MutexOperation.Release (Some found) counted = tt
 
--- where the call is not done, its rule leaves the object: so it does a part of it
+-- if the call is not done, its rule leaves the object, and so each part of it
 whole : {Part Object : Type 0} (with_part : Part → Object) (done : Bool) (part next : Part) → cond done next part ≡ next
     → cond done (with_part next) (with_part part) ≡ with_part next
 whole with_part true part next same = refl

@@ -82,7 +82,7 @@ accepted_refused demands judged (Ok transfer) judges is = tt
 accepted_refused demands (Ok done) (Err fault) judges is = let never : ◌≡◌ {A = Bool} false true = is in cc
 accepted_refused demands (Err cause) (Err fault) judges is = rw is judges
 
--- a refusal is one where memory may be wanted too
+-- a refusal is one also if memory may be lacking
 pub refuses_or_wants : (demands : List {1} Demand) (fault : ObjFault) → Refuses demands fault → RefusesOrWants demands fault
 refuses_or_wants demands (Unlawful cause) refuses = refuses
 refuses_or_wants demands Memory refuses = tt

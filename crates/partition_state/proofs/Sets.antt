@@ -9,7 +9,7 @@ use Rattle.apex_types.specs.declared.record.Claim.{Claim}
 use Rattle.apex_types.specs.declared.record.Who.{Who}
 use Rattle.apex_machine.specs.declared.state.Entry.{Entry}
 use Rattle.apex_machine.specs.declared.state.WaitingSet.{WaitingSet}
-use Rattle.apex_machine.specs.Demands.{stands_in}
+use Rattle.apex_machine.specs.Demands.{has_entry_in}
 use Rattle.apex_machine.specs.Arguments.{natural_of}
 use Rattle.apex_machine.specs.Services.{answer_by}
 use Rattle.apex_machine.specs.State.{Partition, change_at, given_object, item_at}
@@ -21,25 +21,25 @@ use Rattle.wait_set.proofs.Calls as calls
 use Rattle.wait_set.proofs.Calls.{no_place}
 pub use Rattle.wait_set.proofs.Calls.{set_left}
 use Rattle.wait_set.specs.Actors.{entry_with, joined_by, left_by}
-use Rattle.wait_set.specs.Laws.{StandBefore}
+use Rattle.wait_set.specs.Laws.{AreBeforePlace}
 use Rattle.wait_set.specs.Sets.{IsNew}
 use Rattle.partition_state.specs.Calls.{IsAtWork}
 
 -- who enters
 
--- entries below a place stand before it
-stands_before : (place : ℕ) (entries : List Entry) → AllEntries (λ entry. entry.place < place) entries → StandBefore place entries
-stands_before place [] below = tt
-stands_before place (entry ∷ entries) below = (below.0, stands_before place entries below.1)
+-- entries below a place are before it
+are_before : (place : ℕ) (entries : List Entry) → AllEntries (λ entry. entry.place < place) entries → AreBeforePlace place entries
+are_before place [] below = tt
+are_before place (entry ∷ entries) below = (below.0, are_before place entries below.1)
 
 -- who makes a call is new in each waiting set of the partition
 pub is_new : (place : ℕ) (partition : Partition) (who : Who) (priority : ℕ) (message : List ℕ) → IsAtWork place partition who
     → (wanted : WaitingSet) (entries : List Entry) → entries_at partition wanted ≡ entries
     → IsNew (entry_with (record { who = who; priority = priority; place = place }) message) entries
 is_new place partition who priority message at_work wanted entries are =
-    let apart : stands_in who entries ≡ false = rw are at (at_work.nowhere wanted) in
+    let apart : has_entry_in who entries ≡ false = rw are at (at_work.nowhere wanted) in
     let below : AllEntries (λ entry. entry.place < place) entries = rw are at (at_work.sound.order wanted).below in
-    (apart, no_place place entries (stands_before place entries below))
+    (apart, no_place place entries (are_before place entries below))
 
 -- the entries of a set of a partition at work are in order
 pub in_order : (place : ℕ) (partition : Partition) (who : Who) → IsAtWork place partition who → (wanted : WaitingSet) (entries : List Entry)
@@ -57,9 +57,9 @@ pub set_joined : (place : ℕ) (call : CallRecord) (wanted : WaitingSet) (entrie
     → enters call wanted ≡ is_waiting call.claim.out
     → set_after place (Call call) wanted entries
     ≡ joined_by (record { who = call.who; priority = call.claim.prio; place = place }) call.claim (message_of call.request) entries
-set_joined place call wanted entries none goes_on order can = calls.set_joined place call wanted entries none goes_on (stands_before place entries order.below) can
+set_joined place call wanted entries none goes_on order can = calls.set_joined place call wanted entries none goes_on (are_before place entries order.below) can
 
--- where a claim names nobody all stay
+-- if a claim names no process, all stay
 pub all_stay : (claim : Claim) → NamesExactly [] claim.woken → (entries : List Entry) → left_by claim entries ≡ entries
 all_stay claim nobody [] = refl
 all_stay claim nobody (entry ∷ entries) = rw (nobody entry.who, all_stay claim nobody entries) refl

@@ -27,7 +27,7 @@ use Rattle.partition_state.proofs.Clear.{blackboard_found, buffer_found, event_f
 
 -- what is asked
 
--- a list that names nobody is empty
+-- a list that names no process is empty
 same_self : (who : Who) → is_same who who ≡ true
 same_self who = grind (arith, nat_tests)
 

@@ -1,4 +1,4 @@
--- Whom a partition may serve, what it answers, and which object a request is for.
+-- The calls that a partition may serve, what it answers, and which object a request uses.
 use Rattle.std.specs.Prelude.{◌≡◌, ◌≢◌, ◌⊎◌, ℕ, ℤ, Bool, true, false, List, [], None, IsErrAnd, IsFalse, IsOk, IsTrue, MatchResult, Result, is_some, if◌then◌else◌}
 use Rattle.apex_types.specs.declared.cause.Cause.{Cause}
 use Rattle.apex_types.specs.declared.operation.{ProcessOperation.ProcessOperation, SamplingOperation.SamplingOperation}
@@ -13,7 +13,7 @@ use Rattle.apex_machine.specs.After.{is_done}
 use Rattle.apex_machine.specs.Answer.{Answer}
 use Rattle.apex_machine.specs.Arguments.{natural_of}
 use Rattle.apex_machine.specs.Configuration.{Configuration}
-use Rattle.apex_machine.specs.Demands.{AllHold, Demand, FirstFails, answer_demands, caller_demands, stands_in}
+use Rattle.apex_machine.specs.Demands.{AllHold, Demand, FirstFails, answer_demands, caller_demands, has_entry_in}
 use Rattle.apex_machine.specs.Ports.{channel_of, use_of}
 use Rattle.apex_machine.specs.ServiceConditions.{conditions_of}
 use Rattle.apex_machine.specs.Services.{NewNumber, answer_by, answer_of, done_with, peer}
@@ -38,13 +38,13 @@ pub record NumbersAreKept (partition : Partition) : Type 0 where
   pub events : NumbersFit partition.events
   pub mutexes : NumbersFit partition.mutexes
 
--- a process of a sound partition that stands in none of its waiting sets, as who makes a call
+-- a process of a sound partition that has no entry in any of its waiting sets, as the process that makes a call
 pub record IsAtWork (place : ℕ) (partition : Partition) (who : Who) : Type 0 where
   pub sound : IsSoundPart who.part place partition
-  pub nowhere : (wanted : WaitingSet) → IsFalse (stands_in who (entries_at partition wanted))
+  pub nowhere : (wanted : WaitingSet) → IsFalse (has_entry_in who (entries_at partition wanted))
 
--- a call of a process of a sound and bounded partition that is to be served: all that is demanded of it before its outcome holds, no
--- error condition does, it goes through no channel, and it claims none
+-- a call of a process of a sound and bounded partition that is ready to be served: all demands on it before its outcome hold, no error
+-- condition does, it goes through no channel, and it claims none
 pub record IsClear (configuration : Configuration) (cores : List CoreState) (place core : ℕ) (partition : Partition) (call : CallRecord) : Type 0 where
   pub sound : IsSoundPart call.who.part place partition
   pub bounded : IsBoundedPart place partition
@@ -53,8 +53,8 @@ pub record IsClear (configuration : Configuration) (cores : List CoreState) (pla
   pub through : channel_of partition call.request ≡ None
   pub apart : call.claim.chan ≡ None
 
--- what is demanded of the claim of a call on which no error condition holds and which goes through no channel: it is what the
--- service gives its caller, at this time of its core
+-- what is demanded of the claim of a call on which no error condition holds and that goes through no channel: it is what the service gives
+-- its caller, at this time of its core
 abbrev pub served_demands : ℕ → Partition → CallRecord → List {1} Demand
 served_demands now partition call = answer_demands (answer_of now call.who partition call.request) call.claim
 
@@ -64,7 +64,7 @@ creates (request.CreateProcess name priority period) = true
 creates (request.Create name object) = true
 creates _ = false
 
--- who makes a call, as an object sees it: with the priority that the call claims
+-- the process that makes a call, as an object sees it: with the priority that the call claims
 abbrev pub actor_of : ℕ → CallRecord → Actor
 actor_of place call = record { who = call.who; priority = call.claim.prio; place = place }
 
@@ -76,33 +76,33 @@ used_demands objects given gives claim = answer_demands (answer_by (given_object
 abbrev pub created_demands : {Object : Type 0} → List (ℕ × Object) → Claim → List {1} Demand
 created_demands objects claim = answer_demands (done_with (NewNumber (is_free objects))) claim
 
--- a refusal over demands: the cause of the first that fails; where memory is wanted nothing is said of them
+-- a refusal over demands gives the cause of the first that fails; if memory is lacking, nothing is said of them
 abbrev pub RefusesOrWants : List {1} Demand → ObjFault → Type 0
 RefusesOrWants demands (Unlawful cause) = FirstFails demands cause
 RefusesOrWants demands Memory = Unit {0}
 
--- what a judgement makes of a call that changes no object: it is accepted, or refused for the cause that is judged
+-- what a judgement makes of a call that changes no object: the call is accepted, or refused for the cause that was judged
 abbrev pub IsJudged : Result (Unit {0}) Cause → Result Transfer ObjFault → Type 0
 IsJudged judged result = MatchResult judged (λ _. IsOk result) (λ cause. IsErrAnd result (λ fault. fault ≡ Unlawful cause))
 
--- a call that leaves all objects of its partition: it is not done, or it uses a channel
+-- a call that leaves all objects of its partition unchanged: it is not done, or it uses a channel
 abbrev pub LeavesObjects : CallRecord → Type 0
 LeavesObjects call = IsFalse (is_done call.claim.out) ⊎ IsTrue (is_some (use_of call.request))
 
--- a read that is done is at a port that is created
+-- a read that is done is through a created port
 abbrev pub ReadsAtPort : CallRecord → Request → Partition → Type 0
 ReadsAtPort call (request.SamplingPort port SamplingOperation.Read) partition = IsTrue (is_done call.claim.out) → given_object partition.sampling_ports port ≢ None
 ReadsAtPort call _ partition = Unit {0}
 
--- the ports of a partition after a call that leaves its objects: a port knows whether its last read gave a valid sample
+-- the ports of a partition after a call that leaves its objects unchanged: a port records whether its last read gave a valid sample
 abbrev pub objects_noted : CallRecord → Request → Partition → Partition
 objects_noted call (request.SamplingPort port SamplingOperation.Read) partition = record partition {
   sampling_ports = if is_done call.claim.out then change_at (natural_of port) (read_at call.claim.val) partition.sampling_ports else partition.sampling_ports;
 }
 objects_noted call _ partition = partition
 
--- the objects of a partition after a call that was served: STOP takes its target out of its waiting set, any other service changes
--- the one object that it names
+-- the objects of a partition after a call that was served: STOP takes its target out of its waiting set, and any other service changes the
+-- one object that it names
 abbrev pub objects_served : Configuration → ℕ → CallRecord → Request → Partition → Partition
 objects_served configuration place call (request.Process process ProcessOperation.Stop) partition =
     left_if_there (peer call.who process) (created partition.table process) partition

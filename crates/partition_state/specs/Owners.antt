@@ -7,7 +7,7 @@ use Rattle.process_state.specs.declared.transfer.Transfer.{Transfer}
 use Rattle.process_state.specs.Transfers.{transferred}
 use Rattle.wait_set.specs.declared.object.Owners.{Owners}
 
--- a transfer makes of each process what its owning the object before and after makes of it
+-- a transfer changes each process as the owners of the object before and after say
 abbrev pub TransfersBetween : Owners → Transfer → Type 0
 TransfersBetween owners transfer = (number : ℕ) (process : Process)
     → on_ownership (is_owner owners.before number) (is_owner owners.after number) owners.priority process ≡ transferred transfer number process

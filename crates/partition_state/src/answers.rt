@@ -23,8 +23,8 @@ use object_table::ObjectTable;
 use wait_set::{Actor, ApexObject, Given, judge_value};
 
 impl PartitionState {
-    /// What a call gives its caller that meets no error condition and goes through no channel, at this place and at this time of its
-    /// core, in ticks. None for a creation, which gives any number that nothing of its kind has. Takes no memory.
+    /// What a call that meets no error condition and goes through no channel gives its caller, at this place and at this time of its core,
+    /// in ticks. None for a creation, which gives any number that nothing of its kind has. Takes no memory.
     pub fn answer(&self, now: u64, place: Place, call: &Call) -> Option<Given<'_>>
         ensures given { IfSome result (λ given. answer_given given ≡ services.answer_of now call.now.who self.now call.now.request) }
         ensures none { IfNone result (creates call.now.request ≡ true) }
@@ -60,8 +60,8 @@ impl PartitionState {
         }
     }
 
-    /// Judges the claim of a call that meets no error condition and goes through no channel, at this place and at this time of its core,
-    /// in ticks: it must be what the service gives, which is a new number where something is created. Takes no memory.
+    /// Judges the claim of a call that meets no error condition and goes through no channel, at this place and at this time of its core, in
+    /// ticks. The claim must be what the service gives, which for a creation is a new number. Takes no memory.
     ///
     /// Refused with the cause of the first demand that fails.
     pub fn judge(&self, now: u64, place: Place, call: &Call) -> Result<(), Cause>
@@ -73,7 +73,7 @@ impl PartitionState {
         }
     }
 
-    // Whether a claimed value is a number that what a request creates can take. A request that creates nothing has none.
+    // Whether a claimed value is a number that a creation may give. A request that creates nothing has none.
     fn is_new(&self, request: &Request, claimed: Option<i64>) -> bool
         ensures { (now : ℕ) (who : WhoValue) → creates request.now ≡ true → IsTrue result ↔ HasValue (services.answer_of now who self.now request.now).val claimed }
     {
@@ -95,7 +95,7 @@ impl PartitionState {
         }
     }
 
-    // Whether a claimed value is a number that a new object or port of a kind can take.
+    // Whether a claimed value is a number that a new object or port of a kind may get.
     fn is_new_among(&self, kind: ObjectKind, claimed: Option<i64>) -> bool
         ensures { result ≡ is_new (is_free (objects_of self.now kind)) claimed }
     {
@@ -110,7 +110,7 @@ impl PartitionState {
         }
     }
 
-    // What GET_BUFFER_ID or its like gives: the number of what has this name.
+    // What GET_BUFFER_ID and its counterparts give: the number of what has this name.
     fn id_answer<'a>(&self, kind: ObjectKind, name: &Name) -> Given<'a>
         ensures { answer_given result ≡ services.done_with (number_found (number_of self.now kind name.now)) }
     {
@@ -120,7 +120,7 @@ impl PartitionState {
         }
     }
 
-    // What a service gives by which this process asks something for itself, at this time of its core.
+    // What a service that this process requests for itself gives, at this time of its core.
     fn own_answer<'a>(&self, now: u64, who: Who, operation: &CallerOperation) -> Given<'a>
         ensures { answer_given result ≡ services.answer_of now who self.now (request.Caller operation.now) }
     {
@@ -136,7 +136,7 @@ impl PartitionState {
         }
     }
 
-    // What a service gives that names the process of this number: RESUME ends the wait of one that suspended itself.
+    // What a service that names the process of this number gives: RESUME ends the wait of a process that suspended itself.
     fn answer_on<'a>(&self, who: Who, process: i64, operation: &ProcessOperation) -> Given<'a>
         ensures { (now : ℕ) → answer_given result ≡ services.answer_of now who self.now (request.Process process operation.now) }
     {
@@ -150,7 +150,7 @@ impl PartitionState {
         }
     }
 
-    // What RESUME of the process of this number gives a caller: the wait of a process that suspended itself ends.
+    // What RESUME of the process of this number gives a caller: it ends the wait of a process that suspended itself.
     fn resuming<'a>(&self, who: Who, process: i64) -> Given<'a>
         ensures { answer_given result ≡ services.resuming (peer who process) (created self.now.table process) }
     {
@@ -167,7 +167,7 @@ impl PartitionState {
     }
 }
 
-// What an operation gives its caller on the object of this number; done, where there is none.
+// What an operation on the object of this number gives its caller; done, if there is none.
 fn answer_by<'a, Object: ApexObject>(
     objects: &'a ObjectTable<Object>,
     number: i64,

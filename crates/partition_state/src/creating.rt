@@ -1,4 +1,4 @@
-// What is created by a call.
+// What a call creates.
 
 ghost use Rattle.std.specs.Prelude.{◌≡◌, ◌++◌, [], IfErr, IfOk, OnErr, OnOk};
 ghost use Rattle.apex_types.specs.Requested.{kind_of};
@@ -21,10 +21,10 @@ use ports::PortSettings;
 use wait_set::ObjFault;
 
 impl PartitionState {
-    /// The creation of an object or a port on which no error condition holds: it has the number that is claimed, and a port is as it
-    /// is configured.
+    /// The creation of an object or a port on which no error condition holds. What is created has the number that is claimed, and a port is
+    /// as it is configured.
     ///
-    /// Refused, with nothing changed, where the claim is not what a creation gives, or where memory is refused.
+    /// Refused, with nothing changed, if the claim is not what a creation gives, or if memory is refused.
     pub(crate) fn create(
         &mut self,
         config: &Config,
@@ -90,9 +90,9 @@ impl PartitionState {
     }
 }
 
-// Adds what a creation makes after the others of its kind, under the number that is claimed.
+// Adds what a creation makes after the others of its kind, under the claimed number.
 //
-// Refused, with nothing changed, where the claim is not what a creation gives, or where memory was refused.
+// Refused, with nothing changed, if the claim is not what a creation gives, or if memory was refused.
 fn add_created<Object: Drop>(
     objects: &mut ObjectTable<Object>,
     claim: &Claim,

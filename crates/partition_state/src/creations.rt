@@ -1,4 +1,4 @@
-// The objects that creations make, each as its caller's numbers give it.
+// The objects that creations make, from the numbers that a caller gives.
 
 ghost use Rattle.std.specs.Prelude.{◌≡◌, IfErr, IfOk, IsTrue};
 ghost use Rattle.apex_machine.specs.Arguments.{discipline_given, is_capacity, is_maximum, is_priority, is_size, suits_maximum};
@@ -14,7 +14,7 @@ use semaphore_event::{Event, Semaphore};
 use std::alloc::Global;
 use wait_set::ObjFault;
 
-/// The buffer that CREATE_BUFFER makes. Refused where memory is refused, to its name or to the places of its messages.
+/// The buffer that CREATE_BUFFER makes. Refused if memory is refused, for its name or for the places of its messages.
 pub(crate) fn new_buffer(
     alloc: Global,
     name: &Name,
@@ -32,7 +32,7 @@ pub(crate) fn new_buffer(
     Buffer::new(alloc, name, size as u16, capacity as u16, discipline).map_err(|_| ObjFault::Memory)
 }
 
-/// The blackboard that CREATE_BLACKBOARD makes. Refused where memory is refused.
+/// The blackboard that CREATE_BLACKBOARD makes. Refused if memory is refused.
 pub(crate) fn new_blackboard(alloc: Global, name: &Name, size: i64) -> Result<Blackboard, ObjFault>
     requires size { IsTrue (is_size size) }
     ensures made { IfOk result (λ blackboard. blackboard ≡ new_blackboard name.now size) }
@@ -41,7 +41,7 @@ pub(crate) fn new_blackboard(alloc: Global, name: &Name, size: i64) -> Result<Bl
     Ok(Blackboard::new(alloc, copy_of(alloc, name)?, size as u16))
 }
 
-/// The semaphore that CREATE_SEMAPHORE makes. Refused where memory is refused.
+/// The semaphore that CREATE_SEMAPHORE makes. Refused if memory is refused.
 pub(crate) fn new_semaphore(
     alloc: Global,
     name: &Name,
@@ -59,7 +59,7 @@ pub(crate) fn new_semaphore(
     Ok(Semaphore::new(alloc, name, value as u16, maximum as u16, discipline))
 }
 
-/// The event that CREATE_EVENT makes. Refused where memory is refused.
+/// The event that CREATE_EVENT makes. Refused if memory is refused.
 pub(crate) fn new_event(alloc: Global, name: &Name) -> Result<Event, ObjFault>
     ensures made { IfOk result (λ event. event ≡ new_event name.now) }
     ensures memory { IfErr result (λ fault. fault ≡ Memory) }
@@ -67,7 +67,7 @@ pub(crate) fn new_event(alloc: Global, name: &Name) -> Result<Event, ObjFault>
     Ok(Event::new(alloc, copy_of(alloc, name)?))
 }
 
-/// The mutex that CREATE_MUTEX makes. Refused where memory is refused.
+/// The mutex that CREATE_MUTEX makes. Refused if memory is refused.
 pub(crate) fn new_mutex(
     alloc: Global,
     name: &Name,

@@ -1,4 +1,4 @@
-// Waits that end, and who leaves a waiting set then: by a STOP, at a tick, by a call of another partition; and returns.
+// Waits that end, and the processes that leave a waiting set then: by a STOP, at a tick, by a call of another partition; and returns.
 
 ghost use Rattle.std.specs.Prelude.{◌≡◌, ◌≢◌, ℕ, List, None, IfErr, OnErr, OnOk};
 ghost use Rattle.apex_types.specs.declared.record.Body.TheVariants.{Tick};
@@ -14,7 +14,7 @@ ghost use Rattle.apex_laws.specs.PartObjects.{left_by};
 ghost use Rattle.apex_laws.specs.PartSets.{left_if_there};
 ghost use Rattle.wait_set.specs.Actors.{Refuses};
 ghost use Rattle.partition_state.specs.Calls.{IsAtWork, served_demands};
-ghost use Rattle.partition_state.specs.Leaving.{StandsWhereItWaits, StandsOnlyAt};
+ghost use Rattle.partition_state.specs.Leaving.{HasEntryWhereItWaits, HasEntryOnlyAt};
 
 use crate::state::PartitionState;
 use apex_machine::{Wait, WaitingSet};
@@ -26,7 +26,7 @@ impl PartitionState {
     /// Takes a process out of the waiting set that this wait names, if it names one. Takes no memory.
     pub(crate) fn leave_set(&mut self, who: Who, wait: Wait)
         requires objects { HasDistinctObjects self.old }
-        requires alone { StandsOnlyAt who wait self.old }
+        requires alone { HasEntryOnlyAt who wait self.old }
         ensures { self.new ≡ left_by who wait self.old }
     {
         let Wait::At(wanted, _) = wait else {
@@ -44,10 +44,10 @@ impl PartitionState {
         }
     }
 
-    // Takes a process out of the waiting set in which it waits by the table, if there is such a process. Takes no memory.
+    // Takes a process out of the waiting set in which the table says that it waits, if there is such a process. Takes no memory.
     fn leave(&mut self, who: Who)
         requires objects { HasDistinctObjects self.old }
-        requires alone { StandsWhereItWaits who self.old }
+        requires alone { HasEntryWhereItWaits who self.old }
         ensures { self.new ≡ left_if_there who (item_at self.old.table who.proc) self.old }
     {
         if let Some(process) = self.processes.proc(who.proc) {
@@ -56,10 +56,10 @@ impl PartitionState {
         }
     }
 
-    /// STOP of the process that a caller gives: where the claim is that it is done, the process leaves the waiting set in
-    /// which it waits.
+    /// STOP of the process that a caller gives. If the claim is that the call is done, the process leaves the waiting set in which it
+    /// waits.
     ///
-    /// Refused, with nothing changed, where the claim is another.
+    /// Refused, with nothing changed, if the claim is another.
     pub(crate) fn stop(&mut self, place: Place, call: &Call, process: i64) -> Result<(), ObjFault>
         requires at_work { IsAtWork place self.old call.now.who }
         requires found { created self.old.table process ≢ None }
@@ -92,8 +92,8 @@ impl PartitionState {
         }
     }
 
-    /// A tick at this place that ends the waits of these processes: they leave their waiting sets, and their waits end; those
-    /// of other partitions stay out. Takes no memory.
+    /// A tick at this place that ends the waits of these processes. They leave their waiting sets, and their waits end. Those of other
+    /// partitions are skipped. Takes no memory.
     pub fn tick(&mut self, part: PartId, place: Place, woken: &Woken)
         requires sound { IsSoundPart part place self.old }
         ensures { (configuration : Configuration) (cores : List CoreState) (core : ℕ) → self.new ≡ partition_by configuration cores place core part (Tick woken.now) self.old }
@@ -102,17 +102,17 @@ impl PartitionState {
         self.processes.tick(part, place, woken);
     }
 
-    /// A return by this process: the outcome that was due to it is due no more. Takes no memory.
+    /// A return by this process: the outcome that was due to it is no longer due. Takes no memory.
     pub fn ret(&mut self, number: ProcId)
         ensures { self.new ≡ record self.old { table = each_item (returned number) self.old.table } }
     {
         self.processes.ret(number);
     }
 
-    /// A call of another partition, at this place, that ends the waits of those that it names of this one: each gets the
+    /// A call of another partition, at this place, that ends the waits of the processes of this partition that it names: each gets the
     /// message that the call hands over.
     ///
-    /// AllocError where memory for the messages is refused; nothing has changed then.
+    /// AllocError if memory for the messages is refused; nothing has changed then.
     pub fn wake_named(&mut self, part: PartId, place: Place, call: &Call) -> Result<(), AllocError>
         ensures ok { OnOk result (self.new ≡ record self.old { table = each_item (λ number process. woken_if_named place call.now (record { part = part; proc = number }) process) self.old.table }) }
         ensures unchanged { OnErr result (self.new ≡ self.old) }

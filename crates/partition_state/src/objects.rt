@@ -25,9 +25,9 @@ pub(crate) fn caller_of(place: Place, call: &Call) -> Actor
     }
 }
 
-/// An operation on the object of this number, and what becomes of the object's owner.
+/// Performs an operation on the object of this number, and returns what becomes of the object's owner.
 ///
-/// Refused, with nothing changed, where the claim is not what the object gives, or where memory is refused.
+/// Refused, with nothing changed, if the claim is not what the object gives, or if memory is refused.
 pub(crate) fn use_object<Object: ApexObject>(
     objects: &mut ObjectTable<Object>,
     number: i64,
@@ -48,7 +48,7 @@ pub(crate) fn use_object<Object: ApexObject>(
     Ok(transfer_of(effect.owners))
 }
 
-// The transfer of an object from the process that owned it, if one did, to the one that owns it now. None where they are one.
+// The transfer of an object from the process that owned it, if one did, to the one that owns it now. None if they are the same.
 fn transfer_of(owners: Owners) -> Transfer
     ensures { TransfersBetween owners result }
 {

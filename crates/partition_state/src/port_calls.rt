@@ -1,4 +1,4 @@
-// Ports: to which channel a call through one goes, and what a read leaves with its port.
+// Ports: the channel of a call through a port, and what a read leaves with its port.
 
 ghost use Rattle.std.specs.Prelude.{◌≡◌};
 ghost use Rattle.apex_machine.specs.Ports.{channel_of};
@@ -9,7 +9,7 @@ use apex_types::{Call, ChanId, ObjectKind, Request, SamplingOperation};
 use process_state::is_done;
 
 impl PartitionState {
-    /// The channel to which a request goes, or None where it goes through no port that is created.
+    /// The channel of the port that a request goes through, or None if it goes through no created port.
     pub fn channel_of(&self, request: &Request) -> Option<ChanId>
         ensures { result ≡ channel_of self.now request.now }
     {
@@ -23,7 +23,7 @@ impl PartitionState {
         }
     }
 
-    /// A call that changes no object: the port at which it read knows whether the sample is valid. Takes no memory.
+    /// A call that changes no object: the port at which it read records whether the sample is valid. Takes no memory.
     pub(crate) fn note_read(&mut self, call: &Call)
         requires port { ReadsAtPort call.now call.now.request self.old }
         ensures { self.new ≡ objects_noted call.now call.now.request self.old }

@@ -23,7 +23,7 @@ pub fn restart_of(call: &Call) -> Option<Mode>
     }
 }
 
-// The mode of this number in which a partition is restarted, if it is one.
+// The mode of this number in which a partition is restarted, if the number is one of such a mode.
 fn restart_given(mode: i64) -> Option<Mode>
     ensures { result ≡ arguments.restart_given mode }
 {
@@ -36,8 +36,8 @@ fn restart_given(mode: i64) -> Option<Mode>
 }
 
 impl PartitionState {
-    /// The partition as it starts in this mode, at this place: no object and no port is left, and of its processes the
-    /// initialising one alone, which is not there in IDLE. Takes no memory.
+    /// The partition as it starts in this mode, at this place: it has no object and no port, and of its processes only the initialising
+    /// one, which IDLE does not have. Takes no memory.
     pub(crate) fn restart(&mut self, mode: Mode, first_core: CoreId, place: Place)
         ensures { (configuration : Configuration) (number : ℕ) → first_core_of configuration number ≡ first_core → self.new ≡ started_partition mode configuration number place }
     {

@@ -24,10 +24,10 @@ use std::alloc::AllocError;
 use wait_set::{ObjFault, judge_outcome};
 
 impl PartitionState {
-    /// A call of one of the partition's processes on which no error condition holds and which goes through no channel: what
-    /// it claims is judged by what its service gives, and where the two agree it is carried out. A restart takes no memory.
+    /// A call of one of the partition's processes on which no error condition holds and that goes through no channel. What it claims is
+    /// judged against what its service gives, and if the two agree, the call is carried out. A restart takes no memory.
     ///
-    /// Refused, with nothing changed, where the claim is another, or where memory is refused.
+    /// Refused, with nothing changed, if the claim is another, or if memory is refused.
     pub fn serve(
         &mut self,
         config: &Config,
@@ -89,11 +89,11 @@ impl PartitionState {
         }
     }
 
-    /// A lawful call of one of the partition's processes that changes none of its objects: an error condition refused it, or it
-    /// goes through a channel. Its caller waits or has an outcome due, whose waits it ends go on, and the port at which it read
-    /// knows whether the sample is valid.
+    /// A lawful call of one of the partition's processes that changes none of its objects: an error condition refused it, or it goes
+    /// through a channel. Its caller waits or has an outcome due, the processes whose waits it ends wait no longer, and the port at which
+    /// it read records whether the sample is valid.
     ///
-    /// AllocError where memory is refused; nothing has changed then.
+    /// AllocError if memory is refused; nothing has changed then.
     pub fn note(
         &mut self,
         config: &Config,
@@ -118,8 +118,8 @@ impl PartitionState {
         Ok(())
     }
 
-    // What a call claims is judged by what its service gives, and what it makes of the objects is made. It says what becomes of
-    // the owner of a mutex. A call through a port goes through a channel.
+    // Judges what a call claims against what its service gives, and changes the objects accordingly. Returns what becomes of the owner of a
+    // mutex. A call through a port goes through a channel.
     #[tactic(auto, using(crate::proofs::Clear::at_work, crate::proofs::Served::accepted_ok, crate::proofs::Served::accepted_refused, crate::proofs::Served::changed_is_served))]
     fn operate(
         &mut self,
@@ -172,7 +172,7 @@ impl PartitionState {
     }
 }
 
-// What a call comes to that changes no object, by how its claim is judged: no mutex has another owner.
+// The result for a call that changes no object, from the judgement of its claim: no mutex changes its owner.
 fn accepted(judged: Result<(), Cause>) -> Result<Transfer, ObjFault>
     ensures { IsJudged judged result }
 {

@@ -1,6 +1,6 @@
 // A partition, and its parts.
 
-ghost use Rattle.std.specs.Prelude.{◌≡◌, ℕ, IfOk};
+ghost use Rattle.std.specs.Prelude.{◌≡◌, ℕ, [], IfOk, OnOk};
 ghost use Rattle.apex_machine.specs.Configuration.{Configuration, first_core as first_core_of};
 ghost use Rattle.apex_machine.specs.State.{cold_partition};
 ghost use Rattle.process_state.specs.Processes.{processes_of};
@@ -43,13 +43,21 @@ impl Model for PartitionState {
 impl PartitionState {
     /// The partition as it starts cold: its initialising process alone, on its first core, and no object or port.
     ///
-    /// AllocError where memory is refused.
+    /// AllocError if memory is refused.
     pub fn new(alloc: Global, first_core: CoreId) -> Result<PartitionState, AllocError>
         ensures { IfOk result (λ state. (configuration : Configuration) (number : ℕ) → first_core_of configuration number ≡ first_core → state ≡ cold_partition configuration number) }
     {
-        Ok(PartitionState {
+        let processes = ProcTable::new(alloc, first_core)?;
+        Ok(PartitionState::without_objects(alloc, processes))
+    }
+
+    // The partition of this mode and these processes, without an object or a port. Takes no memory.
+    fn without_objects(alloc: Global, processes: ProcTable) -> PartitionState
+        ensures { result ≡ record { mode = processes.mode; table = processes.table; buffers = []; blackboards = []; semaphores = []; events = []; mutexes = []; sampling_ports = []; queuing_ports = [] } }
+    {
+        PartitionState {
             alloc,
-            processes: ProcTable::new(alloc, first_core)?,
+            processes,
             buffers: ObjectTable::new(alloc),
             blackboards: ObjectTable::new(alloc),
             semaphores: ObjectTable::new(alloc),
@@ -57,10 +65,39 @@ impl PartitionState {
             mutexes: ObjectTable::new(alloc),
             sampling_ports: PortTable::new(alloc),
             queuing_ports: PortTable::new(alloc),
-        })
+        }
     }
 
-    // Says of a state what each keeps: the numbers of its objects fit 32 bits. It does nothing.
+    // Replaces its objects by copies of another partition's.
+    fn copy_objects(&mut self, other: &PartitionState) -> Result<(), AllocError>
+        ensures { OnOk result (self.new ≡ record self.old { buffers = other.now.buffers; blackboards = other.now.blackboards; semaphores = other.now.semaphores; events = other.now.events; mutexes = other.now.mutexes }) }
+    {
+        self.buffers.copy_from(&other.buffers)?;
+        self.blackboards.copy_from(&other.blackboards)?;
+        self.semaphores.copy_from(&other.semaphores)?;
+        self.events.copy_from(&other.events)?;
+        self.mutexes.copy_from(&other.mutexes)?;
+        Ok(())
+    }
+
+    // Replaces its ports by copies of another partition's.
+    fn copy_ports(&mut self, other: &PartitionState) -> Result<(), AllocError>
+        ensures { OnOk result (self.new ≡ record self.old { sampling_ports = other.now.sampling_ports; queuing_ports = other.now.queuing_ports }) }
+    {
+        self.sampling_ports.copy_from(&other.sampling_ports)?;
+        self.queuing_ports.copy_from(&other.queuing_ports)?;
+        Ok(())
+    }
+
+    // Replaces its objects and ports by copies of another partition's.
+    fn copy_objects_and_ports(&mut self, other: &PartitionState) -> Result<(), AllocError>
+        ensures { OnOk result (self.new ≡ record other.now { mode = self.old.mode; table = self.old.table }) }
+    {
+        self.copy_objects(other)?;
+        self.copy_ports(other)
+    }
+
+    // States what every state keeps: the numbers of its objects fit 32 bits. Does nothing.
     pub(crate) fn keep_numbers(&self)
         ensures { NumbersAreKept self.now }
     {
@@ -125,5 +162,22 @@ impl PartitionState {
         ensures { result.now ≡ self.now.queuing_ports }
     {
         &self.queuing_ports
+    }
+}
+
+impl Clone for PartitionState {
+    ghost is_clone = { λ state copy. copy ≡ state };
+
+    fn clone(&self) -> Result<PartitionState, AllocError> {
+        let processes = self.processes.clone()?;
+        let mut copy = PartitionState::without_objects(self.alloc, processes);
+        match copy.copy_objects_and_ports(self) {
+            Ok(()) => Ok(copy),
+            Err(refused) => {
+                // A call drops the copy as one value; a drop in place would be proved table by table.
+                drop(copy);
+                Err(refused)
+            }
+        }
     }
 }

@@ -9,7 +9,7 @@ use apex_machine::Status;
 use apex_types::{Name, ObjectKind};
 
 impl PartitionState {
-    /// The number of the object or the port of a kind that has this name, or None where none has.
+    /// The number of the object or the port of a kind that has this name, or None if none has it.
     pub fn number_of(&self, kind: ObjectKind, name: &Name) -> Option<u32>
         ensures { result ≡ names.number_of self.now kind name.now }
     {
@@ -24,8 +24,8 @@ impl PartitionState {
         }
     }
 
-    /// The status of the object or the sampling port of a kind that has the number that a caller gives, or None where none has; None
-    /// for a queuing port, whose channel tells it.
+    /// The status of the object or the sampling port of a kind that has the number that a caller gives, or None if none has it. None also
+    /// for a queuing port, whose status its channel reports.
     pub fn status_of(&self, kind: ObjectKind, object: i64) -> Option<Status>
         ensures { result ≡ statuses.status_of self.now kind object }
     {

@@ -88,7 +88,7 @@ judged_more content judged new count counted each last =
     (λ number less one is. each number less one (is ∙ get_or_append_left judged (new ∷ []) one number (omega (arith, less, counted))))
     (λ one is. subst (IsJudged content count) (sym (is ∙ ap (λ n. get_or (judged ++ new ∷ []) n one) (sym counted) ∙ get_or-append_seam judged new [] one)) last)
 
--- what stands in the next place became of the next piece
+-- the next place holds what became of the next piece
 pub next_judged : (round : Content) (left : List Part) (claimed : ℕ) (log : List Event) (places before after : List (Option Judged)) (judged : Judged)
     → (before ++ Some judged ∷ []) ++ after ≡ places → IsBoard round left claimed log places → IsJudged round (length before) judged
 next_judged round left claimed log places before after judged is board =

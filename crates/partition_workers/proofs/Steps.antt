@@ -13,15 +13,15 @@ use Rattle.partition_workers.specs.Logs.{AreAllClaimed, IsFirstLeft, claimant, i
 use Rattle.partition_workers.proofs.Histories.{claimant_at_post, claimant_beside, claimant_here, claimant_stays, legal_on, posted_at_claim, posted_beside, posted_here}
 
 -- the first of those left is that of this number, and the others are left after it
-left_behind : (parts left : List Part) (part : Part) (claimed : ℕ) → part ∷ left ≡ drop claimed parts
+left_after_all : (parts left : List Part) (part : Part) (claimed : ℕ) → part ∷ left ≡ drop claimed parts
     → (left ≡ drop (suc claimed) parts) × (part ≡ part_at parts claimed)
-left_behind [] left part claimed is = absurd (none claimed is)
+left_after_all [] left part claimed is = absurd (none claimed is)
   where
     none : (count : ℕ) → part ∷ left ≡ drop count [] → ⊥
     none zero is = cc
     none (suc count) is = cc
-left_behind (first ∷ others) left part zero is = (cc, cc)
-left_behind (first ∷ others) left part (suc claimed) is = left_behind others left part claimed is
+left_after_all (first ∷ others) left part zero is = (cc, cc)
+left_after_all (first ∷ others) left part (suc claimed) is = left_after_all others left part claimed is
 
 placed_still : (round : Content) (log now : List Event) (piece : ℕ) (one : Option Judged) → is_posted now piece ≡ is_posted log piece → IsPlaced round log piece one → IsPlaced round now piece one
 placed_still round log now piece None same placed = same ∙ placed
@@ -59,9 +59,9 @@ module _ (round : Content) (left : List Part) (claimed : ℕ) (log : List Event)
       let one_more : suc claimed ≡ claimed + 1 = omega arith in
       record {
         legal = legal_on (length round.parts) [] log event board.legal (omega (arith, board.whole), free);
-        rest = subst (λ count. left ≡ drop count round.parts) one_more (left_behind round.parts left part claimed board.rest).0;
+        rest = subst (λ count. left ≡ drop count round.parts) one_more (left_after_all round.parts left part claimed board.rest).0;
         whole = omega (arith, board.whole);
-        free = (λ number behind. claimant_beside log worker claimed number (λ same. absurd (omega (arith, same, behind))) ∙ board.free number (omega (arith, behind)));
+        free = (λ number those_after. claimant_beside log worker claimed number (λ same. absurd (omega (arith, same, those_after))) ∙ board.free number (omega (arith, those_after)));
         taken = (λ number before none.
             ⊎_elim
             (λ (less : number < claimed). claimant_stays log worker claimed number (board.taken number less) none)
@@ -83,7 +83,7 @@ module _ (round : Content) (left : List Part) (claimed : ℕ) (log : List Event)
   }
 
   pub claimed_part : (part : Part) → IsBoard round (part ∷ left) claimed log places → part ≡ part_at round.parts claimed
-  claimed_part part board = (left_behind round.parts left part claimed board.rest).1
+  claimed_part part board = (left_after_all round.parts left part claimed board.rest).1
 
   pub none_left : left ≡ [] → IsBoard round left claimed log places → AreAllClaimed (length round.parts) log
   none_left none board number within = board.taken number (omega (arith, within, board.whole, ap length none))
@@ -111,7 +111,7 @@ module _ (round : Content) (left : List Part) (claimed : ℕ) (log : List Event)
         legal = legal_on (length round.parts) [] log event board.legal (by, unposted);
         rest = board.rest;
         whole = board.whole;
-        free = (λ piece behind. claimant_at_post log worker number piece ∙ board.free piece behind);
+        free = (λ piece those_after. claimant_at_post log worker number piece ∙ board.free piece those_after);
         taken = (λ piece before none. board.taken piece before (sym (claimant_at_post log worker number piece) ∙ none));
         count = count_posted number worker judged board unposted within;
         place = length-set places number (Some judged) ∙ board.place;
@@ -135,7 +135,7 @@ empty_board round places whole none = record {
   legal = tt;
   rest = refl;
   whole = omega arith;
-  free = λ piece behind. refl;
+  free = λ piece those_after. refl;
   taken = λ piece before. absurd (omega (arith, before));
   count = omega (arith, none_filled places none);
   place = whole;

@@ -163,7 +163,7 @@ impl<'a, J: Naming> Board<'a, J> {
     }
 }
 
-// A history with room for a claim and a post of each of so many pieces.
+// A history with room for a claim and a post of each of this many pieces.
 fn log_for(alloc: Global, count: usize) -> Result<Vec<Event>, Memory>
     ensures none { IfOk result (λ log. log.items ≡ []) }
     ensures room { IfOk result (λ log. 2 * count ≤ vec_capacity log) }
@@ -177,7 +177,7 @@ fn log_for(alloc: Global, count: usize) -> Result<Vec<Event>, Memory>
     }
 }
 
-// A place without a value for each of so many pieces.
+// A place without a value for each of this many pieces.
 fn empty_places(alloc: Global, count: usize) -> Result<Vec<Option<Judged>>, Memory>
     ensures count { IfOk result (λ places. length places.items ≡ count) }
     ensures none { IfOk result (λ places. All (λ place. place ≡ None) places.items) }

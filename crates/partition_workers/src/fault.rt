@@ -10,13 +10,13 @@ use thiserror::Error;
 #[derive(Clone, Copy, Debug, Drop, PartialEq, Eq, Error)]
 pub enum PostRefusal {
     /// Nobody has claimed the piece.
-    #[error("a piece that nobody has claimed")]
+    #[error("no worker has claimed the piece")]
     NotClaimed,
     /// Another worker has claimed the piece.
-    #[error("a piece that another worker has claimed")]
+    #[error("another worker has claimed the piece")]
     Foreign,
     /// The worker has posted the piece before.
-    #[error("a piece that was posted before")]
+    #[error("the piece is already posted")]
     Repeated,
 }
 
@@ -42,7 +42,7 @@ impl<J: Naming> PostFault<J> {
 #[derive(Clone, Copy, Debug, Drop, PartialEq, Eq, Error)]
 pub enum RoundFault {
     /// There is no worker.
-    #[error("no worker")]
+    #[error("there is no worker")]
     NoWorkers,
     /// Memory or a thread was refused.
     #[error("out of memory")]

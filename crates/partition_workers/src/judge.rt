@@ -123,13 +123,13 @@ impl Judge {
         };
         self.pieces = surveyed.pieces;
         self.breach = surveyed.breach;
-        self.count = place_behind(self.count, records);
+        self.count = place_after(self.count, records);
         Ok(surveyed.found)
     }
 }
 
 // The place after these records, the first of which is at this place.
-fn place_behind(first: u64, records: &[Ordered]) -> u64
+fn place_after(first: u64, records: &[Ordered]) -> u64
     requires { ArePlaced first records.now }
     ensures { result ≡ first + length records.now }
 {

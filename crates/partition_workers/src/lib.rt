@@ -9,6 +9,23 @@
 //! - Whenever the lock of a board is free, its history is legal, and each posted result is that of its own piece over the board's round.
 //!
 //! Not promised: that every thread makes progress.
+//!
+//! `Judge` holds all pieces and the index of the round. It sorts a round out by piece, lets the workers judge the pieces (`run_round`),
+//! gathers their results (`gather_round`), and goes on with the pieces as they were left. `breach` gives the first view of the last round
+//! that breaks a rule.
+//!
+//! A worker claims a piece at the board, lets it go over the records and tests its views outside the lock, and posts its result, until no
+//! piece is left. The board keeps the history of claims and posts and a place for each piece. Whenever its lock is free, a place is filled
+//! exactly if its piece is posted. Claims and posts take no memory: the room is reserved when the board is made. `run_round` starts the
+//! workers, joins them and takes the values out by number; with one worker it starts no thread.
+//!
+//! The types of a round's board, jobs and values name the round by what it is: the module, the place of its first record, the records, what
+//! the rules say, and the parts of the pieces. The rules themselves are lent beside a job, and a job is run only under rules that say the
+//! same as those of the round. So a value is, by its type, what its own piece makes of that round, and no value of another round can be
+//! posted. A worker cannot drop a value either: it ends in a post, or with the fault of one.
+//!
+//! A `Gate` sees each claim and each post, outside the lock, so a test can hold workers back. The check also tells it when the answer is
+//! known. Nor does a clause say that several threads run: that is tested.
 #![tactic(auto)]
 
 mod board;

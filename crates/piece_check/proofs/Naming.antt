@@ -8,7 +8,7 @@ use Rattle.apex_machine.specs.Configuration.{Configuration, has_partition}
 use Rattle.apex_machine.specs.Names.{number_named}
 use Rattle.apex_machine.specs.Step.{AllConfigured}
 
--- all are configured exactly where the test passes at each
+-- all are configured exactly if the test passes at each
 pub AllConfigured_all : (configuration : Configuration) (named : List Who)
     → IsTrue (list_all (λ who. has_partition configuration who.part) named) ↔ AllConfigured configuration named
 AllConfigured_all configuration [] = (λ _. tt, λ _. refl)
@@ -16,7 +16,7 @@ AllConfigured_all configuration (who ∷ named) =
     let rest : IsTrue (list_all (λ other. has_partition configuration other.part) named) ↔ AllConfigured configuration named = AllConfigured_all configuration named in
     grind (arith, rest)
 
--- a name is taken where what has it has a number
+-- a name is taken if what has it has a number
 pub named_is_taken : {Item : Type 0} (name_of : Item → List ℕ) (name : List ℕ) (entries : List (ℕ × Item)) → is_some (number_named name_of name entries) ≡ is_taken name_of name entries
 named_is_taken name_of name [] = refl
 named_is_taken name_of name (entry ∷ entries) = by (bytes_eq name (name_of entry.1)) (named_is_taken name_of name entries)

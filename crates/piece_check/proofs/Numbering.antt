@@ -44,7 +44,7 @@ partitions_of configuration = map (λ limits. OfPartition limits.number) configu
 abbrev channels_of : Configuration → List Piece
 channels_of configuration = map (λ number. OfChannel number) (channel_numbers configuration)
 
--- so many
+-- how many pieces there are
 pub length-pieces : (configuration : Configuration) → length (pieces configuration) ≡ length configuration.partitions + length (channel_numbers configuration) + 1
 length-pieces configuration =
     omega (
@@ -75,7 +75,7 @@ piece_at_channel configuration (suc piece) some past below =
     in_second (partitions_of configuration) (channels_of configuration) piece (omega (arith, past, many))
     ∙ rw (before, many) (channel_among (channel_numbers configuration) (piece - length configuration.partitions) (rw before at below))
 
--- a list names a process of a partition where a process of it is the partition's
+-- a list names a process of a partition if a process of it is the partition's
 pub names_one_of_any : (number : ℕ) (named : List Who) → list_any (λ who. nat_eq who.part number) named ≡ names_one_of number named
 names_one_of_any number [] = refl
 names_one_of_any number (who ∷ named) = ap (λ (rest : Bool). nat_eq who.part number || rest) (names_one_of_any number named)

@@ -22,10 +22,10 @@ use Rattle.apex_laws.specs.PartBounds.{PeriodFits}
 use Rattle.apex_laws.proofs.BoundedParts.{part_stays_bounded}
 use Rattle.apex_laws.proofs.SoundParts.{part_stays_sound}
 use Rattle.apex_laws.proofs.Waiters.{all_push, all_weaker, all_without}
-use Rattle.wait_set.specs.Laws.{StandBefore}
+use Rattle.wait_set.specs.Laws.{AreBeforePlace}
 use Rattle.piece_check.specs.Parts.{CallerFits, HasCores, HoldsBefore, IsKeptBefore, KeepsBefore, NoTimeAbove, EnteredBefore, core_at}
 
--- cold cores stand at time 0
+-- cold cores are at time 0
 pub cold_time : (count core : ℕ) → time_of (replicate count cold_core) core ≤ 0
 cold_time zero core = omega arith
 cold_time (suc count) zero = omega arith
@@ -171,9 +171,9 @@ set_before place (Call call) wanted entries fits all =
     ]
 
 -- so the places in it are below that place
-pub stand_before : (place : ℕ) (entries : List Entry) → AllEntries (EnteredBefore place) entries → StandBefore place entries
-stand_before place [] all = tt
-stand_before place (entry ∷ entries) all = (all.0.earlier, stand_before place entries all.1)
+pub are_before_place : (place : ℕ) (entries : List Entry) → AllEntries (EnteredBefore place) entries → AreBeforePlace place entries
+are_before_place place [] all = tt
+are_before_place place (entry ∷ entries) all = (all.0.earlier, are_before_place place entries all.1)
 
 kept_after : (configuration : Configuration) (old : Part) (ordered : Ordered) → HoldsBefore ordered.pos old → AllHold (demands configuration old ordered)
     → PeriodFits ordered.rec.body → CallerFits ordered.rec.body → KeepsBefore (ordered.pos + 1) (part_after configuration old ordered)

@@ -1,4 +1,4 @@
--- The judgement of one of the partition's own calls: what stands before the outcome, and the outcome after it.
+-- The judgement of one of the partition's own calls: what comes before the outcome, and then the outcome.
 use Rattle.std.proofs.Common.{◌≡◌, ◌≢◌, ℕ, List, [], ◌∷◌, ◌++◌, Option, Some, None, Result, Ok, Err, false, inr, refl}
 use Rattle.apex_types.specs.declared.cause.Cause.{Cause}
 use Rattle.apex_types.specs.declared.record.Call.{Call as CallRecord}
@@ -28,9 +28,9 @@ pub fails_later : (demands others : List {1} Demand) (why : Cause) → AllHold d
 fails_later [] others why hold fails = fails
 fails_later (demand ∷ demands) others why hold fails = inr (hold.0, fails_later demands others why hold.1 fails)
 
--- where no error condition holds
+-- if no error condition holds
 
--- where no channel is used either, what fails of the claim fails of the call
+-- if no channel is used either, what fails of the claim fails of the call
 pub served_fails : (configuration : Configuration) (number : ℕ) (cores : List CoreState) (partition : Partition) (core now : ℕ) (call : CallRecord) (fault : ObjFault)
     → AllHold (caller_demands configuration number cores partition core call)
     → conditions_of configuration call.who partition call.request ≡ [] → channel_of partition call.request ≡ None → call.claim.chan ≡ None → now ≡ time_of cores core
@@ -49,7 +49,7 @@ served_judged configuration number cores partition core now call (Ok done) calle
 served_judged configuration number cores partition core now call (Err why) caller none nowhere apart at fails =
     served_fails configuration number cores partition core now call (Unlawful why) caller none nowhere apart at fails
 
--- where a channel is used, what is demanded of the outcome, whatever the service gives, holds of the call, or fails of it
+-- if a channel is used, what is demanded of the outcome, whatever the service gives, holds for the call, or fails for it
 pub through_holds : (configuration : Configuration) (number : ℕ) (cores : List CoreState) (partition : Partition) (core : ℕ) (call : CallRecord) (channel : ℕ)
     → AllHold (caller_demands configuration number cores partition core call)
     → conditions_of configuration call.who partition call.request ≡ [] → channel_of partition call.request ≡ Some channel
@@ -66,7 +66,7 @@ pub through_fails : (configuration : Configuration) (number : ℕ) (cores : List
 through_fails configuration number cores partition core call channel why caller none goes fails =
     fails_later (caller_demands configuration number cores partition core call) _ why caller (rw (none, goes) (fails (answer_of (time_of cores core) call.who partition call.request)))
 
--- where some error condition holds
+-- if some error condition holds
 
 -- what is demanded of the outcome, whatever the service gives and wherever the call goes, holds of the call, or fails of it
 pub refused_holds : (configuration : Configuration) (number : ℕ) (cores : List CoreState) (partition : Partition) (core : ℕ) (call : CallRecord)

@@ -92,7 +92,7 @@ after_letting_go configuration now place number call channel ordered left other 
 
 -- those who leave
 
--- whom a call names that restarts its partition, and all of that partition
+-- the processes that a call names that restarts its partition, and all of that partition
 either_order : (one other : Bool) → (one || (other || false)) ≡ (other || one)
 either_order true true = refl
 either_order true false = refl
@@ -106,7 +106,7 @@ left_with_part call entered is entries =
     (λ who. rw (is, restart_stops_none call entered is who) (either_order (nat_eq who.part call.who.part) (is_named who call.claim.woken))) entries
     ∙ sym (without_without (λ who. is_named who call.claim.woken) (λ who. nat_eq who.part call.who.part) entries)
 
--- whom another call names, and whom it stops
+-- the processes that another call names, and those that it stops
 same_there : (leaves other : Who → Bool) (place : ℕ) (entries : List Entry) → ((who : Who) → who.proc < 4294967296 → leaves who ≡ other who)
     → AllEntries (EnteredBefore place) entries → without leaves entries ≡ without other entries
 same_there leaves other place [] same all = refl

@@ -1,4 +1,4 @@
--- What shows that a demand of a piece fails: by the cause, what the machine has there.
+-- What shows that a demand of a piece fails: for each cause, what the machine has in its place.
 use Rattle.std.specs.Prelude.{◌≡◌, ℕ, ◌+◌, List, [], ◌∷◌, Option, Some, None, Bool, true, false, nat_eq, nat_le, not, ◌&&◌, ◌||◌, IsFalse, IsTrue, option_map}
 use Rattle.std.specs.List.{find, position_from}
 use Rattle.apex_types.specs.declared.cause.Cause.{Cause}
@@ -18,7 +18,7 @@ use Rattle.apex_machine.specs.Channels.{has_channel}
 use Rattle.apex_machine.specs.Choice.{choice_in}
 use Rattle.apex_machine.specs.Conditions.{owns_mutex}
 use Rattle.apex_machine.specs.Configuration.{Configuration, has_partition}
-use Rattle.apex_machine.specs.Demands.{WakesHere, stands_in, window_now}
+use Rattle.apex_machine.specs.Demands.{WakesHere, has_entry_in, window_now}
 use Rattle.apex_machine.specs.DueTimes.{falls_due}
 use Rattle.apex_machine.specs.Objects.{is_owner}
 use Rattle.apex_machine.specs.Pieces.{ChannelPart, ModulePart, Part, PartitionPart, time_at}
@@ -54,18 +54,18 @@ channel_named _ = None
 abbrev pub first_unknown : Configuration → List Who → Option Who
 first_unknown configuration named = find (λ who. not (has_partition configuration who.part)) named
 
--- Names: the partition of the first process whose partition is not configured, else the channel that is not
+-- Names: the partition of the first process whose partition is not configured; else the channel that is not configured
 abbrev pub ShowsNames : Configuration → Option Who → Option ℕ → Evidence → Type 0
 ShowsNames configuration (Some who) channel (evidence.UnknownPartition number) = number ≡ who.part
 ShowsNames configuration None channel (evidence.UnknownChannel number) = (channel ≡ Some number) × IsFalse (has_channel configuration number)
 ShowsNames configuration None channel evidence.Nothing = ChannelConfigured configuration channel
 ShowsNames configuration unknown channel _ = ⊥
 
--- whether a core that is at this time would be more than the skew ahead of another after its tick
+-- whether a core whose time is this would be more than the skew ahead of another core after its tick
 abbrev pub leaves_back : Configuration → ℕ → CoreState → Bool
 leaves_back configuration time other = not (nat_le (time + 1) (other.time + configuration.skew))
 
--- Skew: the first core that the tick would leave more than the skew back
+-- Skew: the first core that the tick's own core would be more than the skew ahead of
 abbrev pub ShowsSkew : Option ℕ → Evidence → Type 0
 ShowsSkew (Some core) shown = shown ≡ evidence.LeftBack core
 ShowsSkew None shown = shown ≡ evidence.Nothing
@@ -86,7 +86,7 @@ ShowsPending (Some outcome) (evidence.Pending pending) = pending.now ≡ outcome
 ShowsPending None evidence.NothingPending = Unit {0}
 ShowsPending outcome _ = ⊥
 
--- the process of which the profile speaks: the one that the request names, else the caller
+-- the process to which the profile applies: the one that the request names, else the caller
 abbrev pub target_of : Who → Request → ℕ
 target_of who (request.Process process operation) = natural_of process
 target_of who _ = who.proc
@@ -100,11 +100,11 @@ ShowsOutside who partition asked evidence.WaitsForMutex =
 ShowsOutside who partition asked evidence.Nothing = IsTrue (in_profile who partition asked)
 ShowsOutside who partition asked _ = ⊥
 
--- the number of the first mutex of which this holds
+-- the number of the first mutex for which this holds
 abbrev pub first_mutex : (Mutex → Bool) → List (ℕ × Mutex) → Option ℕ
 first_mutex holds mutexes = option_map (λ entry. entry.0) (find (λ entry. holds entry.1) mutexes)
 
--- whether a mutex has this priority and is not this process's
+-- whether a mutex has this priority and another owner than this process, or none
 abbrev pub is_elsewhere : ℕ → ℕ → Mutex → Bool
 is_elsewhere priority process mutex = nat_eq mutex.priority priority && not (is_owner mutex.owner process)
 
@@ -117,7 +117,7 @@ ShowsPriority mutexes number recorded (Some process) shown =
     (first_mutex (is_elsewhere recorded number) mutexes)
 ShowsPriority mutexes number recorded None shown = shown ≡ evidence.Nothing
 
--- a claim: the error conditions that hold; else the channel of the port; else what the service gives, of a creation a new number
+-- a claim: the error conditions that hold; else the channel of the port; else what the service gives, which for a creation is a new number
 abbrev pub ShowsClaim : List Condition → Option ℕ → Bool → Answer → Evidence → Type 0
 ShowsClaim (condition ∷ conditions) channel is_creation answer (evidence.Conditions held) = held ≡ condition ∷ conditions
 ShowsClaim [] (Some channel) is_creation answer (evidence.Through shown) = shown ≡ channel
@@ -135,12 +135,12 @@ ShowsOfCall configuration cores partition core call _ shown =
     ShowsClaim (conditions_of configuration call.who partition call.request) (channel_of partition call.request) (creates call.request)
     (answer_of (time_of cores core) call.who partition call.request) shown
 
--- what is shown of a call: of another partition's, whom it names, which `may_wake` and `misnaming` judge
+-- what is shown of a call; of another partition's call, the processes that it names, which `may_wake` and `misnaming` judge
 abbrev pub ShowsOfAnyCall : Bool → Configuration → List CoreState → Partition → ℕ → CallRecord → Cause → Evidence → Type 0
 ShowsOfAnyCall true configuration cores partition core call cause shown = ShowsOfCall configuration cores partition core call cause shown
 ShowsOfAnyCall false configuration cores partition core call cause shown = shown ≡ evidence.Named
 
--- what is shown of a record: of a return the pending outcome, of a tick whom it names
+-- what is shown of a record: of a return the pending outcome, of a tick the processes that it names
 abbrev pub ShowsOfBody : Configuration → ℕ → List CoreState → Partition → ℕ → Body → Cause → Evidence → Type 0
 ShowsOfBody configuration number cores partition core (Call call) cause shown =
     ShowsOfAnyCall (nat_eq call.who.part number) configuration cores partition core call cause shown
@@ -148,8 +148,8 @@ ShowsOfBody configuration number cores partition core (Ret ret) cause shown = Sh
 ShowsOfBody configuration number cores partition core (Tick woken) cause shown = shown ≡ evidence.Named
 ShowsOfBody configuration number cores partition core (Disp who) cause shown = shown ≡ evidence.Nothing
 
--- what a partition shows: the window of the core, or its choice, each beside the occupant; else what the record comes to. Names, Skew
--- and Idle are demands of the module alone
+-- what a partition shows: the window of the core, or its choice, each with the occupant; else what the record shows. Names, Skew and Idle
+-- are demands of the module alone
 abbrev pub ShowsOfPartition : Configuration → ℕ → List CoreState → Partition → ℕ → Body → Cause → Evidence → Type 0
 ShowsOfPartition configuration number cores partition core body cause.Names shown = shown ≡ evidence.Nothing
 ShowsOfPartition configuration number cores partition core body cause.Skew shown = shown ≡ evidence.Nothing
@@ -167,7 +167,8 @@ abbrev pub ShowsWaits : Bool → Evidence → Type 0
 ShowsWaits true shown = shown ≡ evidence.Waits
 ShowsWaits false shown = shown ≡ evidence.Nothing
 
--- a claim: what the channel gives, or that the service does not suit it: it is of the other kind, or it asks from neither end
+-- a claim: what the channel gives, or that the service does not suit it: it is of the other kind, or it asks for the status from neither
+-- end
 abbrev pub ShowsThrough : Bool → Answer → Request → Channel → Evidence → Type 0
 ShowsThrough suited answer asked channel (evidence.Answer given) = IsTrue suited × (answer_given given ≡ answer)
 ShowsThrough suited answer asked channel evidence.OtherKind = IsFalse suited
@@ -177,7 +178,7 @@ ShowsThrough suited answer asked channel _ = ⊥
 -- what a channel shows of a call at this time of its caller's core
 abbrev pub ShowsOfChannel : Configuration → ℕ → ℕ → Channel → Body → Cause → Evidence → Type 0
 ShowsOfChannel configuration now number channel (Call call) cause.Choice shown =
-    ShowsWaits (stands_in call.who channel.senders || stands_in call.who channel.receivers) shown
+    ShowsWaits (has_entry_in call.who channel.senders || has_entry_in call.who channel.receivers) shown
 ShowsOfChannel configuration now number channel (Call call) cause shown =
     ShowsThrough (suits_use configuration number call.who.part (use_of call.request) channel)
     (channel_effect configuration now number call.who.part (use_of call.request) channel).answer call.request channel shown
@@ -193,16 +194,16 @@ IsEvidence configuration (PartitionPart number cores partition) ordered cause sh
 IsEvidence configuration (ChannelPart number times channel) ordered cause shown =
     ShowsOfChannel configuration (time_at times ordered.core) number channel ordered.rec.body cause shown
 
--- whom a record names
+-- the processes that a record names
 
--- whether a wait ends and whether the record names its process: not both
+-- how a record names a process wrongly, by whether the process's wait ends and whether the record names it
 abbrev pub misnamed : Bool → Bool → Option Misnaming
 misnamed true false = Some misnaming.Missing
 misnamed false true = Some misnaming.Unexpected
 misnamed true true = None
 misnamed false false = None
 
--- a process of the part's partition at a tick: whether its wait falls due, and whether the tick names it
+-- how a tick names a process of the part's partition wrongly, by whether the process's wait falls due and whether the tick names it
 abbrev pub misnamed_at_tick : Part → ℕ → List Who → ℕ → Option Misnaming
 misnamed_at_tick (PartitionPart number cores partition) core woken process =
     misnamed (falls_due core (time_of cores core + 1) (item_at partition.table process)) (is_named (record { part = number; proc = process }) woken)

@@ -21,7 +21,7 @@ part_of (Module piece) = ModulePart piece.clock.cores
 part_of (Partition piece) = partition_part piece
 part_of (Channel piece) = channel_part piece
 
--- what was given for the channel of a piece, if it is one
+-- the settings of the piece's channel, if the piece is a channel's
 abbrev pub settings_of : Held → Option Settings
 settings_of (Module piece) = None
 settings_of (Partition piece) = None

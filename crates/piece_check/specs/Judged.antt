@@ -25,28 +25,28 @@ asked_by_module configuration piece core body = module_demands configuration pie
 abbrev pub asked_by_partition : Configuration → PartitionPiece → ℕ → Body → List {1} Demand
 asked_by_partition configuration piece core body = partition_demands configuration piece.number piece.clock.cores piece.state core body
 
--- what it demands of a call of one of its own processes before the outcome
+-- what a partition's piece demands, before the outcome, of a call of one of its own processes
 abbrev pub own_caller_demands : Configuration → PartitionPiece → ℕ → CallRecord → List {1} Demand
 own_caller_demands configuration piece core call = caller_demands configuration piece.number piece.clock.cores piece.state core call
 
--- what it demands of a call of one of its own processes
+-- what a partition's piece demands of a call of one of its own processes
 abbrev pub own_demands : Configuration → PartitionPiece → ℕ → CallRecord → List {1} Demand
 own_demands configuration piece core call = own_call_demands configuration piece.number piece.clock.cores piece.state core call
 
--- a call of one of its own processes whose claim is left to its service: what comes before the outcome holds, no error condition does,
--- and the call goes through no channel and claims none
+-- a call of one of its own processes whose claim is left to its service: the demands before the outcome hold, no error condition does, and
+-- the call goes through no channel and claims none
 pub record IsForService (configuration : Configuration) (piece : PartitionPiece) (core : ℕ) (call : CallRecord) : Type 0 where
   pub caller : AllHold (own_caller_demands configuration piece core call)
   pub clear : conditions_of configuration call.who piece.state call.request ≡ []
   pub through : channel_of piece.state call.request ≡ None
   pub apart : call.claim.chan ≡ None
 
--- how such a call goes on: all its demands hold and it leaves the objects of the partition, or its claim is left to its service
+-- how such a call continues: all its demands hold and it leaves the objects of the partition unchanged, or its claim is left to its service
 abbrev pub GoesOn : Configuration → PartitionPiece → ℕ → CallRecord → Course → Type 0
 GoesOn configuration piece core call Noted = AllHold (own_demands configuration piece core call) × LeavesObjects call
 GoesOn configuration piece core call Served = IsForService configuration piece core call
 
--- its part after such a call
+-- the part after such a call
 abbrev pub part_called : Configuration → PartitionPiece → Ordered → CallRecord → Part
 part_called configuration piece ordered call =
     PartitionPart piece.number piece.clock.cores (own_partition (restart_of call) configuration piece.clock.cores ordered.pos ordered.core call piece.state)

@@ -24,7 +24,7 @@ pub record Holding : Type 0 where
 abbrev pub piece_at : Configuration → ℕ → Piece
 piece_at configuration number = slice_index_or (pieces configuration) number Module
 
--- the piece that holds a part: whose part it is
+-- the piece that holds a part
 abbrev pub holder : Part → Piece
 holder (ModulePart cores) = Module
 holder (PartitionPart number cores partition) = OfPartition number
@@ -48,14 +48,14 @@ cores_of (ChannelPart number times channel) = map core_at times
 abbrev pub HasCores : ℕ → Part → Type 0
 HasCores count part = length (cores_of part) ≡ count
 
--- what was given for a channel is what the configuration says of it
+-- the settings of a channel are what the configuration says of it
 abbrev pub AgreesOn : Configuration → Part → Option Settings → Type 0
 AgreesOn configuration (ChannelPart number times channel) (Some settings) = SaysTheSame configuration number settings
 AgreesOn configuration (ChannelPart number times channel) None = ⊥
 AgreesOn configuration (ModulePart cores) settings = Unit {0}
 AgreesOn configuration (PartitionPart number cores partition) settings = Unit {0}
 
--- a piece of a module that is configured so: it knows the module's cores, and its channel is as it is configured
+-- a piece of a module of this configuration: it knows the module's cores, and its channel is as it is configured
 pub record IsOf (configuration : Configuration) (holding : Holding) : Type 0 where
   pub cores : HasCores configuration.cores holding.part
   pub channel : AgreesOn configuration holding.part holding.settings
@@ -64,22 +64,22 @@ pub record IsOf (configuration : Configuration) (holding : Holding) : Type 0 whe
 abbrev pub NoTimeAbove : ℕ → Part → Type 0
 NoTimeAbove place part = (core : ℕ) → time_of (cores_of part) core ≤ place
 
--- a partition's waiting sets are sound before this place, and its numbers bounded
+-- a partition's waiting sets are sound before this place, and its numbers are bounded
 pub record IsKeptBefore (number place : ℕ) (partition : Partition) : Type 0 where
   pub sound : IsSoundPart number place partition
   pub bounded : IsBoundedPart place partition
 
--- an entry that entered its waiting set before this place, of a process whose number has 32 bits
+-- an entry entered its waiting set before this place, and the number of its process has 32 bits
 pub record EnteredBefore (place : ℕ) (entry : Entry) : Type 0 where
   pub earlier : entry.place < place
   pub number : entry.who.proc < 4294967296
 
--- all who wait at a channel entered before this place
+-- all processes that wait at a channel entered before this place
 pub record WaitBefore (place : ℕ) (channel : Channel) : Type 0 where
   pub senders : AllEntries (EnteredBefore place) channel.senders
   pub receivers : AllEntries (EnteredBefore place) channel.receivers
 
--- what a part keeps before this place, beside its times
+-- what a part keeps before this place, apart from its times
 abbrev pub KeepsBefore : ℕ → Part → Type 0
 KeepsBefore place (ModulePart cores) = Unit {0}
 KeepsBefore place (PartitionPart number cores partition) = IsKeptBefore number place partition

@@ -1,4 +1,4 @@
--- What pieces are of, and processes that may be there.
+-- Subjects of pieces, and processes that may be named.
 use Rattle.std.specs.Prelude.{Option, Some, None, Bool, false}
 use Rattle.apex_types.specs.declared.record.Who.{Who}
 use Rattle.apex_machine.specs.Pieces.{OfChannel, OfPartition, Piece}
@@ -13,7 +13,7 @@ piece_of Module = pieces.Module
 piece_of (Partition number) = OfPartition number
 piece_of (Channel number) = OfChannel number
 
--- whether a process is this one, if there is one
+-- whether there is a process, and it is this one
 abbrev pub is_the : Who → Option Who → Bool
 is_the who None = false
 is_the who (Some other) = is_same who other

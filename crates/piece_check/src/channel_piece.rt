@@ -1,4 +1,4 @@
-// The piece of a channel: what goes through it, and who waits at its ends.
+// The piece of a channel: what goes through it, and which processes wait at its ends.
 
 ghost use Rattle.std.specs.Prelude.{◌≡◌, ◌<◌, ◌≢◌, ℕ, IfErr, IfOk, OnErr, OnOk, Some, length, true};
 ghost use Rattle.apex_types.specs.declared.limits.TheConstants.{PLACE_COUNT};
@@ -29,7 +29,7 @@ use std::alloc::{AllocError, Global};
 use wait_set::ObjFault;
 
 /// The piece of a channel: the times of the cores, and the channel.
-#[derive(Drop)]
+#[derive(Clone, Drop)]
 pub(crate) struct ChannelPiece {
     pub(crate) times: Times,
     pub(crate) channel: Channel,
@@ -38,7 +38,7 @@ pub(crate) struct ChannelPiece {
 impl ChannelPiece {
     /// The piece of this channel, with its part of the cold state.
     ///
-    /// AllocError where memory for the places of its messages is refused.
+    /// AllocError if memory for the places of its messages is refused.
     pub(crate) fn start(
         alloc: Global,
         config: &Config,
@@ -53,10 +53,9 @@ impl ChannelPiece {
         Ok(ChannelPiece { times, channel })
     }
 
-    /// Judges a record, and makes the part what the record makes of it.
+    /// Judges a record, and changes the part as the record says.
     ///
-    /// Refused, with nothing changed, where a demand fails: the cause is that of the first; or where memory is refused to a
-    /// call.
+    /// Refused, with nothing changed, if a demand fails, with the cause of the first that does; or if memory is refused to a call.
     pub(crate) fn step(&mut self, config: &Config, ordered: &Ordered) -> Result<(), ObjFault>
         requires core { ordered.now.core < length self.old.times }
         requires place { ordered.now.pos < PLACE_COUNT }
@@ -85,8 +84,8 @@ impl ChannelPiece {
         Ok(())
     }
 
-    /// Judges a record: a call through the channel meets what the channel demands; of any other record nothing is demanded. Takes no
-    /// memory.
+    /// Judges a record. A call through the channel must meet what the channel demands; of any other record the channel demands nothing.
+    /// Takes no memory.
     ///
     /// Refused with the cause of the first demand that fails.
     pub(crate) fn judge(&self, config: &Config, ordered: &Ordered) -> Result<(), Cause>
@@ -106,7 +105,8 @@ impl ChannelPiece {
         }
     }
 
-    // A call that goes through another channel or through none: whose waits it ends leave. Who waits has a number of 32 bits.
+    // A call that goes through another channel or through none: processes whose waits it ends leave. A process that waits has a number of
+    // 32 bits.
     fn let_go(&mut self, place: Place, call: &Call)
         requires holds_before { WaitBefore place self.old.channel.channel }
         requires apart { call.now.claim.chan ≢ Some self.old.channel.number }
@@ -124,7 +124,7 @@ impl ChannelPiece {
     }
 }
 
-// The channel of this number as it is configured, without a message, at which nobody waits.
+// The channel of this number as it is configured, with no message and no process that waits.
 fn empty_channel(alloc: Global, config: &Config, number: ChanId) -> Result<Channel, AllocError>
     requires { has_channel config.now number ≡ true }
     ensures number { IfOk result (λ channel. channel.number ≡ number) }
@@ -154,8 +154,8 @@ fn empty_channel(alloc: Global, config: &Config, number: ChanId) -> Result<Chann
     }
 }
 
-// The process that a call stops, if it stops one and its number has 32 bits: STOP that is done stops its target, which is of the
-// caller's partition.
+// The process that a call stops, if it stops one whose number has 32 bits: a STOP that is done stops its target, which is of the caller's
+// partition.
 fn stopped_by(call: &Call) -> Option<Who>
     ensures { (who : WhoValue) → who.proc < 4294967296 → stops call.now who ≡ is_the who result }
 {

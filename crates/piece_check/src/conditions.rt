@@ -88,7 +88,7 @@ fn creation(state: &PartitionState, is_taken: bool, is_full: bool) -> Conditions
         .with(is_full, Condition::AllCreated)
 }
 
-// Whether a process may not wait: the initialising one, and the owner of a mutex.
+// Whether a process may not wait: it is the initialising process, or the owner of a mutex.
 fn may_not_wait(state: &PartitionState, who: Who) -> bool
     ensures { result ≡ shared.may_not_wait who state.now }
 {

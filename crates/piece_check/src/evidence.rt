@@ -5,7 +5,7 @@ ghost use Rattle.std.specs.List.{position_from};
 ghost use Rattle.apex_types.specs.declared.record.Who.{Who as WhoValue};
 ghost use Rattle.apex_types.specs.declared.request.Request.TheVariants as requests;
 ghost use Rattle.apex_machine.specs.Configuration.{Configuration};
-ghost use Rattle.apex_machine.specs.Demands.{stands_in};
+ghost use Rattle.apex_machine.specs.Demands.{has_entry_in};
 ghost use Rattle.apex_machine.specs.Objects.{is_owner};
 ghost use Rattle.apex_machine.specs.Pieces.{time_at};
 ghost use Rattle.apex_machine.specs.Ports.{Ask, channel_effect, channel_of, suits_use, use_of};
@@ -36,16 +36,16 @@ use object_table::ObjectTable;
 use partition_state::PartitionState;
 use wait_set::{Conditions, Given, WaitSet};
 
-/// What shows that a demand of a piece fails. Each variant says of which causes it is.
+/// What shows that a demand of a piece fails. Each variant names the causes to which it belongs.
 #[derive(Drop)]
 pub enum Evidence<'a> {
     /// The demand holds, or the piece does not make it.
     Nothing,
-    /// Names: the record names a process of this partition, which is not configured.
+    /// Names: the record names a process of this partition, and the partition is not configured.
     UnknownPartition(PartId),
-    /// Names: the record names this channel, which is not configured.
+    /// Names: the record names this channel, and the channel is not configured.
     UnknownChannel(ChanId),
-    /// Skew: the tick would leave the core of this number more than the skew back.
+    /// Skew: after the tick its core would be more than the skew ahead of the core of this number.
     LeftBack(usize),
     /// Idle and Window: the partition whose window the core is in, if it is in one, and the core's occupant.
     Window {
@@ -69,8 +69,8 @@ pub enum Evidence<'a> {
     OwnsMutex,
     /// OutsideProfile: the process that is suspended or given a priority waits for a mutex.
     WaitsForMutex,
-    /// Prio: the caller's current and base priority; the one that it had before it acquired its mutex; the number of the first mutex that
-    /// it owns; and that of the first mutex that has the recorded priority and that it does not own.
+    /// Prio: the caller's current and base priority; the priority that it had before it acquired its mutex; the number of the first mutex
+    /// that it owns; and the number of the first mutex that has the recorded priority and that it does not own.
     Priority {
         current: u8,
         base: u8,
@@ -90,13 +90,13 @@ pub enum Evidence<'a> {
     OtherKind,
     /// A claim, of a channel: the partition that asks for the status is at neither end.
     AtNeitherEnd,
-    /// Woken, of a tick or of another partition's call: `Piece::misnamed_at_tick` or `Piece::may_wake` says it of each process.
+    /// Woken, of a tick or of another partition's call: `Piece::misnamed_at_tick` or `Piece::may_wake` answers for each process.
     Named,
 }
 
 impl Piece {
-    /// What shows that the demand of this cause fails, where the piece refuses a record for it. A step that refuses leaves the piece as it
-    /// was, so the evidence is that of the step. Takes no memory.
+    /// What shows that the demand with this cause fails, if the piece rejects a record for it. A step that rejects a record leaves the
+    /// piece as it was, so the evidence is that of the step. Takes no memory.
     pub fn evidence(&self, config: &Config, ordered: &Ordered, cause: Cause) -> Evidence<'_>
         ensures { AgreesOn config.now self.now.part self.now.settings → IsEvidence config.now self.now.part ordered.now cause result }
     {
@@ -134,7 +134,7 @@ impl ModulePiece {
         }
     }
 
-    // The core that a tick of this one would leave too far back.
+    // The core that this one would be more than the skew ahead of after a tick.
     fn shown_skew(&self, config: &Config, core: CoreId) -> Evidence<'_>
         ensures { ShowsSkew (position_from (leaves_back config.now (time_of self.now.clock.cores core)) 0 self.now.clock.cores) result }
     {
@@ -172,7 +172,7 @@ impl PartitionPiece {
         }
     }
 
-    // What is shown of a record beside its window and its choice.
+    // What is shown of a record, apart from its window and its choice.
     fn shown_of_body(&self, config: &Config, ordered: &Ordered, cause: Cause) -> Evidence<'_>
         ensures { ShowsOfBody config.now self.now.number self.now.clock.cores self.now.state ordered.now.core ordered.now.rec.body cause result }
     {
@@ -265,7 +265,7 @@ impl ChannelPiece {
 
     // Whether the caller waits at an end of the channel.
     fn shown_waits(&self, who: Who) -> Evidence<'_>
-        ensures { ShowsWaits (stands_in who self.now.channel.channel.senders || stands_in who self.now.channel.channel.receivers) result }
+        ensures { ShowsWaits (has_entry_in who self.now.channel.channel.senders || has_entry_in who self.now.channel.channel.receivers) result }
     {
         if self.channel.has(who) {
             Evidence::Waits
@@ -360,7 +360,7 @@ fn channel_of_body(body: &Body) -> Option<ChanId>
     }
 }
 
-// The number of the first core that is left more than the skew back after a tick of one that is at this time.
+// The number of the first core that a core at this time would be more than the skew ahead of after a tick.
 fn first_left_back(config: &Config, now: u64, states: &[CoreState]) -> Option<usize>
     ensures { result ≡ position_from (leaves_back config.now now) 0 states.now }
 {
@@ -370,7 +370,7 @@ fn first_left_back(config: &Config, now: u64, states: &[CoreState]) -> Option<us
         .position(|other| is_left_back(now, skew, other))
 }
 
-// Whether a core is left more than the skew back after a tick of one that is at this time.
+// Whether a core at this time would be more than the skew ahead of another core after a tick.
 fn is_left_back(now: u64, skew: u64, other: &CoreState) -> bool
     ensures { result ≡ not (nat_le (now + 1) (other.now.time + skew)) }
 {

@@ -20,7 +20,7 @@ use std::alloc::{AllocError, Global};
 use wait_set::ObjFault;
 
 /// What a piece holds.
-#[derive(Drop)]
+#[derive(Clone, Drop)]
 pub(crate) enum Held {
     Module(ModulePiece),
     Partition(PartitionPiece),
@@ -30,7 +30,7 @@ pub(crate) enum Held {
 impl Held {
     /// What the piece of this number holds: its part of the cold state.
     ///
-    /// AllocError where memory is refused.
+    /// AllocError if memory is refused.
     pub(crate) fn start(alloc: Global, config: &Config, piece: usize) -> Result<Held, AllocError>
         requires { piece < length (pieces config.now) }
         ensures part { IfOk result (λ held. part_of held ≡ part (piece_at config.now piece) (cold_state config.now)) }
@@ -49,10 +49,9 @@ impl Held {
         }
     }
 
-    /// Judges a record, and makes the part what the record makes of it.
+    /// Judges a record, and changes the part as the record says.
     ///
-    /// Refused, with nothing changed, where a demand fails: the cause is that of the first; or where memory is refused to a
-    /// call.
+    /// Refused, with nothing changed, if a demand fails, with the cause of the first that does; or if memory is refused to a call.
     pub(crate) fn step(&mut self, config: &Config, ordered: &Ordered) -> Result<(), ObjFault>
         requires core { ordered.now.core < length (cores_of (part_of self.old)) }
         requires place { ordered.now.pos < PLACE_COUNT }

@@ -73,7 +73,7 @@ impl Lists {
 
     /// Adds the index of a record to the lists of the pieces that it touches; the index of a tick is added to none.
     ///
-    /// AllocError if a list could not grow; nothing is then said of the lists.
+    /// AllocError if a list could not grow; nothing is then known about the lists.
     pub(crate) fn enter(
         &mut self,
         config: &Config,
@@ -116,7 +116,7 @@ impl Lists {
         Ok(())
     }
 
-    // A call that stops nobody touches the module, its caller's partition, the partitions that it names, and the channel that it
+    // A call that stops no process touches the module, its caller's partition, the partitions that it names, and the channel that it
     // claims.
     fn enter_call(&mut self, index: usize, call: &Call) -> Result<(), AllocError>
         ensures { OnOk result (IsPut index (is_of_call call.now) (list_of self.old) (list_of self.new)) }
@@ -155,7 +155,7 @@ impl Lists {
         }
     }
 
-    // Adds an index to the list of a piece, if one is kept, unless it is there already.
+    // Adds an index to the list of a piece, if there is such a list, unless the index is in it already.
     fn put(&mut self, subject: &Subject, index: usize) -> Result<(), AllocError>
         ensures { OnOk result (IsPut index (is_same_piece (piece_of subject.now)) (list_of self.old) (list_of self.new)) }
     {
@@ -179,7 +179,7 @@ fn slot_of(subject: &Subject) -> usize
     }
 }
 
-// Adds an index at the end of a list, unless it is there already.
+// Adds an index at the end of a list, unless the list ends with it already.
 fn put_last(list: &mut Vec<usize>, index: usize) -> Result<(), AllocError>
     ensures { OnOk result (list.new.items ≡ with_last index list.old.items) }
 {

@@ -1,4 +1,4 @@
-// Whom a record names, process by process: whose wait ends, and who is ready.
+// The processes that a record names, one by one: whose wait ends, and which are ready.
 
 ghost use Rattle.std.specs.Prelude.{◌≡◌, ◌↔◌, ◌+◌, IsTrue, nat_le};
 ghost use Rattle.apex_machine.specs.Choice as choice;
@@ -26,7 +26,7 @@ pub enum Misnaming {
 
 impl Piece {
     /// How a tick of this core that names these processes names a process of the piece's partition wrongly, if it does: the wait of each
-    /// that falls due ends. None where the piece is not a partition's.
+    /// process that falls due ends. None if the piece is not a partition's.
     pub fn misnamed_at_tick(
         &self,
         core: CoreId,
@@ -50,8 +50,8 @@ impl Piece {
         }
     }
 
-    /// Whether a call of another partition can end the wait of this process of the piece's partition: the process waits where the call's
-    /// channel is, to receive where the call sends, and to send where it receives. Never where the piece is not a partition's.
+    /// Whether a call of another partition can end the wait of this process of the piece's partition: the process waits at the call's
+    /// channel, to receive if the call sends, and to send if it receives. False if the piece is not a partition's.
     pub fn may_wake(&self, call: &Call, process: ProcId) -> bool
         ensures { IsTrue result ↔ MayWake self.now.part call.now process }
     {
@@ -98,7 +98,7 @@ impl PartitionPiece {
     }
 }
 
-/// How a call that names these processes names a process wrongly, if it does, by what the call gives its caller.
+/// How a call that names these processes names a process wrongly, if it does, given what the call gives its caller.
 pub fn misnamed_by(given: &Given<'_>, woken: &Woken, who: &Who) -> Option<Misnaming>
     ensures { result ≡ misnamed (is_named who.now (answer_given given.now).woken) (is_named who.now woken.now) }
 {

@@ -1,4 +1,4 @@
-// The piece of the module: configured names, the skew, and idle cores in no window.
+// The piece of the module: configured names, the skew, and idle cores outside all windows.
 
 ghost use Rattle.std.specs.Prelude.{◌≡◌, ◌<◌, IfErr, OnErr, OnOk, is_none, length};
 ghost use Rattle.apex_types.specs.declared.limits.TheConstants.{PLACE_COUNT};
@@ -19,7 +19,7 @@ use module_config::Config;
 use wait_set::ObjFault;
 
 /// The piece of the module: the cores.
-#[derive(Debug, Drop)]
+#[derive(Clone, Debug, Drop)]
 pub(crate) struct ModulePiece {
     pub(crate) clock: Clock,
 }
@@ -34,9 +34,9 @@ impl ModulePiece {
         }
     }
 
-    /// Judges a record, and makes the part what the record makes of it. Takes no memory.
+    /// Judges a record, and changes the part as the record says. Takes no memory.
     ///
-    /// Refused, with nothing changed, where a demand fails: the cause is that of the first.
+    /// Refused, with nothing changed, if a demand fails, with the cause of the first that does.
     pub(crate) fn step(&mut self, config: &Config, ordered: &Ordered) -> Result<(), ObjFault>
         requires core { ordered.now.core < length self.old.clock.cores }
         requires place { ordered.now.pos < PLACE_COUNT }
@@ -146,7 +146,7 @@ impl ModulePiece {
         Ok(())
     }
 
-    // Whether the core is in no window now.
+    // Whether the core is outside all windows now.
     fn is_in_no_window(&self, config: &Config, core: CoreId) -> bool
         ensures { result ≡ is_none (window_now config.now self.now.clock.cores core) }
     {

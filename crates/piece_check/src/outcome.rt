@@ -36,8 +36,8 @@ pub(crate) fn judge_refused(conditions: &Conditions, claim: &Claim) -> Result<()
     Ok(())
 }
 
-/// Judges what a partition can see of the outcome of its own process's call through this channel: that the call claims the channel and
-/// an outcome that the service can have, and names no other process of the partition. The channel judges the rest.
+/// Judges what a partition can see of the outcome of its own process's call through this channel: the call claims the channel and an
+/// outcome that the service can have, and names no other process of the partition. The channel judges the rest.
 pub(crate) fn judge_through(channel: ChanId, number: PartId, call: &Call) -> Result<(), Cause>
     requires { IsTrue (is_some (use_of call.now.request)) }
     ensures { (answer : services.Answer) → Judges (outcome_demands [] (Some channel) number call.now.request answer call.now.claim) result }
@@ -54,8 +54,8 @@ pub(crate) fn judge_through(channel: ChanId, number: PartId, call: &Call) -> Res
     Ok(())
 }
 
-// Whether a call through a channel can have this outcome, as far as its partition sees: it returns, with no code of an error condition
-// and not timed out, or it waits with a time-out that allows it.
+// Whether a call through a channel can have this outcome, as far as its partition sees: the call answers with a code that is neither that
+// of an error condition nor TIMED_OUT, or it waits with a time-out that allows it.
 fn can_have(request: &Request, out: Out) -> bool
     requires { IsTrue (is_some (use_of request.now)) }
     ensures { IsTrue result ↔ CanHave request.now out }

@@ -34,7 +34,7 @@ use process_state::Moment;
 use std::alloc::{AllocError, Global};
 use wait_set::{Conditions, ObjFault};
 
-// What is left of an own call once all is judged but what its service gives.
+// What is left of an own call once everything is judged except what its service gives.
 #[derive(Clone, Copy)]
 enum Course {
     /// Nothing is left to judge, and the objects of the partition stay: an error condition holds, or the call goes through a channel.
@@ -44,7 +44,7 @@ enum Course {
 }
 
 /// The piece of a partition: its number, the cores, and its state.
-#[derive(Drop)]
+#[derive(Clone, Drop)]
 pub(crate) struct PartitionPiece {
     pub(crate) number: PartId,
     pub(crate) clock: Clock,
@@ -54,7 +54,7 @@ pub(crate) struct PartitionPiece {
 impl PartitionPiece {
     /// The piece of this partition, with its part of the cold state.
     ///
-    /// AllocError where memory for its initialising process is refused.
+    /// AllocError if memory for its initialising process is refused.
     pub(crate) fn start(
         alloc: Global,
         config: &Config,
@@ -69,10 +69,9 @@ impl PartitionPiece {
         })
     }
 
-    /// Judges a record, and makes the part what the record makes of it.
+    /// Judges a record, and changes the part as the record says.
     ///
-    /// Refused, with nothing changed, where a demand fails: the cause is that of the first; or where memory is refused to a
-    /// call.
+    /// Refused, with nothing changed, if a demand fails, with the cause of the first that does; or if memory is refused to a call.
     pub(crate) fn step(&mut self, config: &Config, ordered: &Ordered) -> Result<(), ObjFault>
         requires core { ordered.now.core < length self.old.clock.cores }
         requires place { ordered.now.pos < PLACE_COUNT }
@@ -175,8 +174,8 @@ impl PartitionPiece {
         who.part == self.number
     }
 
-    // A call of one of the partition's own processes: it is judged, and carried out. The outcome of a call through a channel is the
-    // channel's to judge, but for what the partition sees of it.
+    // A call of one of the partition's own processes is judged, and carried out. The channel judges the outcome of a call through a
+    // channel, except for what the partition sees of it.
     fn own_call(&mut self, config: &Config, ordered: &Ordered, call: &Call) -> Result<(), ObjFault>
         requires own { call.now.who.part ≡ self.old.number }
         requires place { ordered.now.pos < PLACE_COUNT }
@@ -208,8 +207,8 @@ impl PartitionPiece {
         }
     }
 
-    // Judges all of an own call but what its service gives, and says what is left: the whole outcome is judged where an error
-    // condition holds, and all that the partition sees of it where the call goes through a channel.
+    // Judges everything in an own call except what its service gives, and says what is left. If an error condition holds, the whole outcome
+    // is judged; if the call goes through a channel, everything that the partition sees of the outcome is judged.
     fn judge_before_service(
         &self,
         config: &Config,
@@ -234,7 +233,7 @@ impl PartitionPiece {
         Ok(Course::Served)
     }
 
-    // Judges what is demanded before the outcome of one of the partition's own calls, and gives the error conditions that hold.
+    // Judges what is demanded of one of the partition's own calls before its outcome, and gives the error conditions that hold.
     fn judge_caller(&self, config: &Config, core: CoreId, call: &Call) -> Result<Conditions, Cause>
         ensures ok { OnOk result (AllHold (own_caller_demands config.now self.now core call.now)) }
         ensures conditions { IfOk result (λ conditions. conditions ≡ services.conditions_of config.now call.now.who self.now.state call.now.request) }
@@ -259,7 +258,7 @@ impl PartitionPiece {
         Ok(conditions)
     }
 
-    // An own call that is left to its service: its partition serves it.
+    // An own call that is left to its service: the partition serves it.
     fn serve(&mut self, config: &Config, ordered: &Ordered, call: &Call) -> Result<(), ObjFault>
         requires own { call.now.who.part ≡ self.old.number }
         requires place { ordered.now.pos < PLACE_COUNT }
@@ -282,7 +281,7 @@ impl PartitionPiece {
         self.state.serve(config, now, &moment, call)
     }
 
-    // An own call all of whose demands hold, and that changes no object: the partition's processes change.
+    // An own call whose demands all hold and that changes no object: the partition's processes change.
     fn note(&mut self, config: &Config, ordered: &Ordered, call: &Call) -> Result<(), ObjFault>
         requires own { call.now.who.part ≡ self.old.number }
         requires place { ordered.now.pos < PLACE_COUNT }
@@ -303,7 +302,7 @@ impl PartitionPiece {
             .map_err(|_| ObjFault::Memory)
     }
 
-    // A call of another partition's process: it is judged, and the waits of those that it names of this one end.
+    // A call of another partition's process is judged, and the waits of the processes of this partition that it names end.
     fn foreign_call(
         &mut self,
         config: &Config,
@@ -335,8 +334,8 @@ impl PartitionPiece {
         Ok(())
     }
 
-    // In the partition's windows a tick comes where the occupant is its choice. It names, of the partition, those that
-    // fall due.
+    // In the partition's windows a tick finds the partition's choice as the occupant. Of the partition's processes it names those that fall
+    // due.
     fn judge_tick(&self, config: &Config, core: CoreId, woken: &Woken) -> Result<(), Cause>
         requires { time_of self.now.clock.cores core < PLACE_COUNT }
         ensures { Judges (asked_by_partition config.now self.now core (body.Tick woken.now)) result }
@@ -358,7 +357,7 @@ impl PartitionPiece {
         Ok(())
     }
 
-    // A call of another partition's process ends only waits at the end of a queuing channel that is this partition's.
+    // A call of another partition's process ends only waits at this partition's end of a queuing channel.
     fn judge_foreign_call(&self, config: &Config, core: CoreId, call: &Call) -> Result<(), Cause>
         ensures { Judges (foreign_call_demands config.now self.now.number self.now.clock.cores self.now.state core call.now) result }
     {
@@ -371,8 +370,7 @@ impl PartitionPiece {
         Ok(())
     }
 
-    // Whether a call of another partition ends only waits at its channel: a send of those that wait to receive, a receive
-    // of those that wait to send.
+    // Whether a call of another partition ends only waits at its channel: a send ends waits to receive, and a receive ends waits to send.
     fn wakes_here(&self, call: &Call) -> bool
         ensures { IsTrue result ↔ WakesHere call.now.request call.now.claim.chan self.now.number self.now.state.table call.now.claim.woken }
     {
@@ -391,7 +389,7 @@ impl PartitionPiece {
             .all_wait_at(wanted, self.number, call.claim.woken.as_slice())
     }
 
-    // A return gives back the outcome that is due.
+    // A return must give back the outcome that is due.
     fn judge_return(&self, config: &Config, core: CoreId, ret: &Return) -> Result<(), Cause>
         ensures { Judges (asked_by_partition config.now self.now core (body.Ret ret.now)) result }
     {
@@ -435,7 +433,7 @@ impl PartitionPiece {
             && self.state.processes().ready_on(self.number, core) == running
     }
 
-    // The outcome that is due to the process, if it is there and one is.
+    // The outcome that is due to the process, if the process exists and an outcome is due.
     fn due_to(&self, number: ProcId) -> Option<&Outcome>
         ensures { option_copied result ≡ due_of (item_at self.now.state.table number) }
     {
@@ -445,7 +443,7 @@ impl PartitionPiece {
         }
     }
 
-    // Whether the process is there and no outcome is due to it.
+    // Whether the process exists and no outcome is due to it.
     fn has_none_due(&self, number: ProcId) -> bool
         ensures { IsTrue result ↔ HasNoneDue (item_at self.now.state.table number) }
     {
@@ -455,7 +453,7 @@ impl PartitionPiece {
         }
     }
 
-    // Whether the process is there and has this current priority.
+    // Whether the process exists and has this current priority.
     fn has_priority(&self, number: ProcId, priority: u8) -> bool
         ensures { IsTrue result ↔ HasPriority priority (item_at self.now.state.table number) }
     {
@@ -472,7 +470,7 @@ fn is_same_service(one: Service, other: Service) -> bool
     one == other
 }
 
-// Whether a return gives back the values of the outcome that is due.
+// Whether a return has the values of the outcome that is due.
 fn returns_values(due: &Outcome, ret: &Return) -> bool
     ensures { IsTrue result ↔ ReturnsValues due.now ret.now }
 {

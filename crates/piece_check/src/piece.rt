@@ -37,7 +37,7 @@ impl Model for Piece {
 impl Piece {
     /// The piece of this number, with its part of the cold state.
     ///
-    /// AllocError where memory is refused.
+    /// AllocError if memory is refused.
     pub fn start(alloc: Global, config: &Config, piece: usize) -> Result<Piece, AllocError>
         requires { piece < length (pieces config.now) }
         ensures part { IfOk result (λ started. started.part ≡ part (piece_at config.now piece) (cold_state config.now)) }
@@ -53,8 +53,8 @@ impl Piece {
         })
     }
 
-    /// What a user's relation sees of a record, from the part before it: a partition gives the view of its own calls and
-    /// returns, the module that of dispatches and ticks; else there is none. Takes no memory.
+    /// What a user's relation sees of a record, from the part before it: a partition gives the view of its own calls and returns, the
+    /// module that of dispatches and ticks; otherwise there is none. Takes no memory.
     pub fn view(&self, ordered: &Ordered) -> Option<View>
         requires holds_before { HoldsBefore ordered.now.pos self.now.part }
         ensures { result ≡ view_in self.now.part ordered.now }
@@ -65,8 +65,8 @@ impl Piece {
 
     /// Judges a record that touches the piece as `step` does, and changes nothing. Takes no memory.
     ///
-    /// Where it accepts the record, `step` refuses it for want of memory at most; where it rejects it, `step` does so for the same cause.
-    /// Where memory was refused at an earlier step, it answers Memory.
+    /// If it accepts the record, `step` refuses it at most for a lack of memory; if it rejects the record, `step` does so for the same
+    /// cause. If memory was refused at an earlier step, it answers Memory.
     pub fn judge(&self, config: &Config, ordered: &Ordered) -> Result<(), PieceFault>
         requires of_module { IsOf config.now self.now }
         requires holds_before { HoldsBefore ordered.now.pos self.now.part }
@@ -85,10 +85,9 @@ impl Piece {
         Err(PieceFault::Memory)
     }
 
-    /// Judges a record that touches the piece, and makes the part what the record makes of it.
+    /// Judges a record that touches the piece, and changes the part as the record says.
     ///
-    /// Where a demand fails nothing is changed. Where a call was refused memory the part is as it was, and every later step
-    /// answers Memory.
+    /// If a demand fails, nothing is changed. If memory was refused to a call, the part is as it was, and every later step answers Memory.
     pub fn step(&mut self, config: &Config, ordered: &Ordered) -> Result<(), PieceFault>
         requires core { ordered.now.core < config.now.cores }
         requires of_module { IsOf config.now self.old }
@@ -123,8 +122,20 @@ impl Piece {
     }
 }
 
-// Says of a record what its numbers are: the period that it gives has 63 bits, as each number of a caller, and the number of
-// who makes a call has 32. It does nothing.
+impl Clone for Piece {
+    // A copy is the same piece: its part, what was given for it, and whether memory was refused to it.
+    ghost is_clone = { λ piece copy. copy ≡ piece };
+
+    fn clone(&self) -> Result<Piece, AllocError> {
+        Ok(Piece {
+            held: self.held.clone()?,
+            exhausted: self.exhausted,
+        })
+    }
+}
+
+// States what the numbers of a record are: the period that it gives has 63 bits, like each number of a caller, and the number of a caller
+// has 32. Does nothing.
 fn fits(body: &Body)
     ensures period { PeriodFits body.now }
     ensures caller { CallerFits body.now }

@@ -20,8 +20,8 @@ pub(crate) fn is_within(
     !conditions.is_empty() || in_profile(state, who, request)
 }
 
-/// Whether the profile allows a request on which no error condition holds: nobody stops the owner of a mutex, the initialising process
-/// does not stop itself, and nobody suspends the owner of a mutex or a process that waits for a mutex, or sets its priority.
+/// Whether the profile allows a request on which no error condition holds: no process stops the owner of a mutex, the initialising process
+/// does not stop itself, and no process suspends the owner of a mutex or a process that waits for a mutex, or sets its priority.
 fn in_profile(state: &PartitionState, who: Who, request: &Request) -> bool
     ensures { result ≡ services.in_profile who state.now request.now }
 {

@@ -13,7 +13,7 @@ use channel::Channel;
 use dispatch_rule::{Clock, Times};
 use partition_state::PartitionState;
 
-/// What a piece holds, to read.
+/// What a piece holds, for reading.
 #[derive(Clone, Copy)]
 pub enum Seen<'a> {
     /// The module: the times and occupants of the cores.
@@ -34,7 +34,7 @@ pub enum Seen<'a> {
 }
 
 impl Piece {
-    /// What the piece is of.
+    /// The subject of the piece.
     pub fn subject(&self) -> Subject
         ensures { piece_of result ≡ holder self.now.part }
     {

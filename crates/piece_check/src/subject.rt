@@ -13,7 +13,7 @@ use apex_types::{Body, Call, ChanId, Code, Ordered, Out, PartId, ProcessOperatio
 use module_config::Config;
 use partition_state::restart_of;
 
-/// What a piece is of: the module, or the partition or channel with a number.
+/// The subject of a piece: the module, or the partition or channel with a number.
 #[derive(Clone, Copy, Debug, PartialEq, Eq)]
 pub enum Subject {
     Module,
@@ -28,7 +28,7 @@ pub fn count(config: &Config) -> usize
     config.partition_count() + config.channel_count() + 1
 }
 
-/// What the piece of this number is of. The module is piece 0; the partitions follow, and then the channels, each in ascending order.
+/// The subject of the piece of this number. The module is piece 0; the partitions follow, and then the channels, each in ascending order.
 pub fn subject_of(config: &Config, piece: usize) -> Subject
     requires { piece < length (pieces config.now) }
     ensures value { piece_of result ≡ piece_at config.now piece }
@@ -58,7 +58,7 @@ pub fn touches(config: &Config, piece: usize, ordered: &Ordered) -> bool
 }
 
 impl Subject {
-    /// Whether a record touches the piece: each touches the module.
+    /// Whether a record touches the piece; each record touches the module.
     pub fn is_touched(&self, config: &Config, ordered: &Ordered) -> bool
         ensures { result ≡ rules.touches config.now (piece_of self.now) ordered.now }
     {
@@ -70,7 +70,7 @@ impl Subject {
     }
 }
 
-// Whether a record touches the partition of this number: each tick and each dispatch does, and so do its own calls and returns and a
+// Whether a record touches the partition of this number: each tick and each dispatch touches it, and so do its own calls and returns and a
 // call that names one of its processes.
 fn touches_partition(number: PartId, body: &Body) -> bool
     ensures { (configuration : Configuration) → result ≡ touched_by configuration body.now (OfPartition number) }
@@ -84,8 +84,8 @@ fn touches_partition(number: PartId, body: &Body) -> bool
     }
 }
 
-// Whether a record touches the channel of this number: each tick does, and so do a call through it and a stop or a restart at one of its
-// ends.
+// Whether a record touches the channel of this number: each tick touches it, and so do a call through it and a stop or a restart at one of
+// its ends.
 fn touches_channel(config: &Config, number: ChanId, body: &Body) -> bool
     ensures { result ≡ touched_by config.now body.now (OfChannel number) }
 {
@@ -105,8 +105,8 @@ fn stops_at_end(config: &Config, number: ChanId, call: &Call) -> bool
     stops_some(call) && config.is_at_end(number, call.who.part)
 }
 
-/// Whether a call stops processes of its partition: a STOP that is done stops one, a restart stops all. Such a call may touch channels
-/// that it does not claim.
+/// Whether a call stops processes of its partition: a STOP that is done stops one, a restart stops all. Such a call may touch channels that
+/// it does not claim.
 pub(crate) fn stops_some(call: &Call) -> bool
     ensures { result ≡ rules.stops_some call.now }
 {

@@ -32,7 +32,7 @@ pub(crate) fn call_view(core: CoreId, now: u64, call: &Call) -> View
     }
 }
 
-/// The view of a return, at this time of its core: with what is known of the process that returns.
+/// The view of a return, at this time of its core, with what is known of the process that returns.
 pub(crate) fn return_view(core: CoreId, now: u64, returner: Option<&Process>, ret: &Return) -> View
     requires { now < PLACE_COUNT }
     ensures { result ≡ rules.return_view core now (option_copied returner.entry) ret.now }

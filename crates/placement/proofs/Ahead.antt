@@ -1,4 +1,4 @@
--- What the answers of a placer tell of what was ahead of it.
+-- What the answers of a placer show of what was ahead of it.
 use Rattle.std.proofs.Common.{◌≡◌, ◌≢◌, ◌∙◌, ℕ, suc, List, [], ◌∷◌, ◌++◌, Option, Some, None, Result, Ok, Err, length, refl, sym, ap, subst, inl, inr, append_assoc}
 use Rattle.std.proofs.lemmas.Bool.{cases_eq}
 use Rattle.std.specs.Prelude.{IfSome}
@@ -29,12 +29,12 @@ use Rattle.placement.specs.Reading.{CanFail, Reads}
 use Rattle.placement.specs.Scan.{Scan, cert_fault, ends_so, led_by, placed_at, row_fault, scan}
 use Rattle.placement.proofs.Readings.{reads_all, reads_more, fault_read, put-here, put-other, put-back, put_reads}
 
--- what is ahead where these are left, so many cores are there, so many records of each were taken, and this place is next
+-- what is ahead if these are left, there are this many cores, this many records of each were taken, and this place is next
 abbrev pub AreAhead : CanFail → ℕ → List Answered → Option (List CertItem) → (ℕ → ℕ) → ℕ → Scan → Type 0
 AreAhead can_fail cores lanes left taken place scanned =
     (items : ℕ → List Item) (certificate : List CertItem) → AreLeft lanes items → left ≡ Some certificate → IsScanOf can_fail cores taken place items certificate scanned
 
--- nothing is ahead, and the input ends so, where an answer says how
+-- nothing is ahead, and the input ends in this way, if an answer says how
 abbrev pub EndsSo : CanFail → Placing → Result (Unit {0}) PlacingFault → Type 0
 EndsSo can_fail placing end = OnEnd (λ how. IsAhead can_fail placing (ends_so how)) end
 
@@ -48,7 +48,7 @@ cert_stops can_fail cores lanes left new taken place fault other gives items cer
     let read = fault_read can_fail.certificate cert.Read cert.Memory fault certificate new other now in
     (items, Err fault ∷ read.0, (λ core. reads_all can_fail.recordings row.Read (items core)), read.1, refl)
 
--- a pair that may not stand
+-- a pair that may not be there
 pub pair_refused : (can_fail : CanFail) (cores : ℕ) (lanes : List Answered) (left new : Option (List CertItem)) (taken : ℕ → ℕ) (place : ℕ) (pair : Pair) (fault : OrderFault)
     → IfSome left (λ items. Gives (IsCertOutside can_fail.certificate) items (Ok (Some pair)) new) → misplaced cores taken pair ≡ Some fault
     → AreAhead can_fail cores lanes left taken place (ends_so (Err (input.Order place pair.core fault)))

@@ -1,5 +1,5 @@
 pub mod Readings
-pub mod Standing
+pub mod LeftOver
 pub mod Ends
 pub mod Places
 pub mod Ahead

@@ -6,7 +6,7 @@ use Rattle.csv_rows.specs.Source.{Gives}
 use Rattle.order_cert.specs.Kept.{put}
 use Rattle.placement.specs.Reading.{Reads}
 
--- an outside fault is the failure of a reader that can fail, or want of memory
+-- an outside fault is the failure of a reader that can fail, or a lack of memory
 abbrev pub IsEither : {Fault : Type 0} → Bool → Fault → Fault → Fault → Type 0
 IsEither can_fail failure memory fault = ((fault ≡ failure) × (can_fail ≡ true)) ⊎ (fault ≡ memory)
 

@@ -17,7 +17,7 @@ use Rattle.order_cert.proofs.Lawful.{follows_none, follows_taken, next_from_pref
 use Rattle.record_read.specs.Row.{Item}
 use Rattle.placement.specs.declared.fault.InputFault.{InputFault}
 use Rattle.placement.specs.declared.fault.InputFault.TheVariants as input
-use Rattle.placement.specs.Refusal.{AreTaken, FirstFaultIsRefused, IsFirstFault, IsLeastLeft, IsOrderFault, MayStand, RefusedAtTheFirstFault, next_item, next_row, taken_by}
+use Rattle.placement.specs.Refusal.{AreTaken, FirstFaultIsRefused, IsFirstFault, IsLeastLeft, IsOrderFault, MayComeNext, RefusedAtTheFirstFault, next_item, next_row, taken_by}
 use Rattle.placement.specs.Scan.{Scan, and_then, end_of, ends_of, ends_so, keeping, led_by, placed_at, scan, taking}
 use Rattle.placement.proofs.Ends.{ends_of-first}
 use Rattle.placement.proofs.Readings.{put-here, put-other}
@@ -98,7 +98,7 @@ lawful_before cores ps qs h = record {
   lawful = subst (IsLawfulOrder cores h.lens) (append_assoc ps qs h.more) h.lawful;
 }
 
--- why a pair may not stand next, or that it fits
+-- why a pair may not come next, or that it fits
 
 pub record Fits (cores : ℕ) (taken : ℕ → ℕ) (pair : Pair) : Type 0 where
   pub known : pair.core < cores
@@ -257,9 +257,9 @@ module _ {cores : ℕ} {whole : ℕ → List Item} {certificate : List CertItem}
       follows_taken t.kept next_kept pairs pair refl refl (omega (arith, t.long, fits.known)) (omega (arith, t.cores_are, fits.known))
       (fits.seq ∙ sym (t.follows.counts pair.core)) fits.below t.follows
 
-  may_stand : MayStand cores certificate pairs pair.core pair.seq
+  may_come_next : MayComeNext cores certificate pairs pair.core pair.seq
   unfolding next_kept
-  may_stand = (row_is t, subst (λ n. IsPrefixOfLawful n (pairs ++ pair ∷ [])) t.cores_are follows_next.lawful)
+  may_come_next = (row_is t, subst (λ n. IsPrefixOfLawful n (pairs ++ pair ∷ [])) t.cores_are follows_next.lawful)
 
   -- one record more is taken
   one_more : (rec : Record) (more : List Item) → left pair.core ≡ Ok rec ∷ more
@@ -329,9 +329,9 @@ scan_refused cores whole certificate pairs left (Ok pair ∷ rest) t =
     step (Some fault) is items e on = stopped t (input.Order (length pairs) pair.core fault) (refl, order_fault pair t fault is)
     step None fits [] e on =
         stopped t (input.Order (length pairs) pair.core Absent)
-        (refl, (pair.seq, may_stand pair t fits, item_is t pair.core fits.known ∙ ap (λ l. slice_get l 0) e))
+        (refl, (pair.seq, may_come_next pair t fits, item_is t pair.core fits.known ∙ ap (λ l. slice_get l 0) e))
     step None fits (Err fault ∷ more) e on =
-        stopped t (input.Row pair.core pair.seq fault) (inl (may_stand pair t fits, item_is t pair.core fits.known ∙ ap (λ l. slice_get l 0) e))
+        stopped t (input.Row pair.core pair.seq fault) (inl (may_come_next pair t fits, item_is t pair.core fits.known ∙ ap (λ l. slice_get l 0) e))
     step None fits (Ok rec ∷ more) e on = refused_more cores whole certificate pairs pair rec (later more) (on more (one_more pair t fits rec more e))
 
 at_start : (cores : ℕ) (left : ℕ → List Item) (certificate : List CertItem) → Taken cores left certificate [] left certificate
@@ -365,7 +365,7 @@ module _ {cores : ℕ} {whole : ℕ → List Item} {certificate : List CertItem}
   item_left : (core : ℕ) (item : Item) → core < cores → next_item whole pairs core ≡ Some item → (more : List Item) × (left core ≡ item ∷ more)
   item_left core item within e = head_of (left core) item (sym (item_is t core within) ∙ e)
 
-  -- the scan ends here, with a pair that may not stand
+  -- the scan ends here, with a pair that may not be there
   pair_ends : (core seq : ℕ) (fault : OrderFault) → next_row certificate pairs ≡ Some (Ok (pair_of core seq))
       → misplaced cores (taken_by pairs) (pair_of core seq) ≡ Some fault
       → scan_after cores pairs left rest ≡ ends_so (Err (input.Order (length pairs) core fault))
@@ -410,7 +410,7 @@ module _ {cores : ℕ} {whole : ℕ → List Item} {certificate : List CertItem}
   first_ends (input.Row core seq fault) (inr (here, least)) =
       rw here (least_ends core (Err fault) (input.Row core (taken_by pairs core) fault) least (λ more. refl))
 
--- the next pair of those that are taken stands next, and its record is there
+-- the next pair of those that are taken comes next, and its record is there
 record Passes (cores : ℕ) (pairs : List Pair) (left : ℕ → List Item) (rest : List CertItem) (pair : Pair) : Type 0 where
   pub fits : Fits cores (taken_by pairs) pair
   pub later : List CertItem

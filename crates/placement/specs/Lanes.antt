@@ -23,18 +23,18 @@ left_after (Some items) (Ok None) = Some items
 left_after (Some items) (Err fault) = None
 
 -- what answers leave of these items, one after another
-abbrev pub left_behind : Option (List Item) → List Answer → Option (List Item)
-left_behind left [] = left
-left_behind left (answer ∷ later) = left_behind (left_after left answer) later
+abbrev pub left_after_all : Option (List Item) → List Answer → Option (List Item)
+left_after_all left [] = left
+left_after_all left (answer ∷ later) = left_after_all (left_after left answer) later
 
 -- what is left of a recording after these answers
-abbrev pub standing : Answered → Option (List Item)
-standing lane = left_behind lane.items lane.given
+abbrev pub remaining_in : Answered → Option (List Item)
+remaining_in lane = left_after_all lane.items lane.given
 
 -- what the recording of a core has left: nothing if there is no such core
 abbrev pub left_at : List Answered → ℕ → Option (List Item)
 left_at [] core = Some []
-left_at (lane ∷ others) zero = standing lane
+left_at (lane ∷ others) zero = remaining_in lane
 left_at (lane ∷ others) (suc core) = left_at others core
 
 -- the answers for each core are answers of a source of its recording, which can fail or cannot

@@ -34,16 +34,16 @@ abbrev pub next_item : (ℕ → List Item) → List Pair → ℕ → Option Item
 next_item left pairs core = slice_get (left core) (taken_by pairs core)
 
 -- the next row is the pair of this core and this number, with which the pairs begin a lawful order
-abbrev pub MayStand : ℕ → List CertItem → List Pair → ℕ → ℕ → Type 0
-MayStand cores certificate pairs core seq =
+abbrev pub MayComeNext : ℕ → List CertItem → List Pair → ℕ → ℕ → Type 0
+MayComeNext cores certificate pairs core seq =
     (next_row certificate pairs ≡ Some (Ok (pair_of core seq))) × IsPrefixOfLawful cores (pairs ++ pair_of core seq ∷ [])
 
 -- the next row is the pair of this core and this number, with which the pairs begin no lawful order
-abbrev pub MayNotStand : ℕ → List CertItem → List Pair → ℕ → ℕ → Type 0
-MayNotStand cores certificate pairs core seq =
+abbrev pub MayNotComeNext : ℕ → List CertItem → List Pair → ℕ → ℕ → Type 0
+MayNotComeNext cores certificate pairs core seq =
     (next_row certificate pairs ≡ Some (Ok (pair_of core seq))) × (¬ IsPrefixOfLawful cores (pairs ++ pair_of core seq ∷ []))
 
--- there is no further row, this core is the least of which an item is left, and this is its next item
+-- there is no further row, this is the lowest-numbered core that has an item left, and this is its next item
 abbrev pub IsLeastLeft : ℕ → (ℕ → List Item) → List CertItem → List Pair → ℕ → Item → Type 0
 IsLeastLeft cores left certificate pairs core item =
     (next_row certificate pairs ≡ None) × (core < cores) × ((below : ℕ) → below < core → next_item left pairs below ≡ None)
@@ -53,22 +53,23 @@ IsLeastLeft cores left certificate pairs core item =
 -- taken, or is above the core's next one or one that no recording has; or the pair may be there, and its core's recording has ended; or there
 -- is no further row, and a record is left
 abbrev pub IsOrderFault : ℕ → (ℕ → List Item) → List CertItem → List Pair → ℕ → OrderFault → Type 0
-IsOrderFault cores left certificate pairs core NoSuchCore = (seq : ℕ) × MayNotStand cores certificate pairs core seq × (cores ≤ core)
+IsOrderFault cores left certificate pairs core NoSuchCore = (seq : ℕ) × MayNotComeNext cores certificate pairs core seq × (cores ≤ core)
 IsOrderFault cores left certificate pairs core Repeated =
-    (seq : ℕ) × MayNotStand cores certificate pairs core seq × (core < cores) × (seq < taken_by pairs core)
+    (seq : ℕ) × MayNotComeNext cores certificate pairs core seq × (core < cores) × (seq < taken_by pairs core)
 IsOrderFault cores left certificate pairs core Skipped =
-    (seq : ℕ) × MayNotStand cores certificate pairs core seq × (core < cores)
+    (seq : ℕ) × MayNotComeNext cores certificate pairs core seq × (core < cores)
     × ((taken_by pairs core < seq) ⊎ ((seq ≡ taken_by pairs core) × (MOST_RECORDS ≤ seq)))
-IsOrderFault cores left certificate pairs core Absent = (seq : ℕ) × MayStand cores certificate pairs core seq × (next_item left pairs core ≡ None)
+IsOrderFault cores left certificate pairs core Absent = (seq : ℕ) × MayComeNext cores certificate pairs core seq × (next_item left pairs core ≡ None)
 IsOrderFault cores left certificate pairs core Missing = (rec : Record) × IsLeastLeft cores left certificate pairs core (Ok rec)
 
--- the first fault of the input is this one, after these pairs: the next row of the certificate has it; or the order has it; or the row has it
--- that the next pair names in its core's recording; or, where the certificate has no further row, the next row of the least core of which one is left
+-- the first fault of the input is this one, after these pairs: the next row of the certificate has it; or the order has it; or the row has
+-- it that the next pair names in its core's recording; or, if the certificate has no further row, the next row of the lowest-numbered core
+-- that has a row left has it
 abbrev pub IsFirstFault : ℕ → (ℕ → List Item) → List CertItem → List Pair → InputFault → Type 0
 IsFirstFault cores left certificate pairs (input.Cert place fault) = (place ≡ length pairs) × (next_row certificate pairs ≡ Some (Err fault))
 IsFirstFault cores left certificate pairs (input.Order place core fault) = (place ≡ length pairs) × IsOrderFault cores left certificate pairs core fault
 IsFirstFault cores left certificate pairs (input.Row core seq fault) =
-    (MayStand cores certificate pairs core seq × (next_item left pairs core ≡ Some (Err fault)))
+    (MayComeNext cores certificate pairs core seq × (next_item left pairs core ≡ Some (Err fault)))
     ⊎ ((seq ≡ taken_by pairs core) × IsLeastLeft cores left certificate pairs core (Err fault))
 
 -- the law: if the input ends with a fault, everything before its place is good, and the fault is there

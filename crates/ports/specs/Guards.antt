@@ -1,11 +1,10 @@
--- What stands before a call through a port.
+-- What is judged before a call through a port.
 use Rattle.std.specs.Prelude.{◌≡◌, ◌≢◌, ℕ, List, [], Option, Some}
 use Rattle.apex_machine.specs.declared.condition.Condition.{Condition}
 use Rattle.ports.specs.declared.guard.Guard.{Guard}
 use Rattle.ports.specs.declared.guard.Guard.TheVariants.{Errors, Chan}
 
--- what stands before a call, by the error conditions that hold and by the port's channel: the conditions, where some hold; else
--- the channel
+-- the result for a call, from the error conditions that hold and the port's channel: the conditions, if any hold; else the channel
 abbrev pub IsGuard : List Condition → Option ℕ → Guard → Type 0
 IsGuard conditions channel (Errors held) = (held ≡ conditions) × (conditions ≢ [])
 IsGuard conditions channel (Chan number) = (conditions ≡ []) × (channel ≡ Some number)

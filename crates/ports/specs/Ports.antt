@@ -4,11 +4,11 @@ use Rattle.apex_machine.specs.After.{is_valid}
 use Rattle.apex_machine.specs.State.{Port as Seen}
 use Rattle.ports.specs.declared.port.PortSettings.{PortSettings}
 
--- the port of this name with these settings, whose last read gave a valid sample or not
+-- the port of this name with these settings, and whether its last read gave a valid sample
 abbrev pub port_of : List ℕ → PortSettings → Bool → Seen
 port_of name settings valid =
     record { name = name; size = settings.size; direction = settings.direction; channel = settings.channel; valid = valid }
 
--- the port at which the last read claims this value
+-- the port after a read that claims this value
 abbrev pub read_at : Option ℤ → Seen → Seen
 read_at claimed port = record port { valid = is_valid claimed }

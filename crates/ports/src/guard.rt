@@ -1,4 +1,4 @@
-// What stands before a call through a port.
+// What is judged before a call through a port.
 
 ghost use Rattle.std.specs.Prelude.{◌≡◌, ◌≢◌, [], None};
 ghost use Rattle.std.specs.Option.{option_copied};
@@ -13,7 +13,8 @@ use apex_machine::{Condition, Direction};
 use apex_types::ChanId;
 use wait_set::Conditions;
 
-/// What stands before a call through a port: the error conditions that hold, where some do; else the channel to which it goes.
+/// The result for a call through a port, before the channel judges it: the error conditions that hold, if any do; else the channel of the
+/// call.
 #[derive(Drop)]
 pub enum Guard {
     Errors(Conditions),
@@ -21,8 +22,8 @@ pub enum Guard {
 }
 
 impl PortTable {
-    /// What stands before a message of this length, in bytes, goes into the port of the number that a caller gives: it has to be
-    /// a created source, of a size for the message.
+    /// The result for a call that puts a message of this length, in bytes, into the port of the number that a caller gives. The port must
+    /// be a created source port, whose size is enough for the message.
     pub fn guard_source(&self, number: i64, length: i64) -> Guard
         ensures { IsGuard (meets.source_conditions (given_object self.now number) length) (channel_by (given_object self.now number)) result }
     {
@@ -30,7 +31,8 @@ impl PortTable {
         guard_by(port, source_conditions(port, length))
     }
 
-    /// What stands before a message is taken from the port of the number that a caller gives: it has to be a created destination.
+    /// The result for a call that takes a message from the port of the number that a caller gives. The port must be a created destination
+    /// port.
     pub fn guard_destination(&self, number: i64) -> Guard
         ensures { IsGuard (meets.destination_conditions (given_object self.now number)) (channel_by (given_object self.now number)) result }
     {
@@ -39,7 +41,7 @@ impl PortTable {
     }
 }
 
-// What stands before a call through a port, by the error conditions that hold. One that is not created meets a condition.
+// The result for a call through a port, from the error conditions that hold. A port that is not created meets a condition.
 fn guard_by(port: Option<&Port>, conditions: Conditions) -> Guard
     requires { option_copied port ≡ None → conditions ≢ [] }
     ensures { IsGuard conditions (channel_by (option_copied port.entry)) result }
@@ -50,7 +52,7 @@ fn guard_by(port: Option<&Port>, conditions: Conditions) -> Guard
     }
 }
 
-// A message into a port: a created source, of a size for the message; one byte at least.
+// A message into a port: a created source port whose size is enough for the message; at least one byte.
 fn source_conditions(port: Option<&Port>, length: i64) -> Conditions
     ensures { result ≡ meets.source_conditions (option_copied port.entry) length }
 {
@@ -63,7 +65,7 @@ fn source_conditions(port: Option<&Port>, length: i64) -> Conditions
     of_port.with(length <= 0, Condition::EmptyMessage)
 }
 
-// A message from a port: a created destination.
+// A message from a port: a created destination port.
 fn destination_conditions(port: Option<&Port>) -> Conditions
     ensures { result ≡ meets.destination_conditions (option_copied port.entry) }
 {

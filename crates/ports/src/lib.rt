@@ -1,12 +1,16 @@
 //! The ports of one kind of a partition, under their numbers.
 //!
-//! Promises: a table is seen as the list of its ports with their numbers, in the order of their creation; a creation is carried
-//! out exactly where its claim is what a creation gives, and the port then comes after the others under the number that is
-//! claimed; else nothing has changed. Before a call through a port stand exactly the error conditions that hold of the port,
-//! or where none does the channel to which the call goes. A port knows whether the last read at it gave a valid message, and tells
-//! that as its status.
+//! Promises: contracts see a table as the list of its ports with their numbers, in the order of their creation. A creation is carried out
+//! exactly if its claim is what a creation gives, and the port then comes after the others under the claimed number; else nothing has
+//! changed. Before a call through a port, exactly the error conditions that hold for the port are reported, or, if none holds, the channel
+//! of the call. A port records whether the last read at it gave a valid message, and its status reports that.
 //!
-//! A table needs no partition around it, and no channel. The ports of a recording of one partition can be judged by themselves:
+//! Contracts see a port as that of the definitions: its name, the greatest size of its messages, its direction, its channel, and whether
+//! the last read at it gave a valid message (`note_read`), which is the status of a sampling port. `create` adds a port with the settings
+//! that it is given, so a table knows no configuration. `guard_source` and `guard_destination` return what comes before a call: the error
+//! conditions or the channel.
+//!
+//! A table requires no partition and no channel. It alone can judge the ports in a recording of one partition:
 //!
 //! ```text
 //! let mut ports = PortTable::new(alloc);
@@ -23,8 +27,8 @@
 //! ports.guard_destination(1);    // Guard::Errors: INVALID_MODE
 //! ```
 //!
-//! Whether a port may be created, by its name, the partition's mode and the configuration, is judged before. What a channel
-//! gives a call is the channel's to judge.
+//! Whether a port may be created, by its name, the partition's mode and the configuration, is judged before. What a channel gives a call,
+//! the channel judges.
 #![tactic(auto)]
 
 mod guard;

@@ -1,4 +1,4 @@
-// A port, and with which settings it is created.
+// A port, and the settings with which it is created.
 
 ghost use Rattle.std.specs.Prelude.{◌≡◌, false};
 ghost use Rattle.apex_machine.specs.Statuses.{sampling_port_status};
@@ -11,7 +11,7 @@ use std::alloc::AllocError;
 use std::marker::Model;
 use wait_set::Named;
 
-/// What a port is created with: the greatest size of its messages in bytes, its direction, and its channel.
+/// The settings with which a port is created: the greatest size of its messages in bytes, its direction, and its channel.
 #[derive(Clone, Copy, Debug, PartialEq, Eq)]
 pub struct PortSettings {
     pub size: u16,
@@ -37,7 +37,7 @@ impl Model for Port {
 }
 
 impl Port {
-    /// The port of this name with these settings, at which nothing was read. Takes no memory.
+    /// The port of this name with these settings, at which no process has read. Takes no memory.
     pub fn new(name: Name, settings: PortSettings) -> Port
         ensures { result ≡ port_of name settings false }
     {

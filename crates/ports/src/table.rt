@@ -37,7 +37,7 @@ impl Model for PortTable {
 }
 
 impl PortTable {
-    /// The table of no port. Takes no memory.
+    /// The empty table. Takes no memory.
     pub fn new(alloc: Global) -> PortTable
         ensures { result ≡ [] }
     {
@@ -46,7 +46,7 @@ impl PortTable {
         }
     }
 
-    /// Says of a table what each keeps: the numbers of its ports fit 32 bits. It does nothing.
+    /// States what every table keeps: the numbers of its ports fit 32 bits. Does nothing.
     pub fn keeps_numbers(&self)
         ensures { NumbersFit self.now }
     {
@@ -60,28 +60,28 @@ impl PortTable {
         self.ports.is_taken(name)
     }
 
-    /// The number of the first port that has this name, or None where none has.
+    /// The number of the first port that has this name, or None if none has it.
     pub fn number_named(&self, name: &Name) -> Option<u32>
         ensures { result ≡ number_named (λ (port : Seen). port.name) name.now self.now }
     {
         self.ports.number_named(name)
     }
 
-    /// Whether a claimed value is a number that a new port can take: 1 to 2,147,483,647, and no port has it.
+    /// Whether a claimed value is a number that a new port can take: it is from 1 to 2,147,483,647, and no port has it.
     pub fn is_new_number(&self, claimed: Option<i64>) -> bool
         ensures { result ≡ is_new (is_free self.now) claimed }
     {
         self.ports.is_new_number(claimed)
     }
 
-    /// The port of the number that a caller gives, or None where there is none.
+    /// The port of the number that a caller gives, or None if there is none.
     pub fn given(&self, number: i64) -> Option<&Port>
         ensures { option_copied result ≡ given_object self.now number }
     {
         self.ports.given(number)
     }
 
-    /// The channel of the port of the number that a caller gives, or None where there is no such port.
+    /// The channel of the port of the number that a caller gives, or None if there is no such port.
     pub fn channel_of(&self, number: i64) -> Option<ChanId>
         ensures { result ≡ channel_by (given_object self.now number) }
     {
@@ -91,10 +91,10 @@ impl PortTable {
         }
     }
 
-    /// Creates a port, where the claim is what a creation gives: NO_ERROR and a new number. The port comes after the
-    /// others, under the number that is claimed. That no error condition holds is judged before.
+    /// Creates a port, if the claim is what a creation gives: NO_ERROR and a new number. The port comes after the others, under the claimed
+    /// number. That no error condition holds is judged before.
     ///
-    /// Refused, with nothing changed, where the claim is another, or where memory is refused.
+    /// Refused, with nothing changed, if the claim is another, or if memory is refused.
     pub fn create(
         &mut self,
         alloc: Global,
@@ -112,8 +112,18 @@ impl PortTable {
         self.ports.add(claim.val, port)
     }
 
-    /// A read at the port of the number that a caller gives, which claims this value: the port knows whether the sample is valid.
-    /// Takes no memory.
+    /// Replaces its ports by copies of another table's, under the same numbers and in the same order.
+    ///
+    /// AllocError where memory is refused; nothing has changed then.
+    pub fn copy_from(&mut self, other: &PortTable) -> Result<(), AllocError>
+        ensures copied { OnOk result (self.new ≡ other.now) }
+        ensures unchanged { OnErr result (self.new ≡ self.old) }
+    {
+        self.ports.copy_from(&other.ports)
+    }
+
+    /// A read at the port of the number that a caller gives, which claims this value: the port records whether the sample is valid. Takes
+    /// no memory.
     pub fn note_read(&mut self, number: i64, claimed: Option<i64>)
         requires found { given_object self.old number ≢ None }
         ensures { self.new ≡ change_at (natural_of number) (read_at claimed) self.old }

@@ -59,10 +59,10 @@ adjusted-not place period first cores call partition old refused =
     (sym (append-nothing _ ∙ each_item-same (adjusted place period cores partition call) (λ number process. rw refused refl) old.table)) in
     λ i. record old { mode = mode i; table = table i }
 
--- no created process has the number of a caller that stands in the table
+-- no created process has the number of a caller in the table
 creates-apart : (first : ℕ) (call : CallRecord) (asked : Request) (table : Table) (caller : ℕ) → AsksSoundly table call asked
     → is_some (item_at table caller) ≡ true → item_at (created_by first call asked) caller ≡ None
-creates-apart first call (request.CreateProcess name priority period) table caller sound stands = by (is_done call.claim.out) refl
+creates-apart first call (request.CreateProcess name priority period) table caller sound is_member = by (is_done call.claim.out) refl
   where
     one : (claimed : Option ℤ) → is_new (is_free table) claimed ≡ true
         → item_at (numbered claimed (new_process first name priority period)) caller ≡ None
@@ -74,14 +74,14 @@ creates-apart first call (request.CreateProcess name priority period) table call
         apart true e =
             let same : caller ≡ n = grind (arith, nat_tests) in
             let none : item_at table caller ≡ None = rw same (new-absent table n new) in
-            let stands_none = rw none at stands in cc
+            let member_none = rw none at is_member in cc
         apart false e = rw e refl
 
     by : (b : Bool) → is_done call.claim.out ≡ b
         → item_at (if b then numbered call.claim.val (new_process first name priority period) else []) caller ≡ None
     by true done = one call.claim.val ((sound done).0)
     by false refused = refl
-creates-apart first call _ table caller sound stands = refl
+creates-apart first call _ table caller sound is_member = refl
 
 absent-each : (change : ℕ → Process → Process) (table : Table) (number : ℕ) → item_at table number ≡ None
     → item_at (each_item change table) number ≡ None
@@ -121,7 +121,7 @@ peers-are place now period cores call partition number process =
     by false false true x = refl
     by false false false x = refl
 
--- a call of another service than STOP stops nobody
+-- a call of a service other than STOP stops no process
 pub stops-nobody : (call : CallRecord) → stop_of call.request ≡ None → (number : ℕ) → is_peer call number && stops call (peer_at call number) ≡ false
 stops-nobody call other number = rw other (and_right (is_peer call number) _ (and_right (is_no_error call.claim.out) _ (and_right _ false refl)))
 
@@ -157,11 +157,11 @@ abbrev pub after_caller : ℕ → ℕ → ℕ → ℕ → List CoreState → Cal
 after_caller place now period first cores call partition old = processes_in (mode_between call old.mode)
     (each_item (only call.who.proc (caller_after place now call)) (each_item (adjusted place period cores partition call) old.table) ++ created_by first call call.request)
 
--- a caller that stands in the table has become what its call makes of it
-pub caller-stands : (place now period first : ℕ) (cores : List CoreState) (call : CallRecord) (partition : Partition) (old middle own : Processes)
+-- a caller in the table has become what its call makes of it
+pub caller-is_member : (place now period first : ℕ) (cores : List CoreState) (call : CallRecord) (partition : Partition) (old middle own : Processes)
     → middle ≡ between place period first cores call partition old → AsksSoundly old.table call call.request → is_some (item_at old.table call.who.proc) ≡ true
     → own ≡ with_each (only call.who.proc (caller_after place now call)) middle → own ≡ after_caller place now period first cores call partition old
-caller-stands place now period first cores call partition old middle own adjusts sound there is =
+caller-is_member place now period first cores call partition old middle own adjusts sound there is =
     let change : ℕ → Process → Process = only call.who.proc (caller_after place now call) in
     is ∙ ap (with_each change) adjusts
     ∙ ap (processes_in (mode_between call old.mode))
@@ -200,7 +200,7 @@ pub stopped-none : (call : CallRecord) (processes : Processes) → ((number : �
     → processes ≡ with_each (stopped_by call) processes
 stopped-none call processes none = ap (with_table processes) (sym (each_item-same (stopped_by call) (λ number process. rw (none number) refl) processes.table))
 
--- a call that does not answer NO_ERROR stops nobody
+-- a call that does not answer NO_ERROR stops no process
 pub stops-not : (call : CallRecord) → is_no_error call.claim.out ≡ false → (number : ℕ) → is_peer call number && stops call (peer_at call number) ≡ false
 stops-not call refused number = rw refused (and_right (is_peer call number) false refl)
 

@@ -5,7 +5,7 @@ use Rattle.std.proofs.lemmas.Bool.Decides.{nat_tests}
 use Rattle.std.specs.List.{AllByRecursion, IsDistinct}
 use Rattle.std.specs.Map.{keys_of}
 use Rattle.apex_types.specs.declared.record.Who.{Who}
-use Rattle.apex_types.specs.Rising.{IsRising, RisesFrom, is_behind}
+use Rattle.apex_types.specs.Rising.{IsRising, RisesFrom, is_listed_before}
 use Rattle.apex_machine.specs.declared.state.Wait.{Wait}
 use Rattle.apex_machine.specs.declared.state.Wait.TheVariants as wait
 use Rattle.apex_machine.specs.DueTimes.{due_by, falls_due}
@@ -16,7 +16,7 @@ use Rattle.process_state.specs.Orders.{inserted, keys_in, with_key}
 use Rattle.process_state.specs.Ranks.{due_at, due_before, due_time_of, time_due}
 use Rattle.process_state.specs.declared.order.DueTime.{DueTime}
 use Rattle.process_state.proofs.Due.{process_of}
-use Rattle.process_state.proofs.Rising.{behind-trans, rising_rest}
+use Rattle.process_state.proofs.Rising.{those_after-trans, rising_rest}
 
 -- numbers in lists that have none twice
 
@@ -25,7 +25,7 @@ abbrev has : ℕ → List ℕ → Bool
 has number [] = false
 has number (other ∷ others) = nat_eq number other || has number others
 
--- none of a list's numbers stands in it twice
+-- none of a list's numbers occurs in it twice
 abbrev HasOnce : List ℕ → Type 0
 HasOnce [] = Unit {0}
 HasOnce (number ∷ numbers) = (has number numbers ≡ false) × HasOnce numbers
@@ -106,19 +106,19 @@ has-named partition number (who ∷ others) = by (nat_eq who.part partition) ref
     by true e rest = let here : nat_eq partition who.part ≡ true = grind (arith, nat_tests) in rw (here, rest) refl
     by false e rest = let elsewhere : nat_eq partition who.part ≡ false = grind (arith, nat_tests) in rw (elsewhere, rest) refl
 
--- one who stands ahead of a rising list isn't named in it
-unnamed-behind : (last : Who) (named : List Who) → RisesFrom last named → is_named last named ≡ false
-unnamed-behind last [] rises = refl
-unnamed-behind last (who ∷ others) rises =
+-- a process that comes before a rising list is not named in it
+unnamed-those_after : (last : Who) (named : List Who) → RisesFrom last named → is_named last named ≡ false
+unnamed-those_after last [] rises = refl
+unnamed-those_after last (who ∷ others) rises =
     let apart : is_same last who ≡ false = ahead last who rises.0 in
-    rw apart (unnamed-behind last others (rises_further last who others rises.0 rises.1))
+    rw apart (unnamed-those_after last others (rises_further last who others rises.0 rises.1))
   where
-    ahead : (a b : Who) → is_behind a b ≡ true → is_same a b ≡ false
+    ahead : (a b : Who) → is_listed_before a b ≡ true → is_same a b ≡ false
     ahead a b h = grind (arith, nat_tests)
 
-    rises_further : (a b : Who) (others : List Who) → is_behind a b ≡ true → RisesFrom b others → RisesFrom a others
+    rises_further : (a b : Who) (others : List Who) → is_listed_before a b ≡ true → RisesFrom b others → RisesFrom a others
     rises_further a b [] h rises = tt
-    rises_further a b (c ∷ others) h rises = (behind-trans a b c h rises.0, rises.1)
+    rises_further a b (c ∷ others) h rises = (those_after-trans a b c h rises.0, rises.1)
 
 once-named : (partition : ℕ) (named : List Who) → IsRising named → HasOnce (numbers_named partition named)
 once-named partition [] rises = tt
@@ -129,7 +129,7 @@ once-named partition (who ∷ others) rises = by (nat_eq who.part partition) ref
     by true e rest =
         let here : who.part ≡ partition = grind (arith, nat_tests) in
         let itself : process_of partition who.proc ≡ who = λ i. record { part = sym here i; proc = who.proc } in
-        (has-named partition who.proc others ∙ (rw itself (unnamed-behind who others rises)), rest)
+        (has-named partition who.proc others ∙ (rw itself (unnamed-those_after who others rises)), rest)
     by false e rest = rest
 
 -- those who fall due

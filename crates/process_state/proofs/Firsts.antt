@@ -20,12 +20,12 @@ is_below core rank = nat_lt rank.core core
 
 -- those that go before one of a lower core are of a lower core
 pub below_carries : (core : ℕ) (one other : Rank) → rank_before other one ≡ false → is_below core other ≡ true → is_below core one ≡ true
-below_carries core one other behind below = grind (arith, nat_tests)
+below_carries core one other those_after below = grind (arith, nat_tests)
 
 none_on : (core : ℕ) (rank : Rank) (ranks : List Rank) → core < rank.core → NoneBefore rank_before rank ranks → first_on core ranks ≡ None
 none_on core rank [] above none = refl
 none_on core rank (other ∷ others) above none =
-    let behind : rank_before other rank ≡ false = none.0 in
+    let those_after : rank_before other rank ≡ false = none.0 in
     let apart : nat_eq other.core core ≡ false = grind (arith, nat_tests) in
     rw apart (none_on core rank others above none.1)
 
@@ -52,7 +52,7 @@ first_on-at core place ranks found ordered at is = rw (← is, at) (first_on-fir
 
 -- the first rank of a core is that of the choice
 
--- the rank that a process has where it is ready
+-- the rank that a process has if it is ready
 abbrev pub own_rank : ℕ × Process → Rank
 own_rank entry = record { core = entry.1.affinity; priority = entry.1.current_priority; position = entry.1.ready_position; number = entry.0 }
 
@@ -88,7 +88,7 @@ lead-first core rank (other ∷ others) own none = by (nat_eq other.core core) r
     by : (b : Bool) → nat_eq other.core core ≡ b → lead rank (first_rank core others) ≡ Some rank
         → lead rank (if b then Some other else first_rank core others) ≡ Some rank
     by true e rest =
-        let behind : rank_before other rank ≡ false = none.0 in
+        let those_after : rank_before other rank ≡ false = none.0 in
         let not_before : before_there other rank ≡ false = grind (arith, nat_tests) in
         rw not_before refl
     by false e rest = rest
@@ -101,7 +101,7 @@ first_rank-inserted core rank (other ∷ others) ordered =
     by (rank_before other rank) (nat_eq rank.core core) (nat_eq other.core core) refl refl refl (first_rank-inserted core rank others ordered.1)
   where
     none : rank_before other rank ≡ false → NoneBefore rank_before rank (other ∷ others)
-    none behind = (behind, none_before-trans rank_before rank_laws rank other others behind ordered.0)
+    none those_after = (those_after, none_before-trans rank_before rank_laws rank other others those_after ordered.0)
 
     by : (b d e : Bool) → rank_before other rank ≡ b → nat_eq rank.core core ≡ d → nat_eq other.core core ≡ e
         → first_rank core (inserted rank_before rank others) ≡ (if nat_eq rank.core core then lead rank (first_rank core others) else first_rank core others)
@@ -180,22 +180,22 @@ abbrev pub is_by : ℕ → ℕ → DueTime → Bool
 is_by core time due = nat_lt due.core core || (nat_eq due.core core && nat_le due.time time)
 
 pub earlier_carries : (core : ℕ) (one other : DueTime) → due_before other one ≡ false → is_earlier core other ≡ true → is_earlier core one ≡ true
-earlier_carries core one other behind earlier = grind (arith, nat_tests)
+earlier_carries core one other those_after earlier = grind (arith, nat_tests)
 
 pub by_carries : (core time : ℕ) (one other : DueTime) → due_before other one ≡ false → is_by core time other ≡ true → is_by core time one ≡ true
-by_carries core time one other behind earlier = grind (arith, nat_tests)
+by_carries core time one other those_after earlier = grind (arith, nat_tests)
 
 none_reached : (core time : ℕ) (due : DueTime) (others : List DueTime) → is_by core time due ≡ false → NoneBefore due_before due others → due_count core time others ≡ 0
 none_reached core time due [] later none = refl
 none_reached core time due (other ∷ others) later none =
-    let behind : due_before other due ≡ false = none.0 in
+    let those_after : due_before other due ≡ false = none.0 in
     let apart : is_reached core time other ≡ false = grind (arith, nat_tests) in
     rw apart (none_reached core time due others later none.1)
 
 none_earlier : (core : ℕ) (due : DueTime) (others : List DueTime) → is_earlier core due ≡ false → NoneBefore due_before due others → place_where (is_earlier core) others ≡ 0
 none_earlier core due [] here none = refl
 none_earlier core due (other ∷ others) here none =
-    let behind : due_before other due ≡ false = none.0 in
+    let those_after : due_before other due ≡ false = none.0 in
     let apart : is_earlier core other ≡ false = grind (arith, nat_tests) in
     rw apart refl
 

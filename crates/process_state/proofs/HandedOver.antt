@@ -22,7 +22,8 @@ pub AreCopies-rest : (message : List ℕ) (copies : List (List ℕ)) (one : List
 AreCopies-rest message [] one are = tt
 AreCopies-rest message (copy ∷ copies) one are = (are.0, AreCopies-rest message copies one are.1)
 
--- messages are handed out one after another: those have theirs whom the head of a list names and a test lets through, and there are enough for the rest
+-- messages are handed out one after another: the processes that the head of a list names and a test accepts have theirs, and there are
+-- enough for the rest
 pub record IsHandingOut (part : ℕ) (lets : ℕ → Bool) (woken : List Who) (at : ℕ) (place : ℕ) (message : List ℕ) (messages : List (List ℕ)) (count : ℕ) (old new : Processes) : Type 0 where
   pub named : new ≡ with_each (each_let part lets (take at woken) (woken_by place message)) old
   pub alike : AreCopies message messages

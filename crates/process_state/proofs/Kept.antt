@@ -108,10 +108,10 @@ module _ {Key : Type 0} (before : Key → Key → Bool) (order : IsStrictOrder b
       = ap length (taken_out number old entries keys _ found kept refl) in
       omega (arith, left, length-keys_in (table_without number entries), length-table_without number old entries found, fits)
 
-  -- its key stands among those of the table
-  pub stands : (number : ℕ) (old : Process) (entries : Table) (keys : List Key) → item_at entries number ≡ Some old → keys ≡ keys_in before key_of entries
+  -- its key is among those of the table
+  pub is_member : (number : ℕ) (old : Process) (entries : Table) (keys : List Key) → item_at entries number ≡ Some old → keys ≡ keys_in before key_of entries
       → with_key before (key_of number old) (without_key before (key_of number old) keys) ≡ keys
-  stands number old entries keys found kept =
+  is_member number old entries keys found kept =
       ap (with_key before (key_of number old)) (taken_out number old entries keys _ found kept refl) ∙ sym (kept ∙ keys_in-found number old entries found)
 
   -- and with the key of the changed process put in, they are those of the changed table

@@ -29,7 +29,7 @@ is_named-push who (first ∷ named) other =
 abbrev pub each_let : ℕ → (ℕ → Bool) → List Who → (Process → Process) → ℕ → Process → Process
 each_let part lets named change number process = if lets number && is_named (record { part = part; proc = number }) named then change process else process
 
--- nobody is named at first
+-- no process is named at first
 pub let-none-yet : (part : ℕ) (lets : ℕ → Bool) (change : Process → Process) (processes : Processes) → processes ≡ with_each (each_let part lets [] change) processes
 let-none-yet part lets change processes = ap (with_table processes) (sym (each_item-same _ (λ number process. by (lets number) process) processes.table))
   where
@@ -37,7 +37,7 @@ let-none-yet part lets change processes = ap (with_table processes) (sym (each_i
     by true process = refl
     by false process = refl
 
--- nobody of this number is named where this one is not
+-- no process of this number is named if this one is not
 unnamed : (part number : ℕ) (named : List Who) (who : Who) → nat_eq part who.part ≡ true → is_named who named ≡ false
     → nat_eq number who.proc ≡ true → is_named (record { part = part; proc = number }) named ≡ false
 unnamed part number named who here new same =
@@ -76,7 +76,7 @@ let-more part lets woken place who change processes rises within is let_through 
         (unnamed part number (take place woken) who here (unnamed_before woken place who rises within is))
         (λ same. let equal : number ≡ who.proc = grind (arith, nat_tests) in rw equal through.0))
 
--- else nobody does
+-- else none does
 pub let-same : (part : ℕ) (lets : ℕ → Bool) (woken : List Who) (place : ℕ) (who : Who) (change : Process → Process) (processes : Processes)
     → place < length woken → who ≡ get_or woken place who → lets who.proc && nat_eq who.part part ≡ false
     → with_each (each_let part lets (take place woken) change) processes ≡ with_each (each_let part lets (take (place + 1) woken) change) processes

@@ -1,4 +1,4 @@
--- Those whom a list names, and who wait in one set.
+-- The processes that a list names, and that wait in one set.
 use Rattle.std.proofs.Common.{◌↔◌, ℕ, Bool, List, [], ◌∷◌, ◌||◌, not, nat_eq, IsTrue, refl, arith}
 use Rattle.std.proofs.lemmas.Bool.Decides.{nat_tests}
 use Rattle.std.specs.List.{list_all}

@@ -1,4 +1,4 @@
--- Changes of one process of a table, and of each.
+-- Changes of one process of a table, and of each of them.
 use Rattle.std.specs.Prelude.{ℕ, Option, Some, None, nat_eq, if◌then◌else◌, ℤ}
 use Rattle.apex_machine.specs.declared.state.Outcome.{Outcome}
 use Rattle.apex_machine.specs.declared.state.Process.{Process}
@@ -8,11 +8,11 @@ use Rattle.apex_machine.specs.Processes.{stopped}
 use Rattle.apex_machine.specs.State.{each_item}
 use Rattle.process_state.specs.Processes.{Processes}
 
--- the processes, each of them changed
+-- the processes, with each of them changed
 abbrev pub with_each : (ℕ → Process → Process) → Processes → Processes
 with_each change processes = record processes { table = each_item change processes.table }
 
--- a change of the process of one number alone
+-- a change of the process of this number only
 abbrev pub only : ℕ → (Process → Process) → ℕ → Process → Process
 only chosen change number process = if nat_eq number chosen then change process else process
 
@@ -28,13 +28,13 @@ stopped_self now process = record (stopped process) { called_at = now }
 abbrev pub waiting_for : ℕ → Wait → Process → Process
 waiting_for now wait process = record process { wait = wait; called_at = now }
 
--- a number, if another one is given that one
+-- a number after a change: the given one, if there is one, else the old one
 abbrev pub given_or : Option ℕ → ℕ → ℕ
 given_or None old = old
 given_or (Some given) old = given
 
--- a caller to which an outcome is due after its call; where its ready position is renewed, it is this place, and where a
--- release is reached, that is its last
+-- a caller to which an outcome is due after its call; if its ready position is renewed, it is the given place, and if a release is reached,
+-- that becomes its last one
 abbrev pub answered : ℕ → Option ℕ → Option ℕ → Outcome → Process → Process
 answered now renewed reached outcome process = record process {
   ready_position = given_or renewed process.ready_position;

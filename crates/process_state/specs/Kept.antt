@@ -7,8 +7,8 @@ use Rattle.process_state.specs.Ranks.{due_before, due_time_of, rank_before, rank
 use Rattle.process_state.specs.declared.order.DueTime.{DueTime}
 use Rattle.process_state.specs.declared.order.Rank.{Rank}
 
--- beside its processes a table keeps the ranks of those that are ready and the due times of those that wait, in order, with
--- room for one of each process; and there is room for a first process, with so many more places in the map
+-- besides its processes a table keeps the ranks of those that are ready and the due times of those that wait, in order, with room for one
+-- of each process; and there is room for a first process, given so many spare places in the map
 pub record IsKept (table : Table) (spare : ℕ) (ready : Sequence Rank) (due : Sequence DueTime) : Type 0 where
   pub numbers : NumbersFit table
   pub ranks : ready.keys ≡ keys_in rank_before rank_of table

@@ -8,7 +8,7 @@ use Rattle.apex_machine.specs.State.{Table}
 abbrev pub NumbersFit : Table → Type 0
 NumbersFit table = AllByRecursion (λ number. number < 2 ^ 32) (keys_of table)
 
--- the number of a process that a caller's number can be: one that fits 32 bits
+-- the process number that a caller's number gives, if it fits 32 bits
 abbrev pub number_of : ℤ → Option ℕ
 number_of (pos n) = if nat_lt n 4294967296 then Some n else None
 number_of (negsuc n) = None

@@ -11,15 +11,15 @@ use Rattle.apex_machine.specs.Waiting.{stops}
 abbrev pub peer_at : CallRecord → ℕ → Who
 peer_at call number = record { part = call.who.part; proc = number }
 
--- whether this is another process than the caller
+-- whether this is a process other than the caller
 abbrev pub is_peer : CallRecord → ℕ → Bool
 is_peer call number = not (nat_eq number call.who.proc)
 
--- a process that the call stops, beside its caller
+-- a process that the call stops, other than its caller
 abbrev pub stopped_by : CallRecord → ℕ → Process → Process
 stopped_by call number process = if is_peer call number && stops call (peer_at call number) then stopped process else process
 
--- whether the call ends the wait of such a process where it names it: it does not stop it
+-- whether the call ends the wait of such a process if it names it: the call does not stop the process
 abbrev pub wakes : CallRecord → ℕ → Bool
 wakes call number = is_peer call number && not (stops call (peer_at call number))
 

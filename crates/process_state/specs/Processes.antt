@@ -7,10 +7,10 @@ pub record Processes : Type 0 where
   pub mode : Mode
   pub table : Table
 
--- those of this mode and this table
+-- the processes of this mode and this table
 abbrev pub processes_in : Mode → Table → Processes
 processes_in mode table = record { mode = mode; table = table }
 
--- those of a partition, whatever its objects and ports
+-- the processes of a partition, whatever its objects and ports are
 abbrev pub processes_of : Partition → Processes
 processes_of partition = processes_in partition.mode partition.table

@@ -1,4 +1,4 @@
--- The ranks of ready processes, and the due times of those who wait: what their orders go by.
+-- The ranks of ready processes and the due times of processes that wait, and their orders.
 use Rattle.std.proofs.Common.{arith}
 use Rattle.std.proofs.lemmas.Bool.Decides.{nat_tests}
 use Rattle.std.specs.Prelude.{◌≡◌, ℕ, Option, Some, None, Bool, true, false, not, nat_eq, nat_lt, ◌&&◌, ◌||◌, if◌then◌else◌}
@@ -21,14 +21,14 @@ rank_of number process =
     then Some (record { core = process.affinity; priority = process.current_priority; position = process.ready_position; number = number })
     else None
 
--- of two ranks of one core goes first that of the greater priority, then that of the earlier position, then that of the
+-- of two ranks of one core, the one with the greater priority goes first, then the one with the earlier position, then the one with the
 -- smaller number
 abbrev pub before_there : Rank → Rank → Bool
 before_there a b =
     nat_lt b.priority a.priority
     || (nat_eq a.priority b.priority && (nat_lt a.position b.position || (nat_eq a.position b.position && nat_lt a.number b.number)))
 
--- the ranks of one core stand together, after those of the cores before it
+-- the ranks of one core are together, after those of the cores before it
 abbrev pub rank_before : Rank → Rank → Bool
 rank_before a b = nat_lt a.core b.core || (nat_eq a.core b.core && before_there a b)
 
@@ -50,7 +50,7 @@ due_at core number (Some time) = Some (record { core = core; time = time; number
 abbrev pub due_time_of : ℕ → Process → Option DueTime
 due_time_of number process = due_at process.affinity number (time_due process.wait)
 
--- the due times of one core stand together; of two of them goes first the earlier, then that of the smaller number
+-- the due times of one core are together; of two of them, the earlier goes first, then the one with the smaller number
 abbrev pub due_before : DueTime → DueTime → Bool
 due_before a b =
     nat_lt a.core b.core

@@ -1,4 +1,4 @@
--- What becomes of a caller by its call.
+-- What becomes of a caller after its call.
 use Rattle.std.specs.Prelude.{ℕ}
 use Rattle.apex_machine.specs.declared.state.Process.{Process}
 use Rattle.process_state.specs.Changes.{answered, stopped_self, waiting_for}

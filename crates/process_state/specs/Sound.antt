@@ -1,4 +1,4 @@
--- What a call must keep to, so that a table can hold what it asks for.
+-- What a call must satisfy so that a table can hold what it requests.
 use Rattle.std.specs.Prelude.{◌≡◌, ◌<◌, ℕ, Some, [], IsTrue, Bool, true, false, nat_lt, ℤ, pos, negsuc}
 use Rattle.apex_types.specs.declared.record.Call.{Call as CallRecord}
 use Rattle.apex_types.specs.declared.operation.{BlackboardOperation.BlackboardOperation, CallerOperation.CallerOperation, EventOperation.EventOperation, MutexOperation.MutexOperation, ProcessOperation.ProcessOperation, SemaphoreOperation.SemaphoreOperation}
@@ -23,8 +23,8 @@ GivesSoundly (ProcessOperation.InitializeCoreAffinity core) = IsTrue (is_core_nu
 GivesSoundly (ProcessOperation.SetPriority priority) = IsTrue (is_priority priority)
 GivesSoundly _ = Unit {0}
 
--- a CREATE_PROCESS that was carried out claims a new number, has a priority in range and ends no wait; a service that names a
--- process and was carried out gives what it takes
+-- a CREATE_PROCESS that was carried out claims a new number, has a priority in range and ends no wait; a service that names a process and
+-- was carried out gives a value in range
 abbrev pub AsksSoundly : Table → CallRecord → Request → Type 0
 AsksSoundly table call (request.CreateProcess name priority period) =
     IsTrue (is_done call.claim.out) → IsTrue (is_new (is_free table) call.claim.val) × IsTrue (is_priority priority) × (call.claim.woken ≡ [])
@@ -35,7 +35,7 @@ AsksSoundly table call _ = Unit {0}
 abbrev pub IsObjectNumber : ℤ → Type 0
 IsObjectNumber given = natural_of given < 4294967296
 
--- where a call waits at an object, its number fits
+-- if a call waits at an object, the object's number fits
 abbrev pub WaitsSoundly : Request → Type 0
 WaitsSoundly (request.Buffer buffer operation) = IsObjectNumber buffer
 WaitsSoundly (request.Blackboard blackboard (BlackboardOperation.Read time_out)) = IsObjectNumber blackboard
@@ -54,7 +54,7 @@ abbrev pub ReleasesSoundly : Table → ℕ → Request → Type 0
 ReleasesSoundly table caller (request.Caller CallerOperation.PeriodicWait) = (process : Process) → item_at table caller ≡ Some process → next_release process < 18446744073709551616
 ReleasesSoundly table caller _ = Unit {0}
 
--- a table can hold what a call asks for
+-- a table can hold what a call requests
 pub record IsSound (table : Table) (call : CallRecord) : Type 0 where
   pub asks : AsksSoundly table call call.request
   pub waits : IsTrue (is_waiting call.claim.out) → WaitsSoundly call.request

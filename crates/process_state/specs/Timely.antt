@@ -3,7 +3,7 @@ use Rattle.std.specs.Prelude.{ℕ, ◌<◌, ◌≤◌, List, [], ◌∷◌}
 use Rattle.apex_types.specs.declared.limits.TheConstants.{GREATEST_SPAN, PLACE_COUNT}
 use Rattle.apex_machine.specs.declared.state.CoreState.{CoreState}
 
--- each core's time is below the number of the places that there are
+-- each core's time is below the number of places
 abbrev pub TimesFit : List CoreState → Type 0
 TimesFit [] = Unit {0}
 TimesFit (state ∷ states) = (state.time < PLACE_COUNT) × TimesFit states

@@ -1,4 +1,4 @@
-// What becomes of a caller by its call.
+// What becomes of a caller after its call.
 
 ghost use Rattle.std.specs.Prelude.{◌≡◌, ◌<◌, ◌&&◌, ℕ, IsTrue, true, if◌then◌else◌};
 ghost use Rattle.apex_types.specs.declared.limits.TheConstants.{PLACE_COUNT};
@@ -26,8 +26,8 @@ pub enum Settling {
     Waits(Wait),
     /// It is dormant.
     Stops,
-    /// The outcome is due to it; where its ready position is renewed, it is that place, and where a release is reached, it
-    /// is that time, in ticks.
+    /// The outcome is due to it. If its ready position is renewed, it is the given place; if a release is reached, that is its time, in
+    /// ticks.
     Owed {
         outcome: Outcome,
         renewed: Option<Place>,
@@ -45,8 +45,8 @@ pub fn is_done(out: Out) -> bool
     }
 }
 
-/// What becomes of the caller of this call, at this place and at its core's time `now`, by its next release, in ticks, which
-/// only PERIODIC_WAIT looks at, and by the outcome that becomes due to it, if one does.
+/// What becomes of the caller of this call, at this place and at its core's time `now`. `next` is its next release, in ticks, which only
+/// PERIODIC_WAIT uses. `outcome` is the one that becomes due to it, if one does.
 pub fn settling_of(
     place: Place,
     now: u64,
@@ -77,7 +77,7 @@ pub fn settling_of(
     }
 }
 
-// The place that the caller's ready position becomes, if the call renews it.
+// The new ready position of the caller, if the call renews it.
 fn renewed_by(place: Place, code: Code, request: &Request) -> Option<Place>
     ensures { (old : ℕ) → given_or result old ≡ (if processes.renews request.now && is_no_error (out.Answer code) then place else old) }
 {
@@ -88,7 +88,7 @@ fn renewed_by(place: Place, code: Code, request: &Request) -> Option<Place>
     }
 }
 
-// The release that the call reaches, by the caller's next one, in ticks, if it reaches one.
+// The release that the call reaches, if it reaches one. `next` is the caller's next release, in ticks.
 fn reached_by(next: u64, code: Code, request: &Request) -> Option<u64>
     ensures { (process : ProcessValue) → (sound.is_periodic_wait request.now ≡ true → next_release process ≡ next) → given_or result process.last_release ≡ (if is_no_error (out.Answer code) then processes.release_taken request.now process else process.last_release) }
 {
@@ -106,7 +106,7 @@ fn renews_with(code: Code, request: &Request) -> bool
     renews(request) && answers_no_error(Out::Answer(code))
 }
 
-// Whether an answer with this code has come to its caller's next release.
+// Whether an answer with this code has reached its caller's next release.
 fn takes_release(code: Code, request: &Request) -> bool
     ensures { result ≡ is_no_error (out.Answer code) && sound.is_periodic_wait request.now }
 {

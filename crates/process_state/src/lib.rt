@@ -1,8 +1,22 @@
 //! The processes of one partition and its mode: what a record sets in them, and which process its core is to run.
 //!
-//! Promises: a table is seen as its partition's mode and its processes in the order of their creation, whatever objects and
-//! ports stand beside them; each change is the one that the definitions give to every process at once, made in place at
-//! the few that it touches; the choice is the ready process before which no other goes; where memory is refused, nothing has changed.
+//! Promises: contracts see a table as its partition's mode and its processes in the order of their creation, whatever objects and ports the
+//! partition has. Each change is the one that the definitions make to every process at once, made in place in the few processes that it
+//! touches. The choice is the ready process that no other goes before. If memory is refused, nothing has changed.
+//!
+//! A table says what a call, a return and a tick set in its processes, who is ready, who falls due, and which of them is the choice. It
+//! rejects no record.
+//!
+//! Beside the processes, the table keeps the ranks of the ready ones and the due times of the waiting ones, each in order (`sorted.rt`,
+//! `order.rt`). So the choice takes one look, and a tick costs no more than the processes that it names. In each order the keys of one core
+//! are together, and a guess of where they are is kept. A search looks there first, and finds the same whatever the guess is (`guess.rt`).
+//!
+//! The memory that a call needs is reserved first, as a `Prepared` (`prepare`): for the outcome that becomes due to the caller, and for a
+//! message for each process that the call names. After that, `call` takes memory only at CREATE_PROCESS. A mutex's change of owner is
+//! passed to the table as a `Transfer`.
+//!
+//! A process is looked up under its number (`proc`), under the number that a caller gives (`created`, `created_number`), or as the
+//! definitions read that number, with 0 for a number below 0 (`numbered`, `waits_for_mutex`).
 #![tactic(auto)]
 
 mod caller;

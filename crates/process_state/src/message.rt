@@ -1,4 +1,4 @@
-// The messages that a call hands to those whose waits it ends.
+// The messages that a call hands to the processes whose waits it ends.
 
 ghost use Rattle.std.specs.Prelude.{◌≡◌, IfOk, vec_len};
 ghost use Rattle.apex_machine.specs.Processes.{message_handed_over};
@@ -7,9 +7,9 @@ ghost use Rattle.process_state.specs.HandedOver.{AreCopies};
 use apex_types::{BlackboardOperation, BufferOperation, Message, QueuingOperation, Request};
 use std::alloc::{AllocError, Global};
 
-/// So many copies of the message that a request hands over.
+/// This many copies of the message that a request hands over.
 ///
-/// AllocError where memory is refused.
+/// AllocError if memory is refused.
 pub fn messages_for(
     alloc: Global,
     request: &Request,
@@ -27,7 +27,7 @@ pub fn messages_for(
     Ok(messages)
 }
 
-// The message that a request hands over, empty where it hands over none.
+// The message that a request hands over; empty if it hands over none.
 fn message_handed_over(request: &Request) -> &[u8]
     ensures { result.now ≡ message_handed_over request.now }
 {

@@ -3,7 +3,7 @@
 use apex_machine::CoreState;
 use apex_types::{CoreId, Place};
 
-/// When a record comes: its place in the order, its core, and the cores as they are then.
+/// When a record comes: its place in the order, its core, and the state of the cores at that time.
 #[derive(Clone, Copy, Debug)]
 pub struct Moment<'a> {
     pub place: Place,

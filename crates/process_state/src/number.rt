@@ -6,7 +6,7 @@ ghost use Rattle.process_state.specs.Numbers.{number_of};
 
 use apex_types::ProcId;
 
-/// The number of a process that a caller's number can be: 0 to 4,294,967,295; None for any other.
+/// The process number that a caller's number gives: 0 to 4,294,967,295; None for any other.
 pub fn process_number(given: i64) -> Option<ProcId>
     ensures { result ≡ number_of given }
 {
@@ -17,14 +17,14 @@ pub fn process_number(given: i64) -> Option<ProcId>
     }
 }
 
-/// The same of a number as the definitions read it: 0 for one below 0.
+/// The same for a number as the definitions read it: 0 for a number below 0.
 pub fn natural_number(given: i64) -> Option<ProcId>
     ensures { result ≡ number_of (pos (natural_of given)) }
 {
     process_number(if given < 0 { 0 } else { given })
 }
 
-/// The number of a process that a number can be which a call may claim: None too where it claims none.
+/// The process number that a call claims; None also if it claims none.
 pub fn claimed_number(claimed: Option<i64>) -> Option<ProcId>
     ensures { MatchOption claimed (result ≡ None) (λ given. result ≡ number_of given) }
 {

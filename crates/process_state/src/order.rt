@@ -14,7 +14,7 @@ use crate::wait;
 use apex_machine::Process;
 use apex_types::{CoreId, PartId, ProcId, Who};
 
-/// By what ready processes are put in their order: the core, and on it the priority, the ready position and the number.
+/// The key by which ready processes are ordered: the core, and on it the priority, the ready position and the number.
 #[derive(Clone, Copy)]
 pub struct Rank {
     position: u64,
@@ -43,7 +43,7 @@ impl Key for Rank {
 }
 
 impl Rank {
-    /// The rank of this process, where it is ready.
+    /// The rank of this process, if it is ready.
     pub fn of(number: ProcId, process: &Process) -> Option<Rank>
         ensures { result ≡ ranks.rank_of number process.now }
     {
@@ -60,7 +60,7 @@ impl Rank {
     }
 }
 
-/// By what those are put in order whose wait time ends: the core, and on it the due time, in ticks, and the number.
+/// The key by which processes whose waits end at a time are ordered: the core, and on it the due time, in ticks, and the number.
 #[derive(Clone, Copy)]
 pub struct DueTime {
     time: u64,
@@ -135,7 +135,7 @@ fn is_ready(process: &Process) -> bool
     process.alive && !process.suspended && wait::is_none(process.wait)
 }
 
-/// Whether the process's wait is over once its core, this one, comes to this time, in ticks.
+/// Whether the process's wait is over once its core, which must be this one, reaches this time, in ticks.
 pub fn falls_due(process: &Process, core: CoreId, time: u64) -> bool
     ensures { result ≡ due_times.falls_due core time (Some process.now) }
 {

@@ -24,7 +24,7 @@ pub fn stops(call: &Call, number: ProcId) -> bool
     }
 }
 
-/// The process that a request is to stop, beside its caller, by the number that the caller gives.
+/// The process that a request stops, other than its caller, by the number that the caller gives.
 pub fn stop_of(request: &Request) -> Option<i64>
     ensures { result ≡ waiting.stop_of request.now }
 {

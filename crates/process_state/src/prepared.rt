@@ -1,4 +1,4 @@
-// What a call wants memory for.
+// What a call needs memory for.
 
 ghost use Rattle.std.specs.Prelude.{◌≡◌, IfOk};
 ghost use Rattle.apex_machine.specs.After as after;
@@ -10,8 +10,8 @@ use apex_types::{Call, Code, Message, Out};
 use std::alloc::{AllocError, Global};
 use std::marker::Model;
 
-/// What a call wants memory for, had before anything changes: the outcome that becomes due to its caller, if one does, and
-/// a message for each process that the call names.
+/// The memory that a call needs, reserved before anything changes: for the outcome that becomes due to its caller, if one does, and for a
+/// message for each process that the call names.
 #[derive(Drop)]
 pub struct Prepared {
     pub(crate) outcome: Option<Outcome>,
@@ -28,7 +28,7 @@ impl Model for Prepared {
 
 /// What is prepared for a call.
 ///
-/// AllocError where memory is refused; where the call names nobody and claims no message, it takes none.
+/// AllocError if memory is refused. A call that names no process and claims no message takes no memory.
 pub fn prepared_for(alloc: Global, call: &Call) -> Result<Prepared, AllocError>
     ensures { IfOk result (λ prepared. IsPreparedFor call.now prepared) }
 {

@@ -14,7 +14,7 @@ use apex_machine::{Mode, Outcome, Process, Wait};
 use apex_types::{Code, CoreId, Message, Name, Place, ProcessOperation, Service};
 use std::alloc::{AllocError, Global};
 
-/// The initialising process, ready since this place on this core with priority 0. Takes no memory.
+/// The initialising process, ready from this place on, on this core, with priority 0. Takes no memory.
 pub fn initialising(alloc: Global, core: CoreId, place: Place) -> Process
     ensures { result ≡ initialising_process core place }
 {
@@ -35,7 +35,7 @@ pub fn initialising(alloc: Global, core: CoreId, place: Place) -> Process
     }
 }
 
-/// A process as it is created: dormant, on this core, with its base priority; aperiodic where the period is below 0.
+/// A process as it is created: dormant, on this core, with its base priority; aperiodic if the period is below 0.
 pub fn created(
     alloc: Global,
     core: CoreId,
@@ -63,15 +63,15 @@ pub fn created(
     })
 }
 
-// The period of a process by the one that its creator gives, both in ticks: none where that is below 0.
+// The period of a process from the one that its creator gives, both in ticks: none if that is below 0.
 fn own_period(given: i64) -> Option<u64>
     ensures { result ≡ period_given given }
 {
     if given < 0 { None } else { Some(given as u64) }
 }
 
-/// What a service that names the process sets in it at this place, when its core's time is `now`, in this mode of its
-/// partition; the period is the partition's, in ticks. STOP sets nothing here: `stop` does.
+/// What a service that names the process sets in it at this place, when its core's time is `now`, in this mode of its partition. The period
+/// is the partition's, in ticks. STOP sets nothing here: `stop` does.
 pub fn serve(
     process: &mut Process,
     operation: &ProcessOperation,
@@ -104,8 +104,7 @@ pub fn serve(
     }
 }
 
-// The process is started at this place, when its core's time is `now`, in this mode of its partition; the period is the
-// partition's, in ticks.
+// Starts the process at this place, when its core's time is `now`, in this mode of its partition. The period is the partition's, in ticks.
 fn start(process: &mut Process, place: Place, period: u64, now: u64, mode: Mode)
     requires least { 1 ≤ period }
     requires most { period ≤ GREATEST_SPAN }
@@ -121,8 +120,8 @@ fn start(process: &mut Process, place: Place, period: u64, now: u64, mode: Mode)
     process.ready_position = place.number();
 }
 
-/// The partition's mode becomes NORMAL at this place, when the process's core's time is `now`; the period is the
-/// partition's, in ticks.
+/// The partition's mode becomes NORMAL at this place, when the time of the process's core is `now`. The period is the partition's, in
+/// ticks.
 pub fn enter_normal(process: &mut Process, place: Place, period: u64, now: u64)
     requires least { 1 ≤ period }
     requires most { period ≤ GREATEST_SPAN }
@@ -135,7 +134,7 @@ pub fn enter_normal(process: &mut Process, place: Place, period: u64, now: u64)
     }
 }
 
-/// The process's wait ends at a tick, at this place. Takes no memory.
+/// A tick ends the process's wait, at this place. Takes no memory.
 pub fn release(process: &mut Process, alloc: Global, place: Place)
     ensures { process.new ≡ processes.released place process.old }
 {
@@ -143,14 +142,14 @@ pub fn release(process: &mut Process, alloc: Global, place: Place)
     end_wait(process, place, code, Message::empty(alloc));
 }
 
-/// The process's wait ends by a call at this place, which hands over this message.
+/// A call at this place, which hands over this message, ends the process's wait.
 pub fn wake(process: &mut Process, place: Place, message: Message)
     ensures { process.new ≡ processes.woken_by place message process.old }
 {
     end_wait(process, place, Code::NoError, message);
 }
 
-// The process's wait ends at this place; where a service began it, the outcome of the service has this code and message.
+// Ends the process's wait at this place. If a service began the wait, the outcome of the service has this code and message.
 fn end_wait(process: &mut Process, place: Place, code: Code, bytes: Message)
     ensures { process.new ≡ processes.wait_ended place (processes.owed (processes.service_of_wait process.old.wait) code bytes) process.old }
 {
@@ -160,7 +159,7 @@ fn end_wait(process: &mut Process, place: Place, code: Code, bytes: Message)
     process.ready_position = place.number();
 }
 
-// The outcome of a service, if it owes one.
+// The outcome that a service gives its caller, if there is such a service.
 fn owed(service: Option<Service>, code: Code, bytes: Message) -> Option<Outcome>
     ensures { result ≡ processes.owed service code bytes }
 {
@@ -202,7 +201,7 @@ pub fn stop_self(process: &mut Process, now: u64)
     process.called_at = now;
 }
 
-/// The process owns a mutex of this priority from now on, and keeps its own.
+/// The process becomes the owner of a mutex of this priority, and retains its own priority.
 pub fn grant(process: &mut Process, priority: u8)
     ensures { process.new ≡ processes.granted priority process.old }
 {
@@ -210,7 +209,7 @@ pub fn grant(process: &mut Process, priority: u8)
     process.current_priority = priority;
 }
 
-/// The process no longer owns a mutex, and has its own priority again.
+/// The process stops being the owner of a mutex, and has its own priority again.
 pub fn ungrant(process: &mut Process)
     ensures { process.new ≡ processes.restored process.old }
 {
@@ -225,8 +224,8 @@ pub fn begin_wait(process: &mut Process, now: u64, wait: Wait)
     process.called_at = now;
 }
 
-/// A call at the core's time `now` owes the process this outcome; where its ready position is renewed, it is that place, and
-/// where a release is reached, that is its last, in ticks.
+/// A call at the core's time `now` makes this outcome due to the process. If its ready position is renewed, it is the given place; if a
+/// release is reached, that becomes its last one, in ticks.
 pub fn owe(
     process: &mut Process,
     now: u64,
@@ -246,7 +245,7 @@ pub fn owe(
     process.called_at = now;
 }
 
-/// The next release of a process, in ticks: a period after its last, where it has one.
+/// The next release of a process, in ticks: a period after its last one, if it has a period.
 pub fn next_release(process: &Process) -> u64
     requires { due_times.next_release process.now < 18446744073709551616 }
     ensures { result ≡ due_times.next_release process.now }

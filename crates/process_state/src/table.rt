@@ -33,12 +33,12 @@ use indexmap::IndexMap;
 use std::alloc::{AllocError, Global};
 use std::marker::Model;
 
-/// The processes of one partition, in the order of their creation, and the partition's mode. What it promises holds for
-/// any partition that has this mode and these processes. Process number 0 is the initialising process.
+/// The processes of one partition, in the order of their creation, and the partition's mode. Its promises hold for any partition that has
+/// this mode and these processes. Process number 0 is the initialising process.
 ///
-/// Beside them stand the ranks of those that are ready and the due times of those that wait, each in its order, with room
-/// for one of each process: so only a process that is created takes memory for them. For the initialising process there is
-/// always room, so that a restart takes none.
+/// With them are the ranks of those that are ready and the due times of those that wait, each in its order, with room for one of each
+/// process. So only the creation of a process takes memory for them. There is always room for the initialising process, so that a restart
+/// takes none.
 #[derive(Drop)]
 pub struct ProcTable {
     mode: Mode,
@@ -62,7 +62,7 @@ impl Model for ProcTable {
 impl ProcTable {
     /// A partition as it starts cold: its initialising process alone, on its first core.
     ///
-    /// AllocError where memory is refused.
+    /// AllocError if memory is refused.
     pub fn new(alloc: Global, first_core: CoreId) -> Result<ProcTable, AllocError>
         ensures { IfOk result (λ table. table ≡ processes_in Mode.ColdStart (first_processes Mode.ColdStart first_core 0)) }
     {
@@ -87,18 +87,18 @@ impl ProcTable {
         self.mode
     }
 
-    /// The process of this number, the initialising one included, or None where there is none.
+    /// The process of this number, the initialising one included, or None if there is none.
     pub fn proc(&self, number: ProcId) -> Option<&Process>
         ensures { option_copied result ≡ item_at self.now.table number }
     {
-        // Numbers mostly rise by one from 0, so that a process stands at its own number.
+        // Numbers mostly rise by one from 0, so a process is mostly at the index of its number.
         match self.processes.get_index(number.number() as usize) {
             Some((found, process)) if *found == number => Some(process),
             _ => self.processes.get(&number),
         }
     }
 
-    /// The created process of this number, as a caller gives it, or None where there is none: nobody created number 0.
+    /// The created process of this number, as a caller gives it, or None if there is none: nobody created number 0.
     pub fn created(&self, number: i64) -> Option<&Process>
         ensures { option_copied result ≡ created self.now.table number }
     {
@@ -110,19 +110,19 @@ impl ProcTable {
         processes.get(&process)
     }
 
-    /// The number of the created process that a caller gives, or None where there is none of that number.
+    /// The number of the created process that a caller gives, or None if there is none of that number.
     pub fn created_number(&self, number: i64) -> Option<ProcId>
         ensures { MatchOption result (created self.now.table number ≡ None) (λ found. (number ≡ pos found) × (created self.now.table number ≢ None)) }
     {
-        // What is known of each table, that its numbers fit 32 bits, is known where one of its fields is used.
+        // A fact of every table, that its numbers fit 32 bits, is known when one of its fields is used.
         let _ = &self.processes;
         let process = process_number(number)?;
         self.created(number)?;
         Some(process)
     }
 
-    /// The process of the number that a caller gives as the definitions read it, the initialising one for a number below 0,
-    /// or None where there is none.
+    /// The process of the number that a caller gives, as the definitions read it: the initialising one for a number below 0. None if there
+    /// is none.
     pub fn numbered(&self, number: i64) -> Option<&Process>
         ensures { option_copied result ≡ item_at self.now.table (natural_of number) }
     {
@@ -147,16 +147,16 @@ impl ProcTable {
         self.processes.len().saturating_sub(1)
     }
 
-    /// The process of this index in the order of creation, with its number, or None where there are no more; that of index 0 is
-    /// the initialising one.
+    /// The process of this index in the order of creation, with its number, or None if there are no more. Index 0 is the initialising
+    /// process.
     pub fn at(&self, index: usize) -> Option<(&ProcId, &Process)>
         ensures { option_map deref_pair result ≡ slice_get self.now.table index }
     {
         self.processes.get_index(index)
     }
 
-    /// The process that this core is to run, where the window is this partition's: the ready one before which no other
-    /// goes, or None where none is ready.
+    /// The process that this core is to run if the window is this partition's: the ready one that no other goes before, or None if none is
+    /// ready.
     pub fn ready_on(&self, part: PartId, core: CoreId) -> Option<Who>
         ensures { result ≡ choice_in part core self.now.table }
     {
@@ -166,8 +166,8 @@ impl ProcTable {
         }
     }
 
-    /// Whether, of this partition, the list names exactly the processes of the core whose wait is over once the core comes
-    /// to this time, in ticks.
+    /// Whether, of this partition, the list names exactly the processes of the core whose wait is over once the core reaches this time, in
+    /// ticks.
     pub fn names_those_due(&self, part: PartId, core: CoreId, time: u64, woken: &Woken) -> bool
         ensures { IsTrue result ↔ due_times.NamesThoseDue part core time self.now.table woken.now }
     {
@@ -175,7 +175,7 @@ impl ProcTable {
         self.named_fall_due(part, core, time, named) && self.due_are_named(part, core, time, named)
     }
 
-    /// Whether a claimed value is a number that a new process can take: 1 to 2,147,483,647, and no process has it.
+    /// Whether a claimed value is a number that a new process can take: it is from 1 to 2,147,483,647, and no process has it.
     pub fn is_new_number(&self, claimed: Option<i64>) -> bool
         ensures { result ≡ is_new (is_free self.now.table) claimed }
     {
@@ -198,7 +198,7 @@ impl ProcTable {
             .all(|who| who.part != part || self.waits_at(wanted, who.proc))
     }
 
-    /// Whether a process of this number waits for a mutex; a number is read as `numbered` reads it.
+    /// Whether the process of this number waits for a mutex; the number is read as `numbered` reads it.
     pub fn waits_for_mutex(&self, number: i64) -> bool
         ensures { result ≡ waits_for_mutex self.now.table (natural_of number) }
     {
@@ -208,7 +208,7 @@ impl ProcTable {
         }
     }
 
-    /// Whether the next release of this process is reached at this time, in ticks: a period after its last, where it has one.
+    /// Whether the next release of this process is reached at this time, in ticks: a period after its last one, if it has a period.
     pub fn is_released(&self, now: u64, number: ProcId) -> bool
         ensures { result ≡ due_times.is_released now (item_at self.now.table number) }
     {
@@ -218,7 +218,7 @@ impl ProcTable {
         }
     }
 
-    // Whether a process of this number stands that waits in this set.
+    // Whether there is a process of this number that waits in this set.
     fn waits_at(&self, wanted: WaitingSet, number: ProcId) -> bool
         ensures { result ≡ waiting.waits_at wanted (item_at self.now.table number) }
     {
@@ -235,19 +235,19 @@ impl ProcTable {
         woken.iter().all(|who| who.part != part || self.is_due(who.proc, core, time))
     }
 
-    // Whether the list names each process of this partition that falls due, where it names none twice and only such that do:
-    // as many as fall due.
+    // Whether the list names each process of this partition that falls due, if it names none twice and only processes that do: it names as
+    // many as fall due.
     fn due_are_named(&self, part: PartId, core: CoreId, time: u64, woken: &[Who]) -> bool
         requires rising { IsRising woken.now }
         requires each { NamedFallDue part core time self.now.table woken.now }
         ensures { IsTrue result ↔ DueAreNamed part core time self.now.table woken.now }
     {
-        // That no number stands twice in the map is known where the map is used.
+        // That no number occurs twice in the map is known when the map is used.
         let _ = self.processes.len();
         count_of(part, woken) == due_count(&self.due, core, time)
     }
 
-    // Whether there is a process of this number on this core whose wait is over once the core comes to this time.
+    // Whether there is a process of this number on this core whose wait is over once the core reaches this time.
     fn is_due(&self, number: ProcId, core: CoreId, time: u64) -> bool
         ensures { result ≡ due_times.falls_due core time (item_at self.now.table number) }
     {
@@ -271,7 +271,7 @@ impl Clone for ProcTable {
     }
 }
 
-// The same processes, with room for the initialising process where there are none.
+// The same processes, with room for the initialising process if there are none.
 fn copied(processes: &IndexMap<ProcId, Process>) -> Result<IndexMap<ProcId, Process>, AllocError>
     ensures entries { IfOk result (λ copy. copy.entries ≡ processes.now.entries) }
     ensures room { IfOk result (λ copy. 0 < length copy.entries + spare copy) }

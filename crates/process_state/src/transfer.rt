@@ -4,7 +4,8 @@ ghost use Rattle.std.specs.Prelude.{◌≡◌, None};
 
 use apex_types::ProcId;
 
-/// What a call makes of the owners of a mutex: who no longer owns it, who owns it from now on, and the mutex's priority.
+/// What a call makes of the owners of a mutex: the process that stops being the owner, the process that becomes the owner, and the mutex's
+/// priority.
 #[derive(Clone, Copy, Debug)]
 pub struct Transfer {
     pub from: Option<ProcId>,
@@ -13,7 +14,7 @@ pub struct Transfer {
 }
 
 impl Transfer {
-    /// No mutex has another owner.
+    /// No mutex changes its owner.
     pub fn none() -> Transfer
         ensures from { result.from ≡ None }
         ensures to { result.to ≡ None }

@@ -1,4 +1,4 @@
-// What a process waits for: when that is over, and what is due then.
+// What a process waits for: when the wait is over, and what is due then.
 
 ghost use Rattle.std.specs.Prelude.{◌≡◌, ◌<◌, ◌≤◌, ◌↔◌, IsTrue};
 ghost use Rattle.apex_types.specs.declared.limits.TheConstants.{GREATEST_SPAN, PLACE_COUNT};
@@ -11,28 +11,28 @@ ghost use Rattle.process_state.specs.Ranks as ranks;
 use apex_machine::{Wait, WaitingSet};
 use apex_types::{Code, Service};
 
-/// Whether a wait is none.
+/// Whether a wait is for nothing.
 pub fn is_none(wait: Wait) -> bool
     ensures { result ≡ choice.waits_for_nothing wait }
 {
     matches!(wait, Wait::Nothing)
 }
 
-/// Whether a wait is that for NORMAL.
+/// Whether a wait is for the mode NORMAL.
 pub fn is_for_normal(wait: Wait) -> bool
     ensures { result ≡ due_times.waits_for_normal wait }
 {
     matches!(wait, Wait::NormalMode)
 }
 
-/// Whether a wait is one for a mutex.
+/// Whether a wait is for a mutex.
 pub fn is_for_mutex(wait: Wait) -> bool
     ensures { result ≡ due_times.is_for_mutex wait }
 {
     matches!(wait, Wait::At(WaitingSet::MutexWaiters(_), _))
 }
 
-/// When a wait is over, in ticks of its core, if time ends it.
+/// When a wait is over, in ticks of the process's core, if time ends it.
 pub fn time_due(wait: Wait) -> Option<u64>
     ensures { result ≡ ranks.time_due wait }
 {
@@ -43,7 +43,7 @@ pub fn time_due(wait: Wait) -> Option<u64>
     }
 }
 
-/// Whether a wait is over once its core comes to this time, in ticks.
+/// Whether a wait is over once the process's core reaches this time, in ticks.
 pub fn is_due(wait: Wait, time: u64) -> bool
     ensures { result ≡ due_times.due_by time wait }
 {
@@ -67,7 +67,7 @@ pub fn service_of(wait: Wait) -> Option<Service>
     }
 }
 
-// The service of those who wait in a set.
+// The service for which the processes of a set wait.
 fn service_at(set: WaitingSet) -> Service
     ensures { result ≡ waiting.service_at set }
 {
@@ -83,7 +83,8 @@ fn service_at(set: WaitingSet) -> Service
     }
 }
 
-/// The code with which a wait ends that falls due: TIMED_OUT where something was waited for, NO_ERROR where the time was.
+/// The code with which a wait ends that falls due: TIMED_OUT if the process waited for something else than a time, NO_ERROR if it waited
+/// for a time.
 pub fn code_when_due(wait: Wait) -> Code
     ensures { result ≡ processes.code_when_due wait }
 {
@@ -97,7 +98,7 @@ pub fn code_when_due(wait: Wait) -> Code
     }
 }
 
-/// The last release, once this wait has ended: that for which the process waited, or this one, both in ticks.
+/// The last release after this wait has ended: the one for which the process waited, or this one, both in ticks.
 pub fn release_reached(wait: Wait, last: u64) -> u64
     ensures { result ≡ processes.release_reached wait last }
 {
@@ -133,7 +134,7 @@ fn first_release(partition_period: u64, now: u64) -> u64
     now - now % partition_period + partition_period
 }
 
-/// Whether a process that has this wait stands in this waiting set.
+/// Whether a process that has this wait waits in this waiting set.
 pub fn is_in(wait: Wait, wanted: WaitingSet) -> bool
     ensures { result ≡ waiting.is_in wanted wait }
 {

@@ -16,8 +16,8 @@ use apex_types::{
     QueuingOperation, Request, SemaphoreOperation,
 };
 
-/// What a caller waits for that began to wait when its core's time was `now`, by its next release, in ticks, which only
-/// PERIODIC_WAIT looks at; a port's set is that of its channel.
+/// What a caller waits for, if it began to wait when its core's time was `now`. `next` is its next release, in ticks, which only
+/// PERIODIC_WAIT uses. A port's set is that of its channel.
 pub fn wait_of(request: &Request, channel: Option<ChanId>, now: u64, next: u64) -> Wait
     requires time { now < PLACE_COUNT }
     requires sound { WaitsSoundly request.now }
@@ -32,7 +32,7 @@ pub fn wait_of(request: &Request, channel: Option<ChanId>, now: u64, next: u64) 
     }
 }
 
-// What a caller waits for by what it asks for itself.
+// What a caller waits for after an operation that it requests for itself.
 fn own_wait(operation: &CallerOperation, now: u64, next: u64) -> Wait
     requires { now < PLACE_COUNT }
     ensures { (channel : Option ℕ) (process : ProcessValue)
@@ -94,7 +94,7 @@ fn set_at_buffer(buffer: u32, operation: &BufferOperation) -> WaitingSet
     }
 }
 
-// The time at which a call's time-out falls due that begins at the time `now`, if it has one that does.
+// The time at which a call's time-out falls due, if it begins at the time `now` and falls due at all.
 fn due_of_call(request: &Request, now: u64) -> Option<u64>
     requires { now < PLACE_COUNT }
     ensures { result ≡ due_times.due_of_call (due_times.time_out_of request.now) now }
@@ -120,7 +120,7 @@ fn time_out_of(request: &Request) -> Option<i64>
     }
 }
 
-// The number of an object, by the one that a caller gives.
+// The number of an object, from the one that a caller gives.
 fn object_number(given: i64) -> u32
     requires { natural_of given < 4294967296 }
     ensures { result ≡ natural_of given }
@@ -128,7 +128,7 @@ fn object_number(given: i64) -> u32
     if given < 0 { 0 } else { given as u32 }
 }
 
-// The time at which a time-out falls due that begins at the time `now`; one below 0 never does.
+// The time at which a time-out that begins at the time `now` falls due; one below 0 never falls due.
 fn due_time(time_out: i64, now: u64) -> Option<u64>
     requires { now < PLACE_COUNT }
     ensures { result ≡ due_times.due_time time_out now }

@@ -36,13 +36,13 @@ use Rattle.record_read.proofs.GrammarLists.{hold_processes, processes_hold}
 use Rattle.record_read.proofs.GrammarNames.{code_is, is_code, is_kind, is_outcome, is_service, kind_is, outcome_is, service_is}
 use Rattle.record_read.proofs.GrammarTexts.{holds_name, length_decides, name_holds}
 
--- a step has a fault exactly where a relation says so, and one that it may have
+-- a step has a fault exactly if a relation says so, and one that it may have
 pub record FailsAs {A E : Type 0} (May : E → Type 0) (read : Result A E) (Fault : E → Type 0) : Type 0 where
   pub to : (e : E) → read ≡ Err e → Fault e
   pub from : (e : E) → Fault e → read ≡ Err e
   pub own : (e : E) → read ≡ Err e → May e
 
--- a text has a fault exactly where a relation says so, and one that the text of a row can have
+-- a text has a fault exactly if a relation says so, and one that the text of a row can have
 abbrev pub Fails : {A : Type 0} → Result A RowFault → (RowFault → Type 0) → Type 0
 Fails read Fault = FailsAs IsOfRow read Fault
 
@@ -61,11 +61,11 @@ same_err e f same = cc
 no_value : {A E : Type 0} {Goal : Type 0} (x : A) (e : E) → ◌≡◌ {A = Result A E} (Ok x) (Err e) → Goal
 no_value {A} {E} x e same = absurd (let f : ◌≡◌ {A = Result A E} (Ok x) (Err e) = same in cc)
 
--- a value, where there is no fault
+-- a value, if there is no fault
 value_fails : {A E : Type 0} {May Fault : E → Type 0} (x : A) → ((e : E) → ¬ Fault e) → FailsAs May (Ok x) Fault
 value_fails x none = record { to = λ e same. no_value x e same; from = λ e fault. absurd (none e fault); own = λ e same. no_value x e same }
 
--- a fault, where it is the only one
+-- a fault, if it is the only one
 fault_fails : {A E : Type 0} {May Fault : E → Type 0} (bad : E) → May bad → Fault bad → ((e : E) → Fault e → bad ≡ e) → FailsAs {A = A} May (Err bad) Fault
 fault_fails {May = May} {Fault = Fault} bad own is only = record {
   to = λ e same. subst Fault (same_err bad e same) is;
@@ -142,7 +142,7 @@ none_held (Ok x) bad Holds text own only holds held = value_fails x (λ e fault.
 none_held (Err f) bad Holds text own only holds held =
     fault_fails f (subst IsOfRow (sym (only f refl)) own) ((λ x h. no_fault f x (held x h)), only f refl) (λ e fault. only f refl ∙ sym fault.1)
 
--- the same where an empty field has a fault of its own
+-- the same if an empty field has a fault of its own
 must_hold : {A : Type 0} (read : List ℕ → Result A RowFault) (bad : RowFault) (Holds : List ℕ → A → Type 0) (text : List ℕ) → IsOfRow bad → read [] ≡ Err FieldNotForKind
     → ((b : ℕ) (bs : List ℕ) (e : RowFault) → read (b ∷ bs) ≡ Err e → e ≡ bad) → ((x : A) → read text ≡ Ok x → Holds text x) → ((x : A) → Holds text x → read text ≡ Ok x)
     → Fails (read text) (MustHold bad Holds text)
@@ -158,7 +158,7 @@ must_hold read bad Holds (b ∷ bs) own none only holds held =
     filled e (inl fault) = absurd (let f : b ∷ bs ≡ [] = fault.0 in cc)
     filled e (inr fault) = fault.1
 
--- the same where the field may be left out
+-- the same if the field may be left out
 maybe_fails : {A : Type 0} (read : List ℕ → Result A RowFault) (bad : RowFault) (Holds : List ℕ → A → Type 0) (text : List ℕ)
     → Fails (read text) (MustHold bad Holds text) → Fails (maybe (read text) text) (HoldsNone bad (MayHold Holds) text)
 unfolding maybe
@@ -175,7 +175,7 @@ maybe_fails {A = A} read bad Holds (b ∷ bs) fails =
     held e (inl fault) = absurd (let f : b ∷ bs ≡ [] = fault.0 in cc)
     held e (inr fault) = (none e fault.1, fault.1.1)
 
--- an option's want is this fault
+-- the fault of a missing value is this one
 or_bad : {A : Type 0} (found : Option A) (bad e : RowFault) → ok_or found bad ≡ Err e → e ≡ bad
 or_bad (Some x) bad e same = no_value x e same
 or_bad None bad e same = sym (same_err bad e same)
@@ -483,7 +483,7 @@ unfolding record_of
 faults_are_of_rows format next fields fault e =
     let found = cause_of (row_in format next fields) fault e in (row_fails format next fields).own (record { fault = fault; column = found.0 }) found.1
 
--- what a row is read as, where of a fault only the cause is reported
+-- what a row is read as, if of a fault only the cause is reported
 pub record_read : (format : Format) (next : ℕ) (fields : Fields) (rec : Record) → row_in format next fields ≡ Ok rec → record_of format next fields ≡ Ok rec
 unfolding record_of
 record_read format next fields rec e = ap fault_only e
@@ -504,7 +504,7 @@ pub misread_first : (format : Format) (next : ℕ) (fields : Fields) (misread : 
 misread_first format next fields misread (inl fault) own = (row_fails format next fields).to misread fault.1
 misread_first format next fields misread (inr memory) own = absurd (subst HasRowFault memory.0 own)
 
--- want of memory is of no field
+-- a lack of memory is of no field
 pub memory_nowhere : (format : Format) (next : ℕ) (fields : Fields) (misread : Misread) → RefusesAt NeedsMemory misread (row_in format next fields)
     → misread.fault ≡ Memory → misread.column ≡ None
 memory_nowhere format next fields misread (inl fault) is = absurd (subst IsOfRow is fault.0)

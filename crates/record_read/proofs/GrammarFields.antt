@@ -1,4 +1,4 @@
--- One field: a step of the reader gives a value exactly where the field holds it.
+-- One field: a step of the reader gives a value exactly if the field holds it.
 use Rattle.std.proofs.Common.{◌≡◌, ◌<◌, ◌^◌, ℕ, ℤ, pos, List, [], ◌∷◌, Bool, true, false, Option, Some, None, Result, Ok, Err, refl, sym, ap, subst, if◌then◌else◌}
 use Rattle.std.specs.Prelude.{option_and_then, option_map}
 use Rattle.std.specs.Option.{ok_or}

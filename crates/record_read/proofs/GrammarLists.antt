@@ -1,4 +1,4 @@
--- Lists of processes: the reader's walk over the pieces of a text gives processes exactly where the text is the joining of their texts.
+-- Lists of processes: the reader's walk over the pieces of a text gives processes exactly if the text is the joining of their texts.
 use Rattle.std.proofs.Common.{◌≡◌, ◌<◌, ◌^◌, ◌∙◌, ◌≤◌, ℕ, List, [], ◌∷◌, ◌++◌, Bool, true, false, Option, Some, None, Ok, refl, sym, ap, map, subst, nat_eq, nat_lt, append_assoc, arith, if◌then◌else◌}
 use Rattle.std.specs.Prelude.{◌≢◌, codes, option_map}
 use Rattle.std.specs.Fmt.{decimal as written}

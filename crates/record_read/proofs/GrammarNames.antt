@@ -1,4 +1,4 @@
--- What is given by its name: a step of the reader gives it exactly where the field is its name.
+-- What is given by its name: a step of the reader gives it exactly if the field is its name.
 use Rattle.std.proofs.Common.{◌≡◌, ◌∙◌, ℕ, List, [], ◌∷◌, Bool, true, false, Option, Some, None, Ok, refl, sym, ap, subst, if◌then◌else◌}
 use Rattle.std.specs.Prelude.{IsTrue, codes, option_map}
 use Rattle.std.specs.List.{find, list_all}
@@ -60,7 +60,7 @@ of_kind_name _ = refl
 pub is_kind : (text : List ℕ) (k : Kind) → text ≡ kind_name k → kind_of text ≡ Ok k
 is_kind text k e = ap kind_of e ∙ of_kind_name k
 
--- a text that names a service among some rows is its name, where each row has its service's name
+-- a text that names a service among some rows is its name, if each row has its service's name
 service_among_is : (rows : List Services.Row) (text : List ℕ) (s : Service) → IsTrue (list_all (λ row. bytes_eq row.name.now (Services.name_of row.service)) rows)
     → service_among (λ name. name.now) rows text ≡ Some s → text ≡ Services.name_of s
 unfolding service_among

@@ -1,4 +1,4 @@
--- Numbers: a text is read as a number exactly where it is what `{}` writes for the number.
+-- Numbers: a text is read as a number exactly if it is what `{}` writes for the number.
 use Rattle.std.proofs.Common.{◌≡◌, ◌∙◌, ◌≤◌, ◌<◌, ◌+◌, ◌*◌, ◌-◌, ◌^◌, ℕ, zero, suc, ℤ, pos, negsuc, List, [], ◌∷◌, Bool, true, false, Option, Some, None, length, get_or, refl, sym, ap, subst, nat_le, nat_lt, arith, if◌then◌else◌, ◌==◌, ◌&&◌, FitsSigned, w64}
 use Rattle.std.specs.Prelude.{option_and_then, option_map}
 use Rattle.std.specs.Char.{digit_value, is_ascii_digit}

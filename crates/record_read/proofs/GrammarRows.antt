@@ -1,4 +1,4 @@
--- Whole rows: the reader's steps from left to right give a record exactly where the row is the record's.
+-- Whole rows: the reader's steps from left to right give a record exactly if the row is the record's.
 use Rattle.std.proofs.Common.{◌≡◌, ◌^◌, ◌<◌, ◌∙◌, ◌≤◌, ℕ, pred, List, [], ◌∷◌, map, Bool, true, false, Option, Some, None, Result, Ok, Err, length, refl, sym, ap, subst, nat_le, nat_lt, nat_eq, arith, if◌then◌else◌, ◌==◌}
 use Rattle.std.specs.Prelude.{codes}
 use Rattle.std.specs.Fmt.{decimal}
@@ -43,7 +43,7 @@ all_are_empty fields (first ∷ others) e =
     let s = field_ok first (empty (text_at fields first)) (λ u. all_empty fields others) tt e in
     (empty_is (text_at fields first) s.1, all_are_empty fields others s.2)
 
--- empty fields have no fault where they must be empty
+-- empty fields have no fault if they must be empty
 are_all_empty : (fields : Fields) (columns : List Column) → AreEmpty (map (text_at fields) columns) → all_empty fields columns ≡ Ok tt
 unfolding all_empty
 are_all_empty fields [] h = refl
@@ -343,7 +343,7 @@ value_only : {A : Type 0} (read : Result A Misread) (x : A) → fault_only read 
 value_only (Ok y) x e = ap Ok (same_ok y x e)
 value_only (Err misread) x e = no_fault misread.fault x e
 
--- a row is read as a record exactly where it is the record's row
+-- a row is read as a record exactly if it is the record's row
 pub rows_are_the_grammar : RowsAreTheGrammar
 unfolding record_of
 rows_are_the_grammar format next fields rec = (

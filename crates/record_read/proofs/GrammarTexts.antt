@@ -1,4 +1,4 @@
--- Names and messages: a step of the reader gives one exactly where the field holds it.
+-- Names and messages: a step of the reader gives one exactly if the field holds it.
 use Rattle.std.proofs.Common.{◌≡◌, ◌∙◌, ◌≤◌, ◌<◌, ℕ, zero, suc, ℤ, pos, negsuc, List, [], ◌∷◌, Bool, true, false, Result, Ok, Err, length, refl, sym, ap, subst, inl, inr, nat_le, nat_eq, arith, if◌then◌else◌, ◌&&◌}
 use Rattle.std.specs.Prelude.{◌≢◌}
 use Rattle.std.specs.Bool.{Decides}

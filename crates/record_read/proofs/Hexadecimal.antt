@@ -13,7 +13,7 @@ use Rattle.record_read.specs.Payload.{IsHex, from_hex, hex_bytes}
 pub odd_is_none : (text : List ℕ) → length text % 2 ≡ 1 → is_ok (decode_of text) ≡ false
 odd_is_none text odd = ap is_ok (decode_of-odd text odd)
 
--- an even number of bytes is one where all are digits
+-- an even number of bytes is hexadecimal if all are digits
 pub even_is : (text : List ℕ) → length text % 2 ≢ 1 → is_ok (decode_of text) ≡ list_all is_hex_digit text
 even_is text even = by (list_all is_hex_digit text) refl
   where

@@ -35,7 +35,7 @@ pub after_none : (last : Option Who) (left : List ℕ) → next_process last (fr
 unfolding processes_after
 after_none last left e = ap (processes_after last) (pieces_split 59 left) ∙ rw e refl
 
--- the pieces of a text name processes where those that are left name some after the last
+-- the pieces of a text name processes if those that are left name some after the last
 abbrev pub Judged : List ℕ → Option Who → Option (List ℕ) → Type 0
 Judged text last left = is_some (processes_after None (pieces_of 59 text)) ≡ is_some (processes_after last (pieces_left 59 left))
 

@@ -4,7 +4,7 @@ use Rattle.apex_types.specs.declared.limits.TheConstants.{GREATEST_CHANNEL, GREA
 use Rattle.record_read.specs.declared.column.Column.{Column}
 use Rattle.record_read.specs.declared.column.Column.TheVariants as column
 
--- the place of a column's field in a row; the rows of format 1 have those up to 15
+-- the place of a column's field in a row; rows of format 1 have the fields up to 15
 abbrev pub place_of : Column → ℕ
 place_of column.Sequence = 0
 place_of column.Kind = 1
@@ -30,11 +30,11 @@ abbrev pub every_column : List Column
 every_column =
     column.Sequence ∷ column.Kind ∷ column.Partition ∷ column.Process ∷ column.Service ∷ column.FirstNumber ∷ column.SecondNumber ∷ column.ThirdNumber ∷ column.Name ∷ column.Message ∷ column.Priority ∷ column.Outcome ∷ column.Value ∷ column.Data ∷ column.Channel ∷ column.Woken ∷ column.SecondValue ∷ column.ThirdValue ∷ []
 
--- those from one column to another
+-- the columns from one to another
 abbrev pub columns_between : Column → Column → List Column
 columns_between first last = take (place_of last + 1 - place_of first) (drop (place_of first) every_column)
 
--- the greatest number of a column that has numbers from 0 on
+-- the greatest number that a column's field can have, if its numbers are those from 0 on
 abbrev pub greatest_of : Column → Option ℕ
 greatest_of column.Sequence = Some (MOST_RECORDS - 1)
 greatest_of column.Partition = Some GREATEST_PARTITION

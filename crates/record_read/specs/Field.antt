@@ -14,11 +14,11 @@ use Rattle.record_read.specs.Steps.{◌>>=◌, located}
 abbrev pub bytes_at : List (List ℕ) → ℕ → List ℕ
 bytes_at fields place = unwrap_or (field_at fields place) []
 
--- the text of a column; empty where the row ends before it
+-- the text of a column; empty if the row ends before it
 abbrev pub text_at : List (List ℕ) → Column → List ℕ
 text_at fields column = bytes_at fields (place_of column)
 
--- what is read from the text of a column, whose fault is at that column
+-- what is read from the text of a column; a fault is at that column
 abbrev pub read_at : {A : Type 0} → (List ℕ → Result A RowFault) → List (List ℕ) → Column → Result A Misread
 read_at read fields column = located column (read (text_at fields column))
 
@@ -41,28 +41,28 @@ unfoldable pub filled : {A : Type 0} → RowFault → Option A → List ℕ → 
 filled bad found [] = Err FieldNotForKind
 filled bad found (b ∷ bs) = ok_or found bad
 
--- a field that may be left out: none where it is empty, and else what is read from its text
+-- a field that may be left out: none if it is empty, and else what is read from its text
 unfoldable pub maybe : {A : Type 0} → Result A RowFault → List ℕ → Result (Option A) RowFault
 maybe read [] = Ok None
 maybe read (b ∷ bs) = read >>= (λ value. Ok (Some value))
 
--- a number from 0 to max, which must be filled
+-- a number from 0 to `max`, in a field that must be filled
 unfoldable pub number : ℕ → List ℕ → Result ℕ RowFault
 number max text = filled BadNumber (decimal max text) text
 
--- a number from 0 to max, which may be left out
+-- a number from 0 to `max`, in a field that may be left out
 unfoldable pub maybe_number : ℕ → List ℕ → Result (Option ℕ) RowFault
 maybe_number max text = maybe (number max text) text
 
--- a number of 64 bits with a sign, which must be filled
+-- a signed number of 64 bits, in a field that must be filled
 unfoldable pub signed : List ℕ → Result ℤ RowFault
 signed text = filled BadNumber (signed_decimal text) text
 
--- a number of 64 bits with a sign, which may be left out
+-- a signed number of 64 bits, in a field that may be left out
 unfoldable pub maybe_signed : List ℕ → Result (Option ℤ) RowFault
 maybe_signed text = maybe (signed text) text
 
--- an argument: filled where the service takes it, and else empty, which means 0
+-- an argument: the field is filled if the service takes it, and else empty, which means 0
 unfoldable pub argument : Bool → List ℕ → Result ℤ RowFault
 argument true text = signed text
 argument false text = empty text >>= (λ u. Ok (pos 0))

@@ -1,4 +1,4 @@
--- The fault of a row that is no record, and the field that has it: the first faulty one, from left to right. Each field is judged by
+-- The fault of a row that is not a record, and the field that has it: the first faulty field, from left to right. Each field is judged by
 -- what it may hold.
 use Rattle.std.specs.Prelude.{◌≡◌, ◌≢◌, ◌⊎◌, ◌≤◌, ◌-◌, ℕ, ℤ, List, [], ◌∷◌, Bool, true, false, Option, Some, Ok, length, nat_le}
 use Rattle.hex.specs.Hex.{decode_of}
@@ -25,11 +25,11 @@ use Rattle.record_read.specs.Steps.{no_field}
 
 -- the fault of one field
 
--- a field that holds nothing of what it may hold
+-- a field that holds nothing that it may hold
 abbrev pub HoldsNone : {A : Type 0} → RowFault → (List ℕ → A → Type 0) → List ℕ → RowFault → Type 0
 HoldsNone bad Holds text fault = ((value : _) → ¬ Holds text value) × (fault ≡ bad)
 
--- a field that must be filled: the fault says that it is empty, or that it holds nothing of what it may hold
+-- a field that must be filled: the fault says that it is empty, or that it holds nothing that it may hold
 abbrev pub MustHold : {A : Type 0} → RowFault → (List ℕ → A → Type 0) → List ℕ → RowFault → Type 0
 MustHold bad Holds text fault = ((text ≡ []) × (fault ≡ FieldNotForKind)) ⊎ ((text ≢ []) × HoldsNone bad Holds text fault)
 
@@ -37,23 +37,23 @@ MustHold bad Holds text fault = ((text ≡ []) × (fault ≡ FieldNotForKind)) �
 abbrev pub MustBeEmpty : List ℕ → RowFault → Type 0
 MustBeEmpty text fault = (text ≢ []) × (fault ≡ FieldNotForKind)
 
--- the field of an argument: filled where the service takes it, and else empty
+-- the field of an argument: filled if the service takes it, and else empty
 abbrev pub MustHoldIf : {A : Type 0} → Bool → RowFault → (List ℕ → A → Type 0) → List ℕ → RowFault → Type 0
 MustHoldIf true bad Holds text fault = MustHold bad Holds text fault
 MustHoldIf false bad Holds text fault = MustBeEmpty text fault
 
--- bytes in hexadecimal: the text is no such digits, or has more or fewer bytes than it may have
+-- bytes in hexadecimal: the text is not such digits, or has more or fewer bytes than allowed
 abbrev pub MustBeBytes : (ℕ → Type 0) → List ℕ → RowFault → Type 0
 MustBeBytes MayBe text fault =
     (((bytes : List ℕ) → decode_of text ≢ Ok bytes) × (fault ≡ BadHex))
     ⊎ ((bytes : List ℕ) × (decode_of text ≡ Ok bytes) × (¬ MayBe (length bytes)) × (fault ≡ BadLength))
 
--- the field of a message: as many bytes as go with the length argument where the service takes a message, and else empty
+-- the field of a message: as many bytes as go with the length argument if the service takes a message, and else empty
 abbrev pub MustBeMessageIf : Bool → ℤ → List ℕ → RowFault → Type 0
 MustBeMessageIf true argument text fault = MustBeBytes (GoesWith argument) text fault
 MustBeMessageIf false argument text fault = MustBeEmpty text fault
 
--- what fields hold that others are judged by
+-- fields by which other fields are judged
 
 -- the name of a kind of rows
 abbrev pub HoldsKind : List ℕ → Kind → Type 0
@@ -71,7 +71,7 @@ pub record At (here : Column) (Faulty : List ℕ → RowFault → Type 0) (row :
   pub there : misread.column ≡ Some here
 
 infixr 10 ◌or_else◌
--- the fault of several fields: the first one's, or else, where this one has none, the others'
+-- the fault of several fields: that of the first, or, if it has none, that of the others
 abbrev pub ◌or_else◌ : (Misread → Type 0) → (Misread → Type 0) → Misread → Type 0
 ◌or_else◌ First Others misread = First misread ⊎ (((other : Misread) → ¬ First other) × Others misread)
 
@@ -80,7 +80,7 @@ abbrev pub MustAllBeEmpty : List Column → Row → Misread → Type 0
 MustAllBeEmpty [] row misread = ⊥
 MustAllBeEmpty (first ∷ others) row misread = (At first MustBeEmpty row or_else MustAllBeEmpty others row) misread
 
--- the faults of a row's fields
+-- the faults of the fields of a row
 
 -- the number of the row, which is not the next one
 abbrev pub OtherNumber : ℕ → List ℕ → RowFault → Type 0
@@ -92,12 +92,12 @@ ProcessFault row =
     At column.Partition (MustHold BadNumber (HoldsNumber GREATEST_PARTITION)) row
     or_else At column.Process (MustHold BadNumber (HoldsNumber GREATEST_NUMBER)) row
 
--- the first, second or third number of a call, by the service that the row names
+-- the first, second or third number of a call, for the service that the row names
 abbrev pub ArgumentFault : Format → Row → ℕ → List ℕ → RowFault → Type 0
 ArgumentFault format row place text fault =
     (service : Service) × HoldsService format (row column.Service) service × MustHoldIf (nat_le place (arguments_of service).numbers) BadNumber HoldsSigned text fault
 
--- the name of a call, by its service
+-- the name of a call, for its service
 abbrev pub NameFault : Format → Row → List ℕ → RowFault → Type 0
 NameFault format row text fault =
     (service : Service) × HoldsService format (row column.Service) service × MustHoldIf (arguments_of service).name BadName HoldsName text fault
@@ -106,7 +106,7 @@ NameFault format row text fault =
 abbrev pub SentFault : Service → Row → List ℕ → RowFault → Type 0
 SentFault service row text fault = (argument : ℤ) × HoldsArgument service 2 (row column.SecondNumber) argument × MustBeMessageIf (arguments_of service).message argument text fault
 
--- the message of a call, by its service and by the length argument
+-- the message of a call, for its service and the length argument
 abbrev pub MessageFault : Format → Row → List ℕ → RowFault → Type 0
 MessageFault format row text fault = (service : Service) × HoldsService format (row column.Service) service × SentFault service row text fault
 
@@ -136,7 +136,7 @@ ClaimFault row =
 abbrev pub CallFault : Format → Row → Misread → Type 0
 CallFault format row = ProcessFault row or_else RequestFault format row or_else ClaimFault row
 
--- those of a return
+-- the fields of a return after its kind
 abbrev pub ReturnFault : Format → Row → Misread → Type 0
 ReturnFault format row =
     ProcessFault row
@@ -149,7 +149,7 @@ ReturnFault format row =
     or_else At column.SecondValue (HoldsNone BadNumber (MayHold HoldsSigned)) row
     or_else At column.ThirdValue (HoldsNone BadNumber (MayHold HoldsSigned)) row
 
--- the process number of a dispatch: filled exactly where the partition is
+-- the process number of a dispatch: filled exactly if the partition is
 abbrev pub DispatchedFault : Row → List ℕ → RowFault → Type 0
 DispatchedFault row text fault =
     ((row column.Partition ≡ []) × MustBeEmpty text fault)
@@ -162,7 +162,7 @@ DispatchFault row =
     or_else At column.Process (DispatchedFault row) row
     or_else MustAllBeEmpty (columns_between column.Service column.ThirdValue) row
 
--- those of a tick
+-- the fields of a tick after its kind
 abbrev pub TickFault : Row → Misread → Type 0
 TickFault row =
     MustAllBeEmpty (columns_between column.Partition column.Channel) row
@@ -176,8 +176,8 @@ FaultOf kind.Ret format row misread = ReturnFault format row misread
 FaultOf kind.Disp format row misread = DispatchFault row misread
 FaultOf kind.Tick format row misread = TickFault row misread
 
--- the row of this number, in a recording of this format, has this fault in this field: the recording has too many rows, or else the
--- row has more or fewer fields than the format, which are faults of no one field; or else it is the fault of the first faulty field
+-- the row of this number, in a recording of this format, has this fault in this field: the recording has too many rows, or else the row has
+-- more or fewer fields than the format, and neither is a fault of one field; or else it is the fault of the first faulty field
 abbrev pub IsMisread : Format → ℕ → Fields → Misread → Type 0
 IsMisread format next fields =
     (λ misread. (MOST_RECORDS ≤ next) × (misread ≡ no_field TooMany))

@@ -1,4 +1,4 @@
--- The grammar of rows: which rows are the row of a call, of a return, of a dispatch and of a tick, by what their fields hold.
+-- The grammar of rows: which rows are the row of a call, of a return, of a dispatch or of a tick, by what their fields hold.
 use Rattle.std.specs.Prelude.{◌≡◌, ◌≢◌, ◌⊎◌, ◌≤◌, ◌<◌, ℕ, ℤ, pos, negsuc, List, [], ◌∷◌, ◌++◌, Bool, true, false, Option, Some, None, Ok, IsTrue, codes, length, map, nat_le, FitsSigned}
 use Rattle.std.specs.Fmt.{decimal, signed_decimal}
 use Rattle.std.specs.Int.{w64}
@@ -36,12 +36,12 @@ abbrev pub MayHold : {A : Type 0} → (List ℕ → A → Type 0) → List ℕ �
 MayHold Holds text None = text ≡ []
 MayHold Holds text (Some value) = Holds text value
 
--- a number from 0 to a greatest one: its decimal digits, with no zero in front
+-- a number from 0 to a greatest one: its decimal digits, without a leading zero
 pub record HoldsNumber (greatest : ℕ) (text : List ℕ) (number : ℕ) : Type 0 where
   pub written : text ≡ decimal number
   pub bound : number ≤ greatest
 
--- a number of 64 bits with a sign: its decimal digits, with no zero in front, and after a `-` where it is negative
+-- a signed number of 64 bits: its decimal digits, without a leading zero, after a `-` if it is negative
 pub record HoldsSigned (text : List ℕ) (number : ℤ) : Type 0 where
   pub written : text ≡ signed_decimal number
   pub bound : FitsSigned w64 number
@@ -69,16 +69,16 @@ abbrev pub IsMessageLength : ℤ → Type 0
 IsMessageLength (pos count) = (1 ≤ count) × (count ≤ LONGEST_MESSAGE)
 IsMessageLength (negsuc below) = ⊥
 
--- so many bytes go with a length argument: just that many where a message can have that length, and none where it can't
+-- how many bytes go with a length argument: exactly that many if a message can have that length, and none if it cannot
 abbrev pub GoesWith : ℤ → ℕ → Type 0
 GoesWith argument count = (IsMessageLength argument × (argument ≡ pos count)) ⊎ ((¬ IsMessageLength argument) × (count ≡ 0))
 
--- a message that a service takes: two hexadecimal digits a byte, as many bytes as go with the length argument
+-- a message that a service takes: two hexadecimal digits for each byte, as many bytes as go with the length argument
 pub record HoldsMessage (argument : ℤ) (text bytes : List ℕ) : Type 0 where
   pub digits : decode_of text ≡ Ok bytes
   pub count : GoesWith argument (length bytes)
 
--- a message that a service gives, or none: two hexadecimal digits a byte, at most 8,192 bytes
+-- a message that a service gives, or none: two hexadecimal digits for each byte, at most 8,192 bytes
 pub record HoldsData (text bytes : List ℕ) : Type 0 where
   pub digits : decode_of text ≡ Ok bytes
   pub count : length bytes ≤ LONGEST_MESSAGE
@@ -93,7 +93,7 @@ pub record IsNameable (who : Who) : Type 0 where
   pub created : 1 ≤ who.proc
   pub proc : who.proc ≤ GREATEST_NUMBER
 
--- a list of processes: their texts joined by `;`, in rising order; an empty field is the list of none
+-- a list of processes: their texts joined by `;`, in rising order; an empty field is the empty list
 pub record HoldsProcesses (text : List ℕ) (named : List Who) : Type 0 where
   pub joined : text ≡ join_by process_text (codes ";") named
   pub each : All IsNameable named
@@ -101,7 +101,7 @@ pub record HoldsProcesses (text : List ℕ) (named : List Who) : Type 0 where
 
 -- what a row holds
 
--- a row is the text of each column; in format 1 it has no second and no third value, and the empty text means that
+-- a row is the text of each column; in format 1 it has no second and no third value, and their texts are empty
 abbrev pub Row : Type 0
 Row = Column → List ℕ
 
@@ -110,12 +110,12 @@ abbrev pub AreEmpty : List (List ℕ) → Type 0
 AreEmpty [] = Unit {0}
 AreEmpty (text ∷ texts) = (text ≡ []) × AreEmpty texts
 
--- where a service takes a value the field holds it; else the field is empty, which means the unused value
+-- if a service takes a value, the field holds it; else the field is empty, which means the unused value
 abbrev pub HoldsIf : {A : Type 0} → Bool → A → (List ℕ → A → Type 0) → List ℕ → A → Type 0
 HoldsIf true unused Holds text value = Holds text value
 HoldsIf false unused Holds text value = (text ≡ []) × (value ≡ unused)
 
--- the first, second or third of a service's numbers; one that it doesn't take is 0
+-- the first, second or third of a service's numbers; a number that the service does not take is 0
 abbrev pub HoldsArgument : Service → ℕ → List ℕ → ℤ → Type 0
 HoldsArgument service place text number = HoldsIf (nat_le place (arguments_of service).numbers) (pos 0) HoldsSigned text number
 
@@ -124,7 +124,7 @@ pub record NamesProcess (row : Row) (who : Who) : Type 0 where
   pub part : HoldsNumber GREATEST_PARTITION (row column.Partition) who.part
   pub proc : HoldsNumber GREATEST_NUMBER (row column.Process) who.proc
 
--- the request of a call: a service of the format by its name, and just the arguments that this service takes
+-- the request of a call: a service of the format by its name, and exactly the arguments that the service takes
 pub record HoldsRequest (format : Format) (row : Row) (request : Request) : Type 0 where
   pub service : Service
   pub n1 : ℤ
@@ -158,7 +158,7 @@ pub record IsRowOfCall (format : Format) (row : Row) (call : Call) : Type 0 wher
   pub request : HoldsRequest format row call.request
   pub claim : HoldsClaim row call.claim
 
--- the row of a return: a service of the format without arguments, and a code
+-- the row of a return: a service of the format, without arguments, and a code
 pub record IsRowOfReturn (format : Format) (row : Row) (ret : Return) : Type 0 where
   pub kind : row column.Kind ≡ codes "ret"
   pub who : NamesProcess row ret.who
@@ -196,8 +196,8 @@ IsRowOf format row (body.Ret ret) = IsRowOfReturn format row ret
 IsRowOf format row (body.Disp who) = IsRowOfDispatch row who
 IsRowOf format row (body.Tick woken) = IsRowOfTick row woken
 
--- fields are the row of a record, in a recording of this format: they are as many as the format has, the first holds the record's
--- number, which is the row's, and the others are the row of what it records
+-- fields are the row of a record, in a recording of this format: there are as many as the format has, the first holds the record's number,
+-- which is the row's, and the others are the row of what the record says
 pub record IsRow (format : Format) (next : ℕ) (fields : Fields) (rec : Record) : Type 0 where
   pub count : length fields ≡ field_count format
   pub number : rec.seq ≡ next

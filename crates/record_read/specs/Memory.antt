@@ -1,4 +1,4 @@
--- The records for which memory is taken beside the row's buffer.
+-- The records that need memory apart from the row's buffer.
 use Rattle.std.specs.Prelude.{◌≡◌, ◌≢◌, ◌⊎◌, List, [], ◌∷◌, true, Ok}
 use Rattle.apex_types.specs.declared.record.Body.{Body}
 use Rattle.apex_types.specs.declared.record.Body.TheVariants as body
@@ -19,15 +19,15 @@ TakesText service = ((arguments_of service).name ≡ true) ⊎ ((arguments_of se
 abbrev pub CallNeeds : Call → Type 0
 CallNeeds call = TakesText (service_of call.request) ⊎ (call.claim.bytes ≢ []) ⊎ (call.claim.woken ≢ [])
 
--- a return, for a message
+-- a return needs memory for a message
 abbrev pub ReturnNeeds : Return → Type 0
 ReturnNeeds ret = ret.bytes ≢ []
 
--- a tick, for a list of processes
+-- a tick needs memory for a list of processes
 abbrev pub TickNeeds : List Who → Type 0
 TickNeeds woken = woken ≢ []
 
--- a dispatch needs none
+-- a dispatch needs no memory
 abbrev pub BodyNeeds : Body → Type 0
 BodyNeeds (body.Call call) = CallNeeds call
 BodyNeeds (body.Ret ret) = ReturnNeeds ret

@@ -1,4 +1,4 @@
--- What is given by its name: kinds of rows, services, codes and outcomes.
+-- What rows give by name: kinds of rows, services, codes and outcomes.
 use Rattle.std.specs.Prelude.{ℕ, List, [], ◌∷◌, Option, Some, None, Result, codes, length, map, option_and_then, option_map, if◌then◌else◌}
 use Rattle.std.specs.List.{find}
 use Rattle.std.specs.Str.{bytes_eq}
@@ -59,7 +59,7 @@ name_lengths = map (λ row. length row.name.now) SERVICES
 unfoldable pub kind_of : List ℕ → Result Kind RowFault
 kind_of text = filled BadKind (kind_named text) text
 
--- the service of this name, where the format has it
+-- the service of this name, if the format has it
 unfoldable pub service_in : Format → List ℕ → Option Service
 service_in format text = option_and_then (λ service. if is_in format service then Some service else None) (service_named text)
 

@@ -18,13 +18,13 @@ is_printable b = nat_le 0x20 b && nat_le b 0x7E
 unfoldable pub name_of : List ℕ → Result (List ℕ) RowFault
 name_of text = if nat_le (length text) LONGEST_NAME && list_all is_printable text then Ok text else Err BadName
 
--- a name: filled where the service takes one, and else empty
+-- a name: given if the service takes one, and else empty
 unfoldable pub name_in : Bool → List ℕ → Result (List ℕ) RowFault
 name_in true [] = Err FieldNotForKind
 name_in true (b ∷ bs) = name_of (b ∷ bs)
 name_in false text = empty text >>= (λ u. Ok [])
 
--- bytes in hexadecimal, two digits of either case a byte
+-- bytes in hexadecimal, two digits of either case for each byte
 abbrev pub from_hex : Result (List ℕ) FromHexError → Result (List ℕ) RowFault
 from_hex (Ok bytes) = Ok bytes
 from_hex (Err e) = Err BadHex
@@ -41,7 +41,7 @@ IsHex text = decode_of text ≡ Ok (hex_bytes text)
 unfoldable pub maybe_message : List ℕ → Result (List ℕ) RowFault
 maybe_message text = from_hex (decode_of text) >>= (λ bytes. if nat_le (length bytes) LONGEST_MESSAGE then Ok bytes else Err BadLength)
 
--- whether so many bytes go with this length argument: just that many where it is 1 to 8,192, and none where it is not
+-- whether this many bytes go with this length argument: exactly that many if it is 1 to 8,192, and none if it is not
 abbrev pub goes_with : ℤ → ℕ → Bool
 goes_with (pos zero) count = nat_eq count 0
 goes_with (pos (suc n)) count = if nat_le (suc n) LONGEST_MESSAGE then nat_eq count (suc n) else nat_eq count 0
@@ -51,7 +51,7 @@ goes_with (negsuc n) count = nat_eq count 0
 unfoldable pub message_of : ℤ → List ℕ → Result (List ℕ) RowFault
 message_of len text = from_hex (decode_of text) >>= (λ bytes. if goes_with len (length bytes) then Ok bytes else Err BadLength)
 
--- a message: judged by its length argument where the service takes one, and else empty
+-- a message: judged by its length argument if the service takes one, and else empty
 unfoldable pub message_in : Bool → ℤ → List ℕ → Result (List ℕ) RowFault
 message_in true len text = message_of len text
 message_in false len text = empty text >>= (λ u. Ok [])

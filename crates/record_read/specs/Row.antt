@@ -36,7 +36,7 @@ who_in fields = do
   proc ← read_at (number GREATEST_NUMBER) fields column.Process
   Ok (record { part = part; proc = proc })
 
--- the request of a call: the service, which is one of the format, and just the arguments that it takes
+-- the request of a call: the service, which must be one of the format, and exactly the arguments that it takes
 unfoldable pub request_in : Format → Fields → Result Request Misread
 request_in format fields = do
   service ← read_at (service_of format) fields column.Service
@@ -82,7 +82,7 @@ return_in format fields = do
   val3 ← read_at maybe_signed fields column.ThirdValue
   Ok (record { who = who; service = service; code = code; val = val; val2 = val2; val3 = val3; bytes = bytes })
 
--- the process of a dispatch: with its partition, or neither
+-- the process of a dispatch: given together with its partition, or not at all
 unfoldable pub proc_of : Option ℕ → List ℕ → Result (Option Who) RowFault
 proc_of None text = empty text >>= (λ u. Ok None)
 proc_of (Some part) text = number GREATEST_NUMBER text >>= (λ proc. Ok (Some (record { part = part; proc = proc })))
@@ -95,7 +95,7 @@ dispatch_in fields = do
   unused ← empty_between fields column.Service column.ThirdValue
   Ok who
 
--- a tick, with the processes whose wait ends
+-- a tick, with the processes whose waits end
 unfoldable pub tick_in : Fields → Result (List Who) Misread
 tick_in fields = do
   unused ← empty_between fields column.Partition column.Channel
@@ -110,7 +110,7 @@ body_in format kind.Ret fields = return_in format fields >>= (λ ret. Ok (body.R
 body_in format kind.Disp fields = dispatch_in fields >>= (λ who. Ok (body.Disp who))
 body_in format kind.Tick fields = tick_in fields >>= (λ woken. Ok (body.Tick woken))
 
--- the row of this number, from 0, in a recording of this format: its record, or its first fault with the column of the field that
+-- the row of this number, counted from 0, in a recording of this format: its record, or its first fault with the column of the field that
 -- has it; a recording has at most 4,294,967,295 rows
 unfoldable pub row_in : Format → ℕ → Fields → Result Record Misread
 row_in format next fields = if nat_lt next MOST_RECORDS then (if length fields == field_count format then (do
@@ -120,19 +120,19 @@ row_in format next fields = if nat_lt next MOST_RECORDS then (if length fields =
   body ← body_in format kind fields
   Ok (record { seq = seq; body = body })) else Err (no_field FieldCount)) else Err (no_field TooMany)
 
--- the same, where of a fault only its cause is reported
+-- the same, but of a fault only the cause is reported
 unfoldable pub record_of : Format → ℕ → Fields → Result Record RowFault
 record_of format next fields = fault_only (row_in format next fields)
 
--- a record, or why a row is none
+-- a record, or why a row is not a record
 abbrev pub Item : Type 0
 Item = Result Record RowFault
 
--- the records of a text: its rows are all of the format that the first of them gives
+-- the records of a text: all its rows are of the format that the first of them gives
 abbrev pub records_of : List ℕ → List Item
 records_of text = items_of (record_of (format_of (rows_of text))) text
 
--- the records of the rows that are left, the first of this number: they are of the format that is known, or, where no row was read
--- yet, of the one that the first of them gives
+-- the records of the rows that are left, the first of which has this number: their format is the known one, or, if no row has been read
+-- yet, the one that the first of them gives
 abbrev pub records_left : Option Format → ℕ → List Fields → List Item
 records_left known number rows = items_from (record_of (unwrap_or known (format_of rows))) number rows

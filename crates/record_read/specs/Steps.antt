@@ -15,21 +15,21 @@ abbrev pub ◌>>=◌ : {A B Fault : Type 0} → Result A Fault → (A → Result
 abbrev pub misread_at : Column → RowFault → Misread
 misread_at column fault = record { fault = fault; column = Some column }
 
--- what was read in the field of a column: its fault is at that column
+-- what was read in the field of a column; a fault is at that column
 abbrev pub located : {A : Type 0} → Column → Result A RowFault → Result A Misread
 located column (Ok x) = Ok x
 located column (Err fault) = Err (misread_at column fault)
 
--- a fault of no one field
+-- a fault that no one field has
 abbrev pub no_field : RowFault → Misread
 no_field fault = record { fault = fault; column = None }
 
--- what was read, and of a fault only what it is
+-- what was read, and of a fault only the cause
 abbrev pub fault_only : {A : Type 0} → Result A Misread → Result A RowFault
 fault_only (Ok x) = Ok x
 fault_only (Err misread) = Err misread.fault
 
--- a fault of which the text says nothing: the failure of a source that can fail, or want of memory
+-- a fault that does not come from the text: the failure of a source that can fail, or a lack of memory
 abbrev pub IsOutside : Bool → RowFault → Type 0
 IsOutside can_fail fault = ((fault ≡ Read) × (can_fail ≡ true)) ⊎ (fault ≡ Memory)
 
@@ -40,7 +40,7 @@ IsOfRow Memory = ⊥
 IsOfRow Ended = ⊥
 IsOfRow _ = Unit {0}
 
--- a refusal: the text has this fault; or it has none, and memory was refused for a value that needs some
+-- a refusal: the text has this fault; or it has none, and memory was refused for a value that needs memory
 abbrev pub Refuses : {A : Type 0} → (A → Type 0) → RowFault → Result A RowFault → Type 0
 Refuses needs fault read = (IsOfRow fault × (read ≡ Err fault)) ⊎ ((fault ≡ Memory) × IsOkAnd read needs)
 

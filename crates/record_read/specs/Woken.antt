@@ -6,11 +6,11 @@ use Rattle.std.specs.Result.{result_unwrap_or}
 use Rattle.csv_rows.specs.Decimal.{decimal}
 use Rattle.apex_types.specs.declared.limits.TheConstants.{GREATEST_NUMBER, GREATEST_PARTITION}
 use Rattle.apex_types.specs.declared.record.Who.{Who}
-use Rattle.apex_types.specs.Rising.{is_behind}
+use Rattle.apex_types.specs.Rising.{is_listed_before}
 use Rattle.record_read.specs.declared.fault.RowFault.{RowFault}
 use Rattle.record_read.specs.declared.fault.RowFault.TheVariants.{BadWoken}
 
--- the bytes before the first separator, all where there is none
+-- the bytes before the first separator, or all bytes if there is none
 abbrev pub front_of : ℕ → List ℕ → List ℕ
 front_of separator [] = []
 front_of separator (b ∷ bs) = if nat_eq b separator then [] else b ∷ front_of separator bs
@@ -28,28 +28,28 @@ pieces_of separator text = slice_split (λ b. nat_eq b separator) text
 abbrev pub process : ℕ → ℕ → Option Who
 process part number = if nat_lt 0 number then Some (record { part = part; proc = number }) else None
 
--- a process: the decimals of its partition and of its number around a `:`
+-- a process: the decimals of its partition and of its number, separated by a `:`
 unfoldable pub process_of : List ℕ → Option Who
 process_of text =
     option_and_then (λ rest. option_and_then (λ part. option_and_then (λ number. process part number) (decimal GREATEST_NUMBER rest)) (decimal GREATEST_PARTITION (front_of 58 text)))
     (rest_of 58 text)
 
--- whether a process comes after the last, if there is one
+-- whether a process comes after the last one, if there is one
 abbrev pub is_after : Option Who → Who → Bool
 is_after None who = true
-is_after (Some last) who = is_behind last who
+is_after (Some last) who = is_listed_before last who
 
--- a process that comes after the last
+-- a process that comes after the last one
 unfoldable pub next_process : Option Who → List ℕ → Option Who
 next_process last text = option_and_then (λ who. if is_after last who then Some who else None) (process_of text)
 
--- the processes that pieces name, each after the one before
+-- the processes that pieces name, each after the one before it
 unfoldable pub processes_after : Option Who → List (List ℕ) → Option (List Who)
 processes_after last [] = Some []
 processes_after last (piece ∷ pieces) =
     option_and_then (λ who. option_map (λ more. who ∷ more) (processes_after (Some who) pieces)) (next_process last piece)
 
--- a list of processes: none where the field is empty
+-- a list of processes: none if the field is empty
 unfoldable pub woken_of : List ℕ → Result (List Who) RowFault
 woken_of [] = Ok []
 woken_of (b ∷ bs) = ok_or (processes_after None (pieces_of 59 (b ∷ bs))) BadWoken

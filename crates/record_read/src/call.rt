@@ -24,7 +24,7 @@ use apex_types::{Call, ChanId, Claim, Format, Out, PartId, ProcId, Who};
 use csv_rows::RowFields;
 use std::alloc::{AllocError, Global};
 
-// What a call claims beside its message and its list of processes.
+// What a call claims, apart from its message and its list of processes.
 #[derive(Clone, Copy)]
 struct PlainClaim {
     prio: u8,
@@ -98,7 +98,7 @@ fn judge_claim(fields: &RowFields) -> Result<PlainClaim, Misread>
     })
 }
 
-// The claim of a row that was judged. Memory is refused only where it has a message or a list of processes.
+// The claim of a row that was judged. Memory can be refused only if it has a message or a list of processes.
 fn make_claim(alloc: Global, plain: PlainClaim, fields: &RowFields) -> Result<Claim, AllocError>
     requires digits { IsHex (text_at fields.now Column.Data) }
     requires list { IsList (text_at fields.now Column.Woken) }
@@ -119,7 +119,7 @@ fn make_claim(alloc: Global, plain: PlainClaim, fields: &RowFields) -> Result<Cl
     })
 }
 
-// The channel that a call names, if it does.
+// The channel that a call names, if it names one.
 fn read_channel(fields: &RowFields) -> Result<Option<ChanId>, Misread>
     ensures value { result ≡ read_at (maybe_number GREATEST_CHANNEL) fields.now Column.Channel }
     ensures own { IfErr result (λ misread. IsOfRow misread.fault) }

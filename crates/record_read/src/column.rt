@@ -88,7 +88,7 @@ impl Column {
         self as usize
     }
 
-    /// The greatest number that its field can have, where its numbers are those from 0 on.
+    /// The greatest number that its field can have, if its numbers are those from 0 on.
     pub fn greatest(self) -> Option<u64>
         ensures { result ≡ greatest_of self }
     {

@@ -16,7 +16,7 @@ use apex_types::{PartId, ProcId, Who, Woken};
 use csv_rows::RowFields;
 use std::alloc::Global;
 
-/// The process that a dispatch names, or none where the core is idle.
+/// The process that a dispatch names, or none if the core is idle.
 #[tactic(auto, unfolding(crate::specs::Row::dispatch_in))]
 pub fn read_dispatch(fields: &RowFields) -> Result<Option<Who>, Misread>
     ensures value { result ≡ dispatch_in fields.now }
@@ -31,7 +31,7 @@ pub fn read_dispatch(fields: &RowFields) -> Result<Option<Who>, Misread>
     Ok(who)
 }
 
-// The process of a dispatch: filled with its partition, or neither.
+// The process of a dispatch: given together with its partition, or not at all.
 #[tactic(auto, unfolding(crate::specs::Row::proc_of))]
 fn read_proc(fields: &RowFields, part: Option<u8>) -> Result<Option<Who>, Misread>
     ensures value { result ≡ read_at (proc_of part) fields.now Column.Process }
@@ -57,7 +57,7 @@ fn read_proc_of(fields: &RowFields, part: u8) -> Result<Option<Who>, Misread>
     }))
 }
 
-/// The processes whose wait ends at a tick. The whole row is judged before memory is taken.
+/// The processes whose waits a tick ends. The whole row is judged before memory is taken.
 #[tactic(auto, unfolding(crate::specs::Row::tick_in))]
 pub fn read_tick(alloc: Global, fields: &RowFields) -> Result<Woken, Misread>
     ensures value { IfOk result (λ woken. tick_in fields.now ≡ Ok woken) }

@@ -1,14 +1,14 @@
-// Why a row is no record.
+// Why a row is not a record.
 
 use thiserror::Error;
 
-/// Why no record came of a recording.
+/// Why a recording gives no record.
 #[derive(Clone, Copy, Debug, Drop, PartialEq, Eq, Error)]
 pub enum RowFault {
-    /// The reader of the recording answered an error.
+    /// The reader of the recording returned an error.
     #[error("the recording could not be read")]
     Read,
-    /// A growth of memory was refused.
+    /// Memory was refused.
     #[error("out of memory")]
     Memory,
     /// The row comes after the 4,294,967,295 that a recording can have.
@@ -21,12 +21,12 @@ pub enum RowFault {
     #[error("a number is malformed or out of range")]
     BadNumber,
     /// The row's number is not the next one.
-    #[error("the row's number is not the next one")]
+    #[error("the row's sequence number is not the next one")]
     SeqGap,
-    /// The kind is none of the four.
+    /// The kind is not one of the four.
     #[error("unknown kind of row")]
     BadKind,
-    /// A field is filled that must be empty, or empty that must be filled.
+    /// A field that must be empty is filled, or one that must be filled is empty.
     #[error("a field is filled but must be empty, or is empty but must be filled")]
     FieldNotForKind,
     /// The service is not known, or the recording's format does not have it.
@@ -41,13 +41,13 @@ pub enum RowFault {
     /// The message is too long, or not as long as its length argument says.
     #[error("a message has the wrong length")]
     BadLength,
-    /// The outcome is none that the row can have.
+    /// The outcome is not one that the row can have.
     #[error("unknown outcome")]
     BadOut,
     /// The list of processes is malformed, or not in rising order.
     #[error("a list of processes is malformed or out of order")]
     BadWoken,
-    /// A fault was answered before.
-    #[error("the recording has stopped at an earlier fault")]
+    /// A fault was reported before.
+    #[error("an earlier fault has ended the recording")]
     Ended,
 }

@@ -10,7 +10,7 @@ use crate::fault::RowFault;
 use crate::misread::Misread;
 use csv_rows::{RowFields, read_decimal, read_signed};
 
-/// The text of a column; empty where the row ends before it.
+/// The text of a column; empty if the row ends before it.
 #[inline(always)]
 pub fn text(fields: &RowFields, column: Column) -> &[u8]
     ensures { result.now ≡ text_at fields.now column }
@@ -26,7 +26,7 @@ fn bytes(fields: &RowFields, place: usize) -> &[u8]
     fields.get(place).unwrap_or(b"")
 }
 
-/// Sees that the fields from one column to another are empty.
+/// Requires that the fields from one column to another are empty.
 pub fn expect_empty_between(fields: &RowFields, first: Column, last: Column) -> Result<(), Misread>
     requires { place_of first ≤ place_of last }
     ensures value { result ≡ empty_between fields.now first last }
@@ -35,7 +35,7 @@ pub fn expect_empty_between(fields: &RowFields, first: Column, last: Column) -> 
     expect_all_empty(fields, &EVERY_COLUMN[first.place()..last.place() + 1])
 }
 
-// Sees that the fields of these columns are empty.
+// Requires that the fields of these columns are empty.
 #[tactic(auto, unfolding(crate::specs::Field::all_empty))]
 fn expect_all_empty(fields: &RowFields, columns: &[Column]) -> Result<(), Misread>
     ensures value { result ≡ all_empty fields.now columns.now }
@@ -47,7 +47,7 @@ fn expect_all_empty(fields: &RowFields, columns: &[Column]) -> Result<(), Misrea
     Ok(())
 }
 
-/// Sees that the text of a column is empty.
+/// Requires that the text of a column is empty.
 pub fn expect_empty(column: Column, text: &[u8]) -> Result<(), Misread>
     ensures value { result ≡ located column (empty text.now) }
     ensures own { IfErr result (λ misread. IsOfRow misread.fault) }
@@ -127,7 +127,7 @@ pub fn optional_signed(fields: &RowFields, column: Column) -> Result<Option<i64>
     }
 }
 
-/// The argument in a field: filled where it is taken, and else empty, which gives 0.
+/// The argument in a field: filled if the service takes it, and else empty, which means 0.
 #[tactic(auto, unfolding(crate::specs::Field::argument))]
 pub fn read_argument(fields: &RowFields, column: Column, taken: bool) -> Result<i64, Misread>
     ensures value { result ≡ read_at (argument taken) fields.now column }

@@ -7,7 +7,7 @@ ghost use Rattle.record_read.specs.Format.{begun_by};
 use apex_types::Format;
 use csv_rows::RowFields;
 
-/// The format that the recording is known to have, or, where this is its first row, the one that the row gives.
+/// The known format of the recording, or, if this is its first row, the one that the row gives.
 pub fn format_by(known: Option<Format>, fields: &RowFields) -> Format
     ensures { result ≡ unwrap_or known (begun_by fields.now) }
 {

@@ -2,7 +2,7 @@
 
 ghost use Rattle.record_read.specs.GrammarLaws.{FaultsAreOfRows, FirstFaultsDecide, OneRecordOfARow, RowsAreTheGrammar};
 
-/// A row is read as a record exactly where the grammar says that it is the record's row.
+/// A row is read as a record exactly if the grammar says that it is the record's row.
 pub fn rows_are_the_grammar()
     ensures { RowsAreTheGrammar }
 {}
@@ -12,12 +12,12 @@ pub fn one_record_of_a_row()
     ensures { OneRecordOfARow }
 {}
 
-/// A row that is no record has a fault that the text of a row can have: neither the failure of a source nor want of memory.
+/// A row that is not a record has a fault that the text of a row can have: neither the failure of a source nor a lack of memory.
 pub fn faults_are_of_rows()
     ensures { FaultsAreOfRows }
 {}
 
-/// A row that is no record is refused with the fault of its first faulty field from left to right, and with no other.
+/// A row that is not a record is refused with the fault of its first faulty field from left to right, and with no other.
 pub fn first_faults_decide()
     ensures { FirstFaultsDecide }
 {}

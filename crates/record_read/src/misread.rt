@@ -6,10 +6,10 @@ ghost use Rattle.record_read.specs.Steps.{misread_at, no_field};
 use crate::column::Column;
 use crate::fault::RowFault;
 
-/// Why a row is no record, with the column of the field that has the fault.
+/// Why a row is not a record, with the column of the field that has the fault.
 ///
-/// There is no column where no one field has the fault: the row has too many or too few fields, the recording has too many rows, or
-/// memory was refused. A field with the fault FieldNotForKind must be empty if it is filled, and filled if it is empty.
+/// There is no column if no one field has the fault: the row has too many or too few fields, the recording has too many rows, or memory was
+/// refused. A field with the fault FieldNotForKind is filled but must be empty, or is empty but must be filled.
 #[derive(Clone, Copy, Debug, PartialEq, Eq)]
 pub struct Misread {
     pub fault: RowFault,

@@ -36,7 +36,7 @@ pub fn read_kind(fields: &RowFields) -> Result<Kind, Misread>
     required(Column::Kind, name, find_kind(name), RowFault::BadKind)
 }
 
-/// The kind that rows give by this name, if there is one. Takes no memory.
+/// The kind of rows that has this name, if there is one. Takes no memory.
 #[tactic(auto, unfolding(crate::specs::Named::kind_named))]
 pub fn find_kind(text: &[u8]) -> Option<Kind>
     ensures { result ≡ kind_named text.now }
@@ -69,7 +69,7 @@ pub fn read_service(format: Format, fields: &RowFields) -> Result<Service, Misre
     )
 }
 
-// The service of this name, where the format has it.
+// The service of this name, if the format has it.
 #[tactic(auto, unfolding(crate::specs::Named::service_in))]
 fn find_service_in(format: Format, text: &[u8]) -> Option<Service>
     ensures { result ≡ service_in format text.now }
@@ -102,7 +102,7 @@ pub fn read_code(fields: &RowFields) -> Result<Code, Misread>
     required(Column::Outcome, name, find_code(name), RowFault::BadOut)
 }
 
-/// The outcome that rows give by this name, if there is one. Takes no memory.
+/// The outcome that has this name in rows, if there is one. Takes no memory.
 #[tactic(auto, unfolding(crate::specs::Named::out_named))]
 pub fn find_out(text: &[u8]) -> Option<Out>
     ensures { result ≡ out_named text.now }
@@ -123,7 +123,7 @@ fn find_code(text: &[u8]) -> Option<Code>
     CODES.iter().copied().find(|code| code.name() == text)
 }
 
-/// The service that rows give by this name, if there is one. Takes no memory.
+/// The service that has this name in rows, if there is one. Takes no memory.
 #[tactic(auto, unfolding(crate::specs::Named::service_named))]
 pub fn find_service(text: &[u8]) -> Option<Service>
     ensures { result ≡ service_named text.now }
@@ -131,7 +131,7 @@ pub fn find_service(text: &[u8]) -> Option<Service>
     service_from(first_of_length(text.len()), &SERVICES, text)
 }
 
-// The place in the table of the first name of each length. At 51 stand the lengths that no name has.
+// The place in the table of the first name of each length, or 51 for a length that no name has.
 const FIRST_OF_LENGTH: [u8; 33] = [
     51, 51, 51, 51, 3, 2, 7, 5, 12, 4, 10, 15, 6, 11, 0, 19, 20, 17, 13, 34, 31, 33, 32, 36, 48,
     51, 51, 51, 51, 51, 51, 51, 1,
@@ -162,7 +162,7 @@ fn service_from(first: usize, rows: &[ServiceRow<&'static [u8]>], text: &[u8]) -
     None
 }
 
-// Whether the text is the name. Most names have another length, which is known without a call.
+// Whether the text is the name. Most names have another length, and that is known without a call.
 #[tactic(auto, using(crate::proofs::Lengths::other_name))]
 fn is_name(name: &[u8], text: &[u8]) -> bool
     ensures { result ≡ bytes_eq name.now text.now }
@@ -170,7 +170,7 @@ fn is_name(name: &[u8], text: &[u8]) -> bool
     name.len() == text.len() && are_same(name, text)
 }
 
-// Whether they are the same. Apart, so that the search puts the two texts into memory only where their lengths agree.
+// Whether they are the same. A function of its own, so that the search puts the two texts into memory only if their lengths agree.
 fn are_same(name: &[u8], text: &[u8]) -> bool
     ensures { result ≡ bytes_eq name.now text.now }
 {

@@ -17,7 +17,7 @@ use csv_rows::RowFields;
 use hex::FromHexError;
 use std::alloc::{AllocError, Global};
 
-/// The bytes of the name of a call, which must be given where the service takes one, and else must not.
+/// The bytes of the name of a call, which must be given if the service takes one, and otherwise must not.
 #[tactic(auto, unfolding(crate::specs::Payload::name_in))]
 pub fn read_name(fields: &RowFields, taken: bool) -> Result<&[u8], Misread>
     ensures value { IfOk result (λ name. read_at (name_in taken) fields.now Column.Name ≡ Ok name.now) }
@@ -49,7 +49,7 @@ fn judge_name(text: &[u8]) -> Result<&[u8], Misread>
     Ok(text)
 }
 
-/// The name of these bytes. Memory is refused only where there are any.
+/// The name of these bytes. Memory can be refused only if there are any.
 pub fn copy_name(alloc: Global, text: &[u8]) -> Result<Name, AllocError>
     ensures value { IfOk result (λ name. name ≡ text.now) }
     ensures memory { OnErr result (text.now ≢ []) }
@@ -83,8 +83,8 @@ pub fn read_data(fields: &RowFields) -> Result<&[u8], Misread>
     Ok(text)
 }
 
-/// The digits of the message of a call, which is as long as its length argument says where the service takes one, and else must not
-/// be given.
+/// The digits of the message of a call. If the service takes a message, it is as long as its length argument says; otherwise it must not be
+/// given.
 #[tactic(auto, unfolding(crate::specs::Payload::message_in, hex::specs::Hex::decode_pairs))]
 pub fn read_message(fields: &RowFields, taken: bool, len: i64) -> Result<&[u8], Misread>
     ensures value { IfOk result (λ digits. read_at (message_in taken len) fields.now Column.Message ≡ Ok (hex_bytes digits.now)) }
@@ -117,7 +117,7 @@ fn judge_message(text: &[u8], len: i64) -> Result<(), Misread>
     Ok(())
 }
 
-/// The message of these hexadecimal digits. Memory is refused only where there are any.
+/// The message of these hexadecimal digits. Memory can be refused only if there are any.
 #[tactic(auto, using(crate::proofs::Hexadecimal::hex_filled), unfolding(hex::specs::Hex::decode_pairs))]
 pub fn copy_message(alloc: Global, digits: &[u8]) -> Result<Message, AllocError>
     requires { IsHex digits.now }
@@ -142,7 +142,7 @@ fn decode(alloc: Global, digits: &[u8]) -> Result<Vec<u8>, AllocError>
     }
 }
 
-// Whether so many bytes go with this length argument.
+// Whether this many bytes go with this length argument.
 fn goes_with(len: i64, count: usize) -> bool
     ensures { result ≡ goes_with_of len count }
 {
@@ -168,7 +168,7 @@ fn count_bytes(column: Column, text: &[u8]) -> Result<usize, Misread>
     Ok(text.len() / 2)
 }
 
-// Whether a text is hexadecimal, two digits of either case a byte.
+// Whether a text is hexadecimal, two digits of either case for each byte.
 #[tactic(auto, using(crate::proofs::Hexadecimal::odd_is_none, crate::proofs::Hexadecimal::even_is))]
 fn is_hexadecimal(text: &[u8]) -> bool
     ensures { result ≡ is_ok (decode_of text.now) }

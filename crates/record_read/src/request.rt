@@ -54,7 +54,7 @@ pub fn judge_request(format: Format, fields: &RowFields) -> Result<RequestText<'
     })
 }
 
-/// The request. Memory is refused only where it has a name or a message.
+/// The request. Memory can be refused only if it has a name or a message.
 pub fn make_request(alloc: Global, given: RequestText<'_>) -> Result<Request, AllocError>
     requires { IsHex given.message.now }
     ensures value { IfOk result (λ request. request ≡ request_of given.entry.service given.entry.n1 given.entry.n2 given.entry.n3 given.entry.name.now (hex_bytes given.entry.message.now)) }

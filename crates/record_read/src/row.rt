@@ -21,10 +21,10 @@ use apex_types::{Body, Format, Record};
 use csv_rows::RowFields;
 use std::alloc::Global;
 
-/// The record that the row of this number is in a recording of this format, numbers from 0; or its first fault, with the column of
-/// the field that has it: the first field, from left to right, that is faulty.
+/// The record that the row of this number, counted from 0, is in a recording of this format; or its first fault, with the column of the
+/// first faulty field from left to right.
 ///
-/// Memory only where the row is sound. Too many rows in the recording, a wrong number of fields and want of memory have no column.
+/// Memory only if the row is sound. Too many rows in the recording, a wrong number of fields and a lack of memory have no column.
 #[tactic(auto, using(crate::proofs::FirstFaults::record_read, crate::proofs::FirstFaults::record_refused, crate::proofs::FirstFaults::misread_first, crate::proofs::FirstFaults::memory_nowhere))]
 pub fn read_record_explained(
     alloc: Global,
@@ -41,7 +41,7 @@ pub fn read_record_explained(
     read_record(alloc, format, next, fields)
 }
 
-// The same, as the reader's steps give it.
+// The same, from the reader's steps.
 #[inline(always)]
 #[tactic(auto, unfolding(crate::specs::Row::row_in, crate::specs::Row::body_in))]
 fn read_record(

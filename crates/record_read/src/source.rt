@@ -14,12 +14,12 @@ use csv_rows::{CsvRows, RowFields, StreamFault, TextSource};
 use std::alloc::Global;
 use std::marker::Model;
 
-/// The records that the rows of a recording are, one for each call of `next`. The first row gives the recording's format.
+/// The records that the rows of a recording give, one for each call of `next`. The first row gives the recording's format.
 #[derive(Drop)]
 pub struct RowSource<R: TextSource> {
     rows: CsvRows<R>,
     fields: RowFields,
-    // The format of the recording, once its first row was read.
+    // The format of the recording, once its first row has been read.
     format: Option<Format>,
     count: u32,
     stopped: bool,
@@ -70,10 +70,10 @@ impl<R: TextSource> RowSource<R> {
         self.rows.source()
     }
 
-    /// The next record, or None after the last, then and from then on. After a fault every call answers Ended.
+    /// The next record, or None once the last has been given. After a fault every call answers Ended.
     ///
-    /// Read where the source has failed, and else the row's first fault. Memory where its rows stopped with no failed read, and for a
-    /// sound row with a name, a message or a list of processes.
+    /// Read if the source failed, and else the row's first fault. Memory if its rows stopped without a failed read, or for a sound row with
+    /// a name, a message or a list of processes.
     pub fn next(&mut self) -> Result<Option<Record>, RowFault>
         ensures ended { self.old.stopped ≡ true → result ≡ Err RowFault.Ended }
         ensures fresh { self.old.stopped ≡ false → result ≢ Err RowFault.Ended }

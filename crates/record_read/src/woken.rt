@@ -15,14 +15,14 @@ use apex_types::{PartId, ProcId, Who, Woken};
 use csv_rows::{RowFields, read_decimal};
 use std::alloc::{AllocError, Global};
 
-// A text before its first separator, and after it if there is one.
+// A text before its first separator, and the text after it, if there is a separator.
 #[derive(Clone, Copy)]
 struct Split<'a> {
     front: &'a [u8],
     rest: Option<&'a [u8]>,
 }
 
-/// The text of the list of processes of a call or a tick: none, or each process after the one before.
+/// The text of the list of processes of a call or a tick: empty, or each process after the one before it.
 #[tactic(auto, unfolding(crate::specs::Woken::woken_of))]
 pub fn read_list(fields: &RowFields) -> Result<&[u8], Misread>
     ensures text { IfOk result (λ list. list.now ≡ text_at fields.now Column.Woken) }
@@ -37,7 +37,7 @@ pub fn read_list(fields: &RowFields) -> Result<&[u8], Misread>
     Ok(text)
 }
 
-// Whether the pieces of a text name processes, each after the one before.
+// Whether the pieces of a text name processes, each after the one before it.
 #[tactic(auto, using(crate::proofs::Pieces::judged_more, crate::proofs::Pieces::judged_none))]
 fn are_processes(text: &[u8]) -> bool
     ensures { result ≡ is_some (processes_after None (pieces_of 59 text.now)) }
@@ -55,7 +55,7 @@ fn are_processes(text: &[u8]) -> bool
     true
 }
 
-/// The processes of a list, in its order. Memory is refused only where there are any.
+/// The processes of a list, in its order. Memory can be refused only if there are any.
 #[tactic(auto, using(crate::proofs::Pieces::list_filled), unfolding(crate::specs::Woken::woken_of))]
 pub fn copy_woken(alloc: Global, text: &[u8]) -> Result<Woken, AllocError>
     requires { IsList text.now }
@@ -88,7 +88,7 @@ fn copy_processes(alloc: Global, text: &[u8]) -> Result<Vec<Who>, AllocError>
     Ok(named)
 }
 
-// The process that a text names, where it comes after the last.
+// The process that a text names, if it comes after the last one.
 #[tactic(auto, unfolding(crate::specs::Woken::next_process, crate::specs::Woken::process_of))]
 fn read_next(last: Option<Who>, text: &[u8]) -> Option<Who>
     ensures { result ≡ next_process last text.now }
@@ -106,7 +106,7 @@ fn read_next(last: Option<Who>, text: &[u8]) -> Option<Who>
     })
 }
 
-// Whether the process of this partition and number comes after the last.
+// Whether the process of this partition and number comes after the last one.
 fn is_after(last: Option<Who>, part: u8, proc: u32) -> bool
     ensures { result ≡ is_after_of last (record { part = part; proc = proc }) }
 {

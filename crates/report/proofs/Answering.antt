@@ -30,7 +30,7 @@ use Rattle.report.specs.Refused.{IsFirstOf, RefusalMeansFault}
 use Rattle.report.proofs.Lawful.{no_means, yes_means}
 use Rattle.report.proofs.Whole.{other_count, outcome_under, read_so}
 
--- the first fault of the input, where a scan ends with it
+-- the first fault of the input, if a scan ends with it
 first_of : (texts : Texts) (readings : Readings) (fault : InputFault) → (scan_of texts readings).end ≡ Err fault → IsFirstOf texts readings fault
 first_of texts readings fault is =
     let (pairs, taken, count, first) = refused_at_first (length texts.recordings) (given_of_core texts readings) (given_of_certificate texts readings) (scan_of texts readings) fault refl is in
@@ -42,7 +42,7 @@ pub refusal_means : (texts : Texts) (readings : Readings) (verdict : Verdict) (e
 refusal_means texts readings (Yes records) (Err fault) is = first_of texts readings fault is
 refusal_means texts readings _ _ is = tt
 
--- a refusal is no Yes and no No, where there are no last records
+-- a refusal is no Yes and no No, if there are no last records
 refused : {settings : Settings} {texts : Texts} {can_fail : CanFail} {relations : List Relation} {last : List LastItem} (fault : CheckFault) → last ≡ [] → RefusalMeansFault texts whole (Err fault)
     → IsOutcome settings texts whole relations (Err fault) → IsAnswer settings texts can_fail relations (Err fault) last
 refused fault none means is = record { readings = whole; read = record { recordings = λ cannot core. refl; certificate = λ cannot. refl }; outcome = is; yes = tt; no = tt; refusal = means; last_records = none }
@@ -56,12 +56,12 @@ pub refused_settings : {settings : Settings} {texts : Texts} {can_fail : CanFail
 refused_settings {settings} {texts} {can_fail} {relations} {last} fault none is =
     refused (Arguments fault) none tt (inr (subst (λ found. IsOutcomeWith found texts whole relations (Err (Arguments fault))) (sym is) refl))
 
--- where nothing is wrong with the settings, the outcome is that of the texts
+-- if nothing is wrong with the settings, the outcome is that of the texts
 with_settings : (settings : Settings) (texts : Texts) (readings : Readings) (relations : List Relation) (result : Result Verdict CheckFault) → argument_fault_of settings ≡ None
     → IsOutcomeBy (configuration_of texts.config) texts readings relations result → IsOutcome settings texts readings relations result
 with_settings settings texts readings relations result none is = inr (subst (λ found. IsOutcomeWith found texts readings relations result) (sym none) is)
 
--- a fault of the configuration as the check tells it
+-- a fault of the configuration as the check reports it
 config_reported : (fault : ConfigFault) → (fault ≡ config.Memory) ⊎ ((fault ≢ config.Memory) × (config_refusal_of fault ≡ Config fault))
 config_reported config.Memory = inl refl
 config_reported fault = inr ((λ e. cc), refl)

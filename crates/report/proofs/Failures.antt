@@ -56,7 +56,7 @@ pair_is_other text index fault is =
 -- the first fault of texts that are read whole is no failure
 first_is_other : (texts : Texts) (result : Result Verdict CheckFault) → RefusalMeansFault texts whole result → TellsNoFailure result
 first_is_other texts (Err (Input (input.Cert place fault))) (pairs, taken, (here, is)) = pair_is_other texts.certificate (length pairs) fault is
-first_is_other texts (Err (Input (input.Row core seq fault))) (pairs, taken, inl (stands, is)) = row_is_other texts.recordings core (taken_by pairs core) fault is
+first_is_other texts (Err (Input (input.Row core seq fault))) (pairs, taken, inl (is_shown, is)) = row_is_other texts.recordings core (taken_by pairs core) fault is
 first_is_other texts (Err (Input (input.Row core seq fault))) (pairs, taken, inr (here, (none, within, below, is))) = row_is_other texts.recordings core (taken_by pairs core) fault is
 first_is_other texts _ means = tt
 

@@ -26,7 +26,7 @@ use Rattle.verdict_merge.proofs.Ruled.{ends_here, goes_on_here, meet_on, verdict
 use Rattle.report.specs.declared.fault.CheckFault.{CheckFault}
 use Rattle.report.specs.declared.fault.CheckFault.TheVariants.{Memory}
 use Rattle.report.specs.declared.last.LastItem.{LastItem}
-use Rattle.report.specs.Last.{item_of, kept_behind, last_of, most_last}
+use Rattle.report.specs.Last.{item_of, kept_after_answer, last_of, most_last}
 use Rattle.report.specs.Outcome.{IsJudged, answer_with}
 use Rattle.report.specs.Rounds.{IsDecided, IsLastAnswer, MayJudge}
 use Rattle.report.proofs.LastOnes.{answer_within, kept_is_last, verdict_within}
@@ -100,22 +100,22 @@ IsReportedOf can_fail configuration relations start answer last =
 pub last_on : (can_fail : CanFail) (configuration : Configuration) (relations : List Relation) (start now : Placing) (judging : Judging) (before records : List Ordered) (end : Result (Unit {0}) InputFault) (answer : Result Verdict CheckFault)
     → IsFilled can_fail start (before ++ records) (filled.Ended end) now → HoldBefore configuration relations before judging → ArePlaced judging.count records
     → IsLastAnswer configuration relations judging records end answer
-    → (answer ≡ Err Memory) ⊎ IsReportedOf can_fail configuration relations start answer (kept_behind answer judging.count (keep_last most_last (map item_of before)) records)
-last_on can_fail configuration relations start now judging before records end answer filled behind placed (inl memory) = inl memory
-last_on can_fail configuration relations start now judging before records end answer filled behind placed (inr (verdict, is, reported)) =
+    → (answer ≡ Err Memory) ⊎ IsReportedOf can_fail configuration relations start answer (kept_after_answer answer judging.count (keep_last most_last (map item_of before)) records)
+last_on can_fail configuration relations start now judging before records end answer filled those_after placed (inl memory) = inl memory
+last_on can_fail configuration relations start now judging before records end answer filled those_after placed (inr (verdict, is, reported)) =
     inr (
       record { placed = before ++ records; end = end },
       filled,
-      (verdict, over_all configuration relations judging before records verdict behind is, reported),
-      kept_is_last answer judging.count before records [] behind.2 (answer_within verdict end judging.count records answer reported (verdict_within configuration relations (parts_of judging) judging.count records verdict placed is))
+      (verdict, over_all configuration relations judging before records verdict those_after is, reported),
+      kept_is_last answer judging.count before records [] those_after.2 (answer_within verdict end judging.count records answer reported (verdict_within configuration relations (parts_of judging) judging.count records verdict placed is))
           ∙ ap (last_of answer) (append-nil (before ++ records)),
     )
 
 -- the answer of a check in which a round decides
 pub decided_on : (can_fail : CanFail) (configuration : Configuration) (relations : List Relation) (start now : Placing) (judging judged : Judging) (before records : List Ordered) (verdict : Verdict)
     → Lead can_fail start (before ++ records) now → HoldBefore configuration relations before judging → ArePlaced judging.count records → IsDecided configuration relations judging records (Some verdict) judged
-    → (Ok verdict ≡ Err Memory) ⊎ IsReportedOf can_fail configuration relations start (Ok verdict) (kept_behind (Ok verdict) judging.count (keep_last most_last (map item_of before)) records)
-decided_on can_fail configuration relations start now judging judged before records verdict lead behind placed (over, final, leaves) =
+    → (Ok verdict ≡ Err Memory) ⊎ IsReportedOf can_fail configuration relations start (Ok verdict) (kept_after_answer (Ok verdict) judging.count (keep_last most_last (map item_of before)) records)
+decided_on can_fail configuration relations start now judging judged before records verdict lead those_after placed (over, final, leaves) =
     let more = something_ahead can_fail now in
     let here = subst (λ list. IsVerdictFrom configuration relations (parts_of judging) judging.count list verdict) (append-nil records) (over []) in
     inr (
@@ -124,16 +124,16 @@ decided_on can_fail configuration relations start now judging judged before reco
       (
         verdict,
         subst (λ list. IsVerdictFrom configuration relations (cold_parts configuration) 0 list verdict) (sym (append_assoc before records more.0.placed))
-            (over_all configuration relations judging before (records ++ more.0.placed) verdict behind (over more.0.placed)),
+            (over_all configuration relations judging before (records ++ more.0.placed) verdict those_after (over more.0.placed)),
         final more.0.end,
       ),
-      kept_is_last (Ok verdict) judging.count before records more.0.placed behind.2 (verdict_within configuration relations (parts_of judging) judging.count records verdict placed here),
+      kept_is_last (Ok verdict) judging.count before records more.0.placed those_after.2 (verdict_within configuration relations (parts_of judging) judging.count records verdict placed here),
     )
 
 -- what is after once a round decided nothing
-pub behind_on : (configuration : Configuration) (relations : List Relation) (judging judged : Judging) (before records : List Ordered) → HoldBefore configuration relations before judging
+pub after_on : (configuration : Configuration) (relations : List Relation) (judging judged : Judging) (before records : List Ordered) → HoldBefore configuration relations before judging
     → IsDecided configuration relations judging records None judged → HoldBefore configuration relations (before ++ records) judged
-behind_on configuration relations judging judged before records (run, meet, count) (more, counted, also, ready) = (
+after_on configuration relations judging judged before records (run, meet, count) (more, counted, also, ready) = (
   all_run_on configuration (cold_parts configuration) (parts_of judging) (parts_of judged) before records run more,
   meet_on configuration relations (cold_parts configuration) (parts_of judging) before records run meet also,
   omega (arith, counted, count, length-append before records),

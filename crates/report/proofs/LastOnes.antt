@@ -17,7 +17,7 @@ use Rattle.placement.specs.declared.fault.InputFault.{InputFault}
 use Rattle.report.specs.declared.fault.CheckFault.{CheckFault}
 use Rattle.report.specs.declared.last.LastItem.{LastItem}
 use Rattle.report.specs.Outcome.{answer_with}
-use Rattle.report.specs.Last.{item_of, kept_behind, last_before, last_of, most_last}
+use Rattle.report.specs.Last.{item_of, kept_after_answer, last_before, last_of, most_last}
 
 -- the last of a list after another
 
@@ -44,8 +44,8 @@ kept_on n (one ∷ front) back = elim (cases_lt (length front) n) [
 ]
 
 -- and so is what is kept of the second
-pub kept_behind_on : {X : Type 0} (n : ℕ) (front back : List X) → keep_last n (front ++ keep_last n back) ≡ keep_last n (front ++ back)
-kept_behind_on n front back = elim (cases_lt n (length back)) [
+pub kept_after_on : {X : Type 0} (n : ℕ) (front back : List X) → keep_last n (front ++ keep_last n back) ≡ keep_last n (front ++ back)
+kept_after_on n front back = elim (cases_lt n (length back)) [
   | inr short ↦ ap (λ list. keep_last n (front ++ list)) (all_kept n back short)
   | inl more ↦
       let size : length (keep_last n back) ≡ n = omega (arith, more, length-drop (length back - n) back) in
@@ -57,11 +57,11 @@ pub late_enough : (n : ℕ) (kept : List LastItem) (records : List Ordered)
     → keep_last n (kept ++ map item_of (drop (length records - n) records)) ≡ keep_last n (kept ++ map item_of records)
 late_enough n kept records =
     ap (λ list. keep_last n (kept ++ list)) (sym (drop-map item_of (length records - n) records) ∙ ap (λ k. drop (k - n) (map item_of records)) (sym (length-map records item_of)))
-    ∙ kept_behind_on n kept (map item_of records)
+    ∙ kept_after_on n kept (map item_of records)
 
 -- the last before the place of an answer
 
--- the place of a No or of a broken rule is among so many records from the first of these places on
+-- the place of a No or of a broken rule is among this many records from the first of these places on
 abbrev pub IsWithin : Result Verdict CheckFault → ℕ → List Ordered → Type 0
 IsWithin (Ok (No pos piece cause)) first records = (first ≤ pos) × (pos - first ≤ length records)
 IsWithin (Ok (Broken pos rule)) first records = (first ≤ pos) × (pos - first ≤ length records)
@@ -79,24 +79,24 @@ kept_before first place before records more count least most =
 
 -- what is kept after an answer is what is reported after it
 pub kept_is_last : (answer : Result Verdict CheckFault) (first : ℕ) (before records more : List Ordered) → first ≡ length before → IsWithin answer first records
-    → kept_behind answer first (keep_last most_last (map item_of before)) records ≡ last_of answer ((before ++ records) ++ more)
+    → kept_after_answer answer first (keep_last most_last (map item_of before)) records ≡ last_of answer ((before ++ records) ++ more)
 kept_is_last (Ok (No pos piece cause)) first before records more count (least, most) = kept_before first pos before records more count least most
 kept_is_last (Ok (Broken pos rule)) first before records more count (least, most) = kept_before first pos before records more count least most
 kept_is_last _ first before records more count within = refl
 
--- a verdict over records stands among them
+-- a verdict over records is at a place among them
 pub verdict_within : (configuration : Configuration) (relations : List Relation) (parts : ℕ → Part) (first : ℕ) (records : List Ordered) (verdict : Verdict) → ArePlaced first records
     → IsVerdictFrom configuration relations parts first records verdict → IsWithin (Ok verdict) first records
 verdict_within configuration relations parts first records (Yes all) placed is = tt
-verdict_within configuration relations parts first records (No pos piece cause) placed (stands, meet) =
-    let at = no_at configuration parts first records (record { pos = pos; piece = piece; cause = cause }) placed stands in
-    let size = ap length stands.split ∙ length-append stands.before (stands.ordered ∷ stands.after) in
+verdict_within configuration relations parts first records (No pos piece cause) placed (is_shown, meet) =
+    let at = no_at configuration parts first records (record { pos = pos; piece = piece; cause = cause }) placed is_shown in
+    let size = ap length is_shown.split ∙ length-append is_shown.before (is_shown.ordered ∷ is_shown.after) in
     (omega (arith, at), omega (arith, at, size))
 verdict_within configuration relations parts first records (Broken pos rule) placed is =
     let size = ap length is.split ∙ length-append is.through is.after in
     (omega (arith, is.place), omega (arith, is.place, is.last, size))
 
--- an answer over records stands among them
+-- an answer over records is at a place among them
 pub answer_within : (verdict : Verdict) (end : Result (Unit {0}) InputFault) (first : ℕ) (records : List Ordered) (answer : Result Verdict CheckFault) → answer ≡ answer_with verdict end
     → IsWithin (Ok verdict) first records → IsWithin answer first records
 answer_within (Yes all) (Ok ended) first records answer is within = subst (λ one. IsWithin one first records) (sym is) tt

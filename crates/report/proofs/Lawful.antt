@@ -116,7 +116,7 @@ one_more cores taken place scanned left pair rec more rest fits here r = record 
         let o : core ≢ pair.core = λ f. d (sym f) in
         rw (put-other r.recordings pair.core core (rec ∷ r.recordings pair.core) o) (r.numbers core h ∙ ap (λ n. following n (length (r.recordings core))) (put-other taken pair.core core (suc (taken pair.core)) o))
 
--- where nothing more is placed, all is left
+-- if nothing more is placed, all is left
 stopped : (cores : ℕ) (taken : ℕ → ℕ) (place : ℕ) (end : Result (Unit {0}) InputFault) (left : ℕ → List Item) (items : List CertItem)
     → (end ≡ Ok tt → (items ≡ []) × ((core : ℕ) → core < cores → left core ≡ [])) → Placed cores taken place (ends_so end) left items
 stopped cores taken place end left items ended = record {
@@ -156,7 +156,7 @@ scan_places_first cores taken place left (Ok pair ∷ rest) =
     step_placed cores taken place left pair rest (misplaced cores taken pair) refl (left pair.core) refl
     (λ more. scan_places_first cores (put taken pair.core (suc (taken pair.core))) (suc place) (put left pair.core more) rest)
 
--- records in order stand at this place and those after it
+-- records in order are at this place and those after it
 in_order_placed : (cores place : ℕ) (pairs : List Pair) (rest : ℕ → List Record) (records : List Ordered) → AreInOrder cores place pairs rest records → ArePlaced place records
 in_order_placed cores place [] rest records (is, none) = subst (ArePlaced place) (sym is) tt
 in_order_placed cores place (pair ∷ pairs) rest records (rec, more, later, here, is, on) =

@@ -65,11 +65,11 @@ place_of_seam first before ordered after records split placed =
 pub still_rejects : (configuration : Configuration) (judging judged : Judging) (before records : List Ordered) (answer : Result Verdict CheckFault)
     → AllRun configuration (cold_parts configuration) before (parts_of judging) → judging.count ≡ length before → ArePlaced judging.count records
     → LeavesItsPiece configuration judging records answer judged → StillRejects configuration records answer judged
-still_rejects configuration judging judged before records (Ok (No place number cause)) run count placed (stands, (front, ordered, after, split, there, onward, rejects)) =
+still_rejects configuration judging judged before records (Ok (No place number cause)) run count placed (is_shown, (front, ordered, after, split, there, onward, rejects)) =
     let piece = piece_at configuration number in
     let cold = cold_parts configuration number in
     let left = parts_of judged number in
-    let whole : PieceRun configuration piece cold (before ++ front) left = (runs_join configuration piece cold before front left).1 (parts_of judging number, run number stands.piece, onward) in
+    let whole : PieceRun configuration piece cold (before ++ front) left = (runs_join configuration piece cold before front left).1 (parts_of judging number, run number is_shown.piece, onward) in
     let whose : IsPartOf piece left = part_of_run configuration piece cold left (before ++ front) (IsPartOf_state piece (cold_state configuration)) whole in
     let at : ordered.pos ≡ judging.count + length front = place_of_seam judging.count front ordered after records split placed in
     let many : length (before ++ front) ≡ ordered.pos = omega (arith, at, count, length-append before front) in

@@ -69,7 +69,7 @@ unfolding failure_of
 no_failure can_fail failure items gives (inl whole) cannot = refl
 no_failure can_fail failure items gives (inr (can, before, rest, e, f)) cannot = absurd (true≢false (sym can ∙ cannot))
 
--- it tells what the reader gave
+-- it shows what the reader gave
 given_so : {Value Fault : Type 0} (can_fail : Bool) (failure : Fault) (items gives : List (Result Value Fault)) (reads : Reads can_fail failure items gives)
     → given failure (failure_of can_fail failure items gives reads) items ≡ gives
 unfolding failure_of
@@ -123,7 +123,7 @@ other_count configuration texts readings relations result other refused =
     by true e = absurd (other (eqb-true (length texts.recordings) configuration.cores e))
     by false e = refused
 
--- the records that a scan of texts places stand at the first places
+-- the records that a scan of texts places are at the first places
 pub scan_of_placed : (texts : Texts) (readings : Readings) → ArePlaced 0 (scan_of texts readings).placed
 scan_of_placed texts readings = scan_places (length texts.recordings) none_taken 0 (given_of_core texts readings) (given_of_certificate texts readings)
 

@@ -42,10 +42,10 @@ last_of (Ok (Broken pos rule)) records = last_before pos records
 last_of _ records = []
 
 -- what is kept after an answer, if these were kept before and the records that come next begin at this place
-abbrev pub kept_behind : Result Verdict CheckFault → ℕ → List LastItem → List Ordered → List LastItem
-kept_behind (Ok (No pos piece cause)) first kept records = keep_last most_last (kept ++ map item_of (take (pos - first) records))
-kept_behind (Ok (Broken pos rule)) first kept records = keep_last most_last (kept ++ map item_of (take (pos - first) records))
-kept_behind _ first kept records = []
+abbrev pub kept_after_answer : Result Verdict CheckFault → ℕ → List LastItem → List Ordered → List LastItem
+kept_after_answer (Ok (No pos piece cause)) first kept records = keep_last most_last (kept ++ map item_of (take (pos - first) records))
+kept_after_answer (Ok (Broken pos rule)) first kept records = keep_last most_last (kept ++ map item_of (take (pos - first) records))
+kept_after_answer _ first kept records = []
 
 -- what stays of these after an answer: nothing after a refusal or a lack of memory
 abbrev pub settled : Result Verdict CheckFault → List LastItem → List LastItem

@@ -24,7 +24,7 @@ pub record MayJudge (configuration : Configuration) (judging : Judging) (records
   pub placed : ArePlaced judging.count records
   pub cores : AreOfCores configuration.cores records
 
--- a verdict that stands however the input ends
+-- a verdict that holds however the input ends
 abbrev pub IsFinal : Verdict → Type 0
 IsFinal verdict = (end : Result (Unit {0}) InputFault) → Ok verdict ≡ answer_with verdict end
 
@@ -34,8 +34,8 @@ LeavesItsPiece configuration old records (Ok (No place number cause)) new =
     EndsInNo configuration (parts_of old) records (record { pos = place; piece = number; cause = cause }) (parts_of new)
 LeavesItsPiece configuration old records _ new = Unit {0}
 
--- what the records of a round decide: nothing, where each piece ran over them and each of their views meets every relation; or the
--- verdict over them, whatever comes after them, and after a No its piece is left as it was
+-- what the records of a round decide: nothing, if each piece ran over them and each of their views meets every relation; or the verdict
+-- over them, whatever comes after them, and after a No its piece is left as it was
 abbrev pub IsDecided : Configuration → List Relation → Judging → List Ordered → Option Verdict → Judging → Type 0
 IsDecided configuration relations old records None new =
     AllRun configuration (parts_of old) records (parts_of new) × (new.count ≡ old.count + length records)
@@ -44,13 +44,13 @@ IsDecided configuration relations old records (Some verdict) new =
     ((later : List Ordered) → IsVerdictFrom configuration relations (parts_of old) old.count (records ++ later) verdict) × IsFinal verdict
     × LeavesItsPiece configuration old records (Ok verdict) new
 
--- the answer over the last records, after which the input ends so; want of memory outranks it
+-- the answer over the last records, after which the input ends in this way; a lack of memory outranks it
 abbrev pub IsLastAnswer : Configuration → List Relation → Judging → List Ordered → Result (Unit {0}) InputFault → Result Verdict CheckFault → Type 0
 IsLastAnswer configuration relations judging records end answer =
     (answer ≡ Err Memory)
     ⊎ ((verdict : Verdict) × IsVerdictFrom configuration relations (parts_of judging) judging.count records verdict × (answer ≡ answer_with verdict end))
 
--- a round was filled so: its records stand at the next places, and what was ahead is known where the recordings were answered honestly
+-- how a round was filled: its records are at the next places, and what was ahead is known if the recordings were answered honestly
 pub record IsPlaced (can_fail : CanFail) (old : Placing) (records : List Ordered) (filled : Filled) (new : Placing) : Type 0 where
   pub known : AreHonest can_fail.recordings new.lanes → IsFilled can_fail old records filled new
   pub honest : AreHonest can_fail.recordings new.lanes → AreHonest can_fail.recordings old.lanes

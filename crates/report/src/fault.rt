@@ -12,19 +12,19 @@ use thiserror::Error;
 #[derive(Clone, Copy, Debug, Drop, PartialEq, Eq, Error)]
 pub enum ArgumentFault {
     /// 0 workers are asked for.
-    #[error("no worker is to judge")]
+    #[error("the number of workers is 0")]
     NoWorkers,
     /// More than 64 workers are asked for.
-    #[error("more than 64 workers are to judge")]
+    #[error("the number of workers is above 64")]
     TooManyWorkers,
     /// A depth of 0 is asked for: no record of a core could be read ahead.
-    #[error("no record is to be read ahead")]
+    #[error("the depth is 0")]
     NoDepth,
     /// A depth above 4,096 records of a core is asked for.
-    #[error("more than 4,096 records of a core are to be read ahead")]
+    #[error("the depth is above 4,096")]
     TooDeep,
     /// The number of recordings is not the number of cores.
-    #[error("there is not one recording for each core")]
+    #[error("the number of recordings is not the number of cores")]
     ReaderCount,
 }
 

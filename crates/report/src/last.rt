@@ -2,7 +2,7 @@
 
 ghost use Rattle.std.specs.Prelude.{◌≡◌, ◌≤◌, ◌-◌, ◌++◌, [], IfOk, length, map, option_copied, slice_get, take};
 ghost use Rattle.circular_buffer.specs.Buffer.{keep_last};
-ghost use Rattle.report.specs.Last.{item_of, kept_behind, kind_in, most_last, settled};
+ghost use Rattle.report.specs.Last.{item_of, kept_after_answer, kind_in, most_last, settled};
 
 use crate::fault::CheckFault;
 use apex_types::{Body, CoreId, Ordered, Place};
@@ -81,13 +81,13 @@ impl Last {
     }
 
     // Keeps what is reported after an answer over these records, the first of which is at this place. Takes no memory.
-    pub(crate) fn keep_behind(
+    pub(crate) fn keep_after_answer(
         &mut self,
         answer: &Result<Verdict, CheckFault>,
         first: u64,
         records: &[Ordered],
     )
-        ensures { self.new ≡ kept_behind answer.now first self.old records.now }
+        ensures { self.new ≡ kept_after_answer answer.now first self.old records.now }
     {
         match answer {
             Ok(Verdict::No { pos, .. }) => self.keep(before(*pos, first, records)),

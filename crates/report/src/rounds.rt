@@ -75,7 +75,7 @@ pub fn judge_all<
             Filled::Memory => return Err(CheckFault::Memory),
             Filled::Ended(end) => {
                 let answer = judge_last(rt, config, &mut judge, &round, rules, workers, gate, end);
-                last.keep_behind(&answer, first, &round);
+                last.keep_after_answer(&answer, first, &round);
                 tell(witness, config, &judge, &answer, first, &round);
                 return answer;
             }
@@ -88,7 +88,7 @@ pub fn judge_all<
             Ok(None) => last.keep(&round),
             Ok(Some(verdict)) => {
                 let answer = Ok(verdict);
-                last.keep_behind(&answer, first, &round);
+                last.keep_after_answer(&answer, first, &round);
                 tell(witness, config, &judge, &answer, first, &round);
                 return answer;
             }
@@ -100,7 +100,7 @@ pub fn judge_all<
     Err(CheckFault::Memory)
 }
 
-// Judges a round and fills the next one: in a thread beside it where there are several workers, and after it where there is one.
+// Judges a round and fills the next one: at the same time in another thread if there are several workers, and afterwards if there is one.
 fn judge_and_fill<T: Threads + Wait + Sync, R: TextSource, C: TextSource, G: Gate + Sync>(
     rt: &T,
     config: &Config,
@@ -136,7 +136,7 @@ fn judge_and_fill<T: Threads + Wait + Sync, R: TextSource, C: TextSource, G: Gat
     )
 }
 
-// Judges a round, and tells the gate where that decides: the next round may wait for a reader meanwhile.
+// Judges a round, and tells the gate if that decides: the next round may be waiting for a reader then.
 fn judge_and_tell<T: Threads + Wait + Sync, G: Gate + Sync>(
     rt: &T,
     config: &Config,
@@ -192,7 +192,7 @@ fn judge_last<T: Threads + Wait + Sync, G: Gate + Sync>(
     }
 }
 
-// The answer where nothing decides against the records: Yes with the number of those judged, or the refusal after them.
+// The answer if nothing decides against the records: Yes with the number of those judged, or the refusal after them.
 fn answer_at(end: Result<(), InputFault>, count: u64) -> Result<Verdict, CheckFault>
     ensures { result ≡ answer_with (Yes count) end }
 {
@@ -204,7 +204,7 @@ fn answer_at(end: Result<(), InputFault>, count: u64) -> Result<Verdict, CheckFa
 
 // Judges the records of a round: what decides against them, if anything does.
 //
-// Memory where a growth or a thread was refused.
+// Memory if memory or a thread was refused.
 fn judge_round<T: Threads + Wait + Sync, G: Gate + Sync>(
     rt: &T,
     config: &Config,

@@ -67,7 +67,7 @@ pub(crate) fn tell<V: Witness>(
     }
 }
 
-// The record at a place, among those of which the first stands at this one.
+// The record at a place, among records the first of which is at this place.
 fn record_at(pos: Place, first: u64, records: &[Ordered]) -> Option<&Ordered>
     ensures { option_copied result ≡ slice_get records.now (pos - first) }
 {

@@ -12,15 +12,15 @@ use Rattle.rules_file.specs.Keys.{◌>>=◌, Builds}
 use Rattle.rules_file.specs.Reading.{IsAdded, SaidRule, rule_in, rules_from, said}
 
 -- what is read, after what was read before
-abbrev pub behind : List SaidRule → Result (List SaidRule) RulesRefusal → Result (List SaidRule) RulesRefusal
-behind front (Ok rest) = Ok (front ++ rest)
-behind front (Err fault) = Err fault
+abbrev pub those_after : List SaidRule → Result (List SaidRule) RulesRefusal → Result (List SaidRule) RulesRefusal
+those_after front (Ok rest) = Ok (front ++ rest)
+those_after front (Err fault) = Err fault
 
 -- one rule goes over from what is left to what was read
-behind-more : (front : List SaidRule) (first : SaidRule) (reading : Result (List SaidRule) RulesRefusal)
-    → behind front (reading >>= (λ rest. Ok (first ∷ rest))) ≡ behind (front ++ first ∷ []) reading
-behind-more front first (Ok rest) = ap (λ all. Ok all) (sym (append_assoc front (first ∷ []) rest))
-behind-more front first (Err fault) = refl
+those_after-more : (front : List SaidRule) (first : SaidRule) (reading : Result (List SaidRule) RulesRefusal)
+    → those_after front (reading >>= (λ rest. Ok (first ∷ rest))) ≡ those_after (front ++ first ∷ []) reading
+those_after-more front first (Ok rest) = ap (λ all. Ok all) (sym (append_assoc front (first ∷ []) rest))
+those_after-more front first (Err fault) = refl
 
 -- what the rules of code say
 abbrev pub all_said : Vec NamedRule Global → List SaidRule
@@ -30,7 +30,7 @@ all_said rules = map said rules.items
 pub record KeepsReading (values : List Value) (i : ℕ) (found : Option (Vec NamedRule Global)) : Type 0 where
   pub front : List SaidRule
   pub kept : IfSome found (λ rules. all_said rules ≡ front)
-  pub reads : behind front (rules_from i (items_view (drop i values))) ≡ rules_from 0 (items_view values)
+  pub reads : those_after front (rules_from i (items_view (drop i values))) ≡ rules_from 0 (items_view values)
 
 -- the rules that are kept, with one more
 more_kept : (front : List SaidRule) (first : SaidRule) (before after : Option (Vec NamedRule Global)) (rule : Option NamedRule)
@@ -47,8 +47,8 @@ goes_on : (values : List Value) (i : ℕ) (before after : Option (Vec NamedRule 
     → KeepsReading values (i + 1) after
 goes_on values i before after value rule first kept below is read given added =
     let cut = items_view-drop values i value below in
-    let more = behind-more kept.front first (rules_from (i + 1) (items_view (drop (i + 1) values))) in
-    let whole : behind kept.front (rules_from i (items_view (drop i values))) ≡ behind (kept.front ++ first ∷ []) (rules_from (i + 1) (items_view (drop (i + 1) values))) = rw (cut, ← is, read) more in
+    let more = those_after-more kept.front first (rules_from (i + 1) (items_view (drop (i + 1) values))) in
+    let whole : those_after kept.front (rules_from i (items_view (drop i values))) ≡ those_after (kept.front ++ first ∷ []) (rules_from (i + 1) (items_view (drop (i + 1) values))) = rw (cut, ← is, read) more in
     record { front = kept.front ++ first ∷ []; kept = more_kept kept.front first before after rule kept.kept given added; reads = sym whole ∙ kept.reads }
 
 -- an item is read, and the loop goes on

@@ -54,10 +54,10 @@ both_built join one other (Some first) (Some others) (Some both) first_is others
 both_built join one other (Some first) None (Some both) first_is others_is together = absurd together
 both_built join one other None others (Some both) first_is others_is together = absurd together
 
--- where those after an item are refused, the list is
-pub behind_refused : (join : Bool → Bool → Bool) (one other : Result Holds RuleRefusal) (first : Option Relation) (fault : RuleRefusal) → Builds meets (Ok first) one → other ≡ Err fault
+-- if those after an item are refused, the list is
+pub after_refused : (join : Bool → Bool → Bool) (one other : Result Holds RuleRefusal) (first : Option Relation) (fault : RuleRefusal) → Builds meets (Ok first) one → other ≡ Err fault
     → (result : Result (Option Relation) RuleRefusal) → IsErrAnd result (λ given. given ≡ fault) → Builds meets result (two_joined join one other)
-behind_refused join one other first fault is refused (Ok found) same = absurd same
-behind_refused join (Ok holds) other first fault is refused (Err given) same = rw (refused, same) refl
-behind_refused join (Err found) other (Some first) fault is refused (Err given) same = cc
-behind_refused join (Err found) other None fault is refused (Err given) same = cc
+after_refused join one other first fault is refused (Ok found) same = absurd same
+after_refused join (Ok holds) other first fault is refused (Err given) same = rw (refused, same) refl
+after_refused join (Err found) other (Some first) fault is refused (Err given) same = cc
+after_refused join (Err found) other None fault is refused (Err given) same = cc

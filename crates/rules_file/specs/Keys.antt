@@ -11,23 +11,23 @@ use Rattle.rules_file.specs.declared.refusal.RuleKey.TheVariants.{Name}
 use Rattle.rules_file.specs.declared.refusal.RuleRefusal.{RuleRefusal}
 
 infixl 10 ◌>>=◌
--- a reading and then the next one; the first refusal stands
+-- a reading followed by the next one; the first refusal is the answer
 abbrev pub ◌>>=◌ : {A B F : Type 0} → Result A F → (A → Result B F) → Result B F
 (Ok value) >>= next = next value
 (Err fault) >>= next = Err fault
 
--- what a call gave is the reading: its value as the definitions see it, or its refusal
+-- the answer of a call is the reading: its value as the definitions see it, or its refusal
 abbrev pub Reads : {A B F : Type 0} → (A → B) → Result A F → Result B F → Type 0
 Reads view (Ok value) reading = reading ≡ Ok (view value)
 Reads view (Err fault) reading = reading ≡ Err fault
 
--- what a call built is the reading; it gave nothing where memory ran out, and then the reading is no refusal
+-- what a call built is the reading; if memory ran out it built nothing, and then the reading is not a refusal
 abbrev pub Builds : {A B F : Type 0} → (A → B) → Result (Option A) F → Result B F → Type 0
 Builds view (Ok (Some value)) reading = reading ≡ Ok (view value)
 Builds view (Ok None) reading = IsOk reading
 Builds view (Err fault) reading = reading ≡ Err fault
 
--- what a call gave is the reading, unless it is this fault, want of memory
+-- the answer of a call is the reading, unless the answer is this fault, a lack of memory
 abbrev pub Gives : {A B F : Type 0} → F → (A → B) → Result A F → Result B F → Type 0
 Gives memory view (Ok value) reading = reading ≡ Ok (view value)
 Gives memory view (Err fault) reading = fault ≢ memory → reading ≡ Err fault
@@ -40,7 +40,7 @@ at key fault = record { fault = fault; key = Some key }
 abbrev pub nowhere : RuleFault → RuleRefusal
 nowhere fault = record { fault = fault; key = None }
 
--- the value under a key, which has to be there
+-- the value under a key, which is required
 abbrev pub required : RuleKey → Option Data → Result Data RuleRefusal
 required key None = Err (at key Missing)
 required key (Some value) = Ok value
@@ -50,7 +50,7 @@ abbrev pub member_count : Members → ℕ
 member_count no_members = 0
 member_count (member key value members) = suc (member_count members)
 
--- a table has this many keys at most
+-- a table has at most this many keys
 abbrev pub no_more : ℕ → Members → Result Unit RuleRefusal
 no_more count keys = if nat_le (member_count keys) count then Ok tt else Err (nowhere UnknownKey)
 

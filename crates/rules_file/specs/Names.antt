@@ -1,4 +1,4 @@
--- The names of fields, and the names that stand for numbers in them.
+-- The names of fields, and the names that mean numbers in them.
 use Rattle.std.specs.Prelude.{ℕ, ℤ, pos, List, [], ◌∷◌, Option, None, codes, find, option_map}
 use Rattle.std.specs.Str.{bytes_eq}
 use Rattle.apex_types.specs.declared.view.Field.{Field}
@@ -20,14 +20,14 @@ field_names =
 abbrev pub field_named : List ℕ → Option Field
 field_named text = option_map (λ found. found.1) (find (λ one. bytes_eq text one.0) field_names)
 
--- the number of a kind of records, as views tell it
+-- the number of a kind of records, as views give it
 abbrev pub kind_number : Kind → ℕ
 kind_number kind.Call = 0
 kind_number kind.Ret = 1
 kind_number kind.Disp = 2
 kind_number kind.Tick = 3
 
--- the number for which a name stands in a field: kinds, services and outcomes have the names that they have in recordings
+-- the number that a name means in a field: kinds, services and outcomes have the names that they have in recordings
 abbrev pub number_named : Field → List ℕ → Option ℤ
 number_named field.Kind name = option_map (λ kind. pos (kind_number kind)) (kind_named name)
 number_named field.Service name = option_map (λ service. pos (service_number service)) (service_named name)

@@ -16,16 +16,16 @@ use Rattle.rules_file.specs.declared.rule.NamedRule.{NamedRule}
 use Rattle.rules_file.specs.Keys.{◌>>=◌, list_in, name_in, no_more, nowhere, required}
 use Rattle.rules_file.specs.Relations.{Holds, at_most, relation_in}
 
--- a rule as the text says it: its name, and of which views it holds
+-- a rule as the text gives it: its name, and the views for which it holds
 pub record SaidRule : Type 0 where
   pub name : List ℕ
   pub holds : Holds
 
--- what a rule of code says
+-- a rule of the code, as the text gives it
 abbrev pub said : NamedRule → SaidRule
 said rule = record { name = string_bytes rule.name; holds = meets rule.relation }
 
--- rules with one more after them; there are none where memory ran out
+-- rules followed by one more; there are none if memory ran out
 abbrev pub IsAdded : Option (Vec NamedRule Global) → Option NamedRule → Option (Vec NamedRule Global) → Type 0
 IsAdded rules rule None = Unit {0}
 IsAdded (Some rules) (Some rule) (Some all) = all.items ≡ rules.items ++ rule ∷ []
@@ -35,7 +35,7 @@ IsAdded _ _ (Some all) = ⊥
 abbrev pub keyless : RulesFault → RulesRefusal
 keyless fault = record { fault = fault; key = None }
 
--- what a call gave is the reading, unless it is refused memory
+-- the answer of a call is the reading, unless memory is refused to the call
 abbrev pub GivesPlaced : {A B : Type 0} → (A → B) → Result A RulesRefusal → Result B RulesRefusal → Type 0
 GivesPlaced view (Ok value) reading = reading ≡ Ok (view value)
 GivesPlaced view (Err refusal) reading = refusal.fault ≢ Memory → reading ≡ Err refusal
@@ -48,17 +48,17 @@ rule_under keys =
     required key.Holds (get_member (codes "holds") keys) >>= relation_in MOST_LEVELS >>= (λ holds.
     Ok (record { name = name; holds = holds }))))
 
--- the rule that a value describes, which has to be a table
+-- the rule that a value describes, which must be a table
 abbrev pub rule_in : Data → Result SaidRule RuleRefusal
 rule_in (table keys) = rule_under keys
 rule_in _ = Err (nowhere WrongType)
 
--- what is read of the rule of this number
+-- the reading of the rule of this number
 abbrev pub of_rule : {A : Type 0} → ℕ → Result A RuleRefusal → Result A RulesRefusal
 of_rule number (Ok value) = Ok value
 of_rule number (Err refusal) = Err (record { fault = Rule number refusal.fault; key = refusal.key })
 
--- what is read of the text around the rules
+-- the reading of the text outside the rules
 abbrev pub of_file : {A : Type 0} → Result A RuleRefusal → Result A RulesRefusal
 of_file (Ok value) = Ok value
 of_file (Err refusal) = Err (record { fault = File refusal.fault; key = refusal.key })
@@ -70,7 +70,7 @@ rules_from number (item value items) =
     of_rule number (rule_in value) >>= (λ rule.
     rules_from (number + 1) items >>= (λ rules. Ok (rule ∷ rules)))
 
--- the list of rules of a table: it stands under `rule`, and there is no other key
+-- the list of rules of a table: it is under `rule`, and there is no other key
 abbrev pub listed_under : Members → Result Items RuleRefusal
 listed_under keys = no_more 1 keys >>= (λ _. required key.Rule (get_member (codes "rule") keys) >>= list_in >>= at_most MOST_RULES)
 
@@ -78,16 +78,16 @@ listed_under keys = no_more 1 keys >>= (λ _. required key.Rule (get_member (cod
 abbrev pub rules_under : Members → Result (List SaidRule) RulesRefusal
 rules_under keys = of_file (listed_under keys) >>= rules_from 0
 
--- the table that a text is, where it is UTF-8 and TOML
+-- the table that a text is, if the text is UTF-8 and TOML
 abbrev pub document_of : List ℕ → Option Members
 document_of text = if is_utf8 text then parse_document text else None
 
--- the rules of a document, where the text is one
+-- the rules of a document, if the text is a document
 abbrev pub rules_in : Option Members → Result (List SaidRule) RulesRefusal
 rules_in None = Err (keyless (File NotToml))
 rules_in (Some keys) = rules_under keys
 
--- the rules of a text, or where the walk over it stops; a text of more than 1,048,576 bytes is not looked into
+-- the rules of a text, or where the walk over it stops; a text of more than 1,048,576 bytes is refused unread
 abbrev pub walk_of : List ℕ → Result (List SaidRule) RulesRefusal
 walk_of text = if nat_lt LONGEST_RULES_FILE (length text) then Err (keyless (File TooMany)) else rules_in (document_of text)
 

@@ -1,4 +1,4 @@
--- Of which views the relation that a value describes holds.
+-- The views for which the relation that a value describes holds.
 use Rattle.std.specs.Prelude.{ℕ, ℤ, zero, suc, Bool, ◌&&◌, ◌||◌, not, int_lt, Option, Some, None, Result, Ok, Err, codes, nat_le, if◌then◌else◌}
 use Rattle.std.specs.Option.{ok_or}
 use Rattle.std.specs.Ordering.{int_eq}
@@ -13,7 +13,7 @@ use Rattle.rules_file.specs.declared.refusal.RuleRefusal.{RuleRefusal}
 use Rattle.rules_file.specs.Keys.{◌>>=◌, at, list_in, no_more, nowhere, required, text_in}
 use Rattle.rules_file.specs.Names.{field_named, number_named}
 
--- of which views a relation holds
+-- for which views a relation holds
 abbrev pub Holds : Type 0
 Holds = View → Bool
 
@@ -21,13 +21,13 @@ Holds = View → Bool
 abbrev pub field_in : Data → Result Field RuleRefusal
 field_in value = text_in key.Field value >>= (λ name. ok_or (field_named name) (at key.Field UnknownField))
 
--- the number that a field is compared with: an integer, or a name that stands for one in this field
+-- the number that a field is compared with: an integer, or a name that means one in this field
 abbrev pub number_in : Field → Data → Result ℤ RuleRefusal
 number_in field (integer number) = Ok number
 number_in field (string name) = ok_or (number_named field name) (at key.Number UnknownName)
 number_in field _ = Err (at key.Number WrongType)
 
--- the field is compared by the first of `less`, `equal` and `greater` that is there
+-- the field is compared by the first of `less`, `equal` and `greater` that is given
 abbrev pub compared : Field → Option Data → Option Data → Option Data → Result Holds RuleRefusal
 compared field (Some value) equal greater = number_in field value >>= (λ number. Ok (λ view. int_lt (field_of view field) number))
 compared field None (Some value) greater = number_in field value >>= (λ number. Ok (λ view. int_eq (field_of view field) number))
@@ -41,7 +41,7 @@ comparison_under keys =
     required key.Field (get_member (codes "field") keys) >>= field_in >>= (λ field.
     compared field (get_member (codes "less") keys) (get_member (codes "equal") keys) (get_member (codes "greater") keys)))
 
--- relations put together, one after the other
+-- relations combined, one after the other
 abbrev pub joined : (Bool → Bool → Bool) → (Data → Result Holds RuleRefusal) → Items → Result Holds RuleRefusal
 joined join reading no_items = Err (nowhere Empty)
 joined join reading (item value no_items) = reading value
@@ -55,19 +55,19 @@ abbrev pub item_count : Items → ℕ
 item_count no_items = 0
 item_count (item value items) = suc (item_count items)
 
--- a list of this many items at most
+-- a list of at most this many items
 abbrev pub at_most : ℕ → Items → Result Items RuleRefusal
 at_most most items = if nat_le (item_count items) most then Ok items else Err (nowhere TooMany)
 
--- the relations of a list of 1 to 64, put together
+-- the relations of a list of 1 to 64, combined
 abbrev pub joined_in : (Bool → Bool → Bool) → (Data → Result Holds RuleRefusal) → Data → Result Holds RuleRefusal
 joined_in join reading value = list_in value >>= at_most MOST_RELATIONS >>= joined join reading
 
--- a relation that holds where the one of a value does not
+-- a relation that holds exactly if the one that a value describes does not
 abbrev pub negated_in : (Data → Result Holds RuleRefusal) → Data → Result Holds RuleRefusal
 negated_in reading value = reading value >>= (λ negated. Ok (λ view. not (negated view)))
 
--- the relation that a table describes by what stands under `not`, `and` and `or`, else by a comparison
+-- the relation that a table describes: by the value under `not`, `and` or `or`, else by a comparison
 abbrev pub described : (Data → Result Holds RuleRefusal) → Members → Option Data → Option Data → Option Data → Result Holds RuleRefusal
 described reading keys (Some value) all any = no_more 1 keys >>= (λ _. negated_in reading value)
 described reading keys None (Some value) any = no_more 1 keys >>= (λ _. joined_in (λ one other. one && other) reading value)
@@ -78,7 +78,7 @@ described reading keys None None None = comparison_under keys
 abbrev pub relation_under : (Data → Result Holds RuleRefusal) → Members → Result Holds RuleRefusal
 relation_under reading keys = described reading keys (get_member (codes "not") keys) (get_member (codes "and") keys) (get_member (codes "or") keys)
 
--- the relation that a value describes, which has to be a table, with this many levels at most
+-- the relation that a value describes, which must be a table, with at most this many levels
 unfoldable pub relation_in : ℕ → Data → Result Holds RuleRefusal
 relation_in zero value = Err (nowhere TooDeep)
 relation_in (suc levels) (table keys) = relation_under (relation_in levels) keys

@@ -2,51 +2,51 @@
 
 use thiserror::Error;
 
-/// Why a rule, or a text of rules, says nothing.
+/// Why a rule, or a rules file, is refused.
 #[derive(Clone, Copy, Debug, Drop, PartialEq, Eq, Error)]
 pub enum RuleFault {
     /// The text is not UTF-8 or not TOML.
     #[error("the text is not TOML")]
     NotToml,
-    /// There is more of something than is served: bytes of text, rules, or relations in one list.
-    #[error("there is more than is served")]
+    /// There is more of something than is accepted: bytes of text, rules, or relations in one list.
+    #[error("a limit is exceeded")]
     TooMany,
     /// A table has a key that does not belong there.
-    #[error("a key does not belong there")]
+    #[error("a table has a key that is not allowed there")]
     UnknownKey,
-    /// A key that has to be there is not.
+    /// A required key is missing.
     #[error("a key is missing")]
     Missing,
-    /// A value is of another type than its key has.
+    /// The value of a key has the wrong type.
     #[error("a value has the wrong type")]
     WrongType,
     /// The name of a rule is empty, too long or not printable.
     #[error("a name is empty, too long or not printable")]
     BadName,
     /// No field has this name.
-    #[error("a field is not known")]
+    #[error("no field has this name")]
     UnknownField,
-    /// A name stands for no number of its field.
-    #[error("a name stands for no number of its field")]
+    /// A name means no number in its field.
+    #[error("a name is not a value of its field")]
     UnknownName,
     /// A list of relations has none.
     #[error("a list of relations is empty")]
     Empty,
     /// A relation has too many levels.
-    #[error("a relation is too deep")]
+    #[error("a relation is nested too deeply")]
     TooDeep,
 }
 
-/// Why a text was not read as rules: a fault of the text, or of the rule of this number, counted from 0.
+/// Why the rules of a text could not be read: a fault of the text, or of the rule of this number, counted from 0.
 #[derive(Clone, Copy, Debug, Drop, PartialEq, Eq, Error)]
 pub enum RulesFault {
-    /// A fault outside of the rules.
+    /// A fault outside the rules.
     #[error("{0}")]
     File(RuleFault),
     /// A fault of the rule of this number.
     #[error("rule {rule}: {fault}")]
     Rule { rule: usize, fault: RuleFault },
-    /// There is no memory left.
+    /// Memory ran out.
     #[error("out of memory")]
     Memory,
 }

@@ -1,4 +1,4 @@
-// Fields by their names, and the numbers that names stand for in them.
+// Fields by their names, and the numbers that names mean in them.
 
 ghost use Rattle.std.specs.Prelude.{◌≡◌, ℕ, List, option_map, pos};
 ghost use Rattle.toml.specs.View.{view};
@@ -46,7 +46,7 @@ pub(crate) fn find_field(name: &str) -> Option<Field>
     }
 }
 
-/// The number that a field is compared with: the integer that a value is, or the number for which a name stands.
+/// The number that a field is compared with: the integer that a value is, or the number that a name means.
 pub(crate) fn read_number(field: Field, value: &Value) -> Result<i64, RuleRefusal>
     ensures { result ≡ number_in field (view value.now) }
 {
@@ -60,7 +60,7 @@ pub(crate) fn read_number(field: Field, value: &Value) -> Result<i64, RuleRefusa
     }
 }
 
-// The number for which a name stands in a field.
+// The number that a name means in a field.
 fn number_named(field: Field, name: &[u8]) -> Option<i64>
     ensures { result ≡ number_named field name.now }
 {
@@ -72,7 +72,7 @@ fn number_named(field: Field, name: &[u8]) -> Option<i64>
     }
 }
 
-// The number of a kind of records, as views tell it.
+// The number of a kind of records, as views give it.
 fn kind_number(kind: Kind) -> i64
     ensures { result ≡ pos (kind_number kind) }
 {

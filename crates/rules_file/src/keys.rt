@@ -33,7 +33,7 @@ pub(crate) fn required<'a>(
     }
 }
 
-/// Refuses a table of more keys than these.
+/// Refuses a table with more keys than this.
 #[tactic(auto, using(crate::proofs::Counts::keys_counted))]
 pub(crate) fn no_more(table: &Table, count: usize) -> Result<(), RuleRefusal>
     ensures { result ≡ no_more count (table_view table.now) }

@@ -1,8 +1,14 @@
 //! Named rules over the views of records, read from a TOML text.
 //!
-//! Promises: the rules are exactly those that the text says, in its order, each with its name and a relation that holds of
-//! the views of which the text says that it does; or the first refusal of the text, with memory aside. No text exhausts the
-//! stack: a relation has at most 16 levels, and a list of relations at most 64 of them.
+//! Promises: apart from a lack of memory, the rules are exactly those that the text gives, in its order, each with its name and a relation
+//! that holds for exactly the views for which the text says so; or the refusal is the first of the text. No text exhausts the stack: a
+//! relation has at most 16 levels, and a list of relations has at most 64 of them.
+//!
+//! A definition states what a text says: the name of each rule, and the views that it holds of (`rules_of`). `read_explained` gives a
+//! refusal the key at which the walk over the text stops (`walk_of`). For a person, `unknown_field` looks once more for the word that names
+//! no field. Contracts see a relation of code as the views that meet it. If memory runs out, the walk goes on without building, so a
+//! refusal does not depend on memory. Kinds, services and outcomes are found by the names that `record_read` knows. The program reads the
+//! file of `--rules` with this crate.
 #![tactic(auto)]
 
 mod fault;

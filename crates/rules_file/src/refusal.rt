@@ -14,11 +14,11 @@ pub enum RuleKey {
     Name,
     Holds,
     Field,
-    /// The one of `less`, `equal` and `greater` that a comparison has.
+    /// That of `less`, `equal` and `greater` which a comparison has.
     Number,
 }
 
-/// The key in quotes, as a rules file has it.
+/// The key in quotes, as it is written in a rules file.
 impl fmt::Display for RuleKey {
     fn fmt<W: fmt::Write>(&self, f: &mut fmt::Formatter<W>) -> fmt::Result {
         match self {
@@ -31,7 +31,7 @@ impl fmt::Display for RuleKey {
     }
 }
 
-/// Why a rule, or the text around the rules, is refused, and at which key.
+/// Why a rule, or the text outside the rules, is refused, and at which key.
 #[derive(Clone, Copy, Debug, Drop)]
 pub(crate) struct RuleRefusal {
     pub(crate) fault: RuleFault,
@@ -57,10 +57,10 @@ impl RuleRefusal {
     }
 }
 
-/// Why a text was not read as rules, and at which key.
+/// Why the rules of a text could not be read, and at which key.
 ///
-/// `key` is the key at which the walk over the text stops: the key that is missing, or that of `name`, `field`, `less`, `equal` and
-/// `greater` whose value is refused. It is None for each other fault.
+/// `key` is the key at which the walk over the text stops: the key that is missing, or the key among `name`, `field`, `less`, `equal` and
+/// `greater` whose value is refused. It is None for every other fault.
 #[derive(Clone, Copy, Debug, Drop, PartialEq, Eq)]
 pub struct RulesRefusal {
     pub fault: RulesFault,
@@ -76,7 +76,7 @@ impl RulesRefusal {
     }
 }
 
-/// The refusal in words. A rule has its number, counted from 0, and which `[[rule]]` of the file it is, counted from 1.
+/// The refusal in words. A rule is shown by its number, counted from 0, and by which `[[rule]]` of the file it is, counted from 1.
 impl fmt::Display for RulesRefusal {
     fn fmt<W: fmt::Write>(&self, f: &mut fmt::Formatter<W>) -> fmt::Result {
         match self.fault {

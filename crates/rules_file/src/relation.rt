@@ -17,7 +17,7 @@ use std::alloc::Global;
 use toml::{Table, Value};
 use user_rules::Relation;
 
-/// How relations are put together.
+/// How relations are combined.
 #[derive(Clone, Copy)]
 enum Join {
     And,
@@ -26,7 +26,7 @@ enum Join {
 
 /// The relation that a value describes, with at most this many levels.
 ///
-/// There is none where memory ran out, and then the value has been judged to its end all the same.
+/// There is none if memory ran out; even then the whole value has been judged.
 #[cycle(relation)]
 #[tactic(auto, unfolding(crate::specs::Relations::relation_in))]
 pub(crate) fn read_relation(
@@ -65,7 +65,7 @@ fn relation_under(alloc: Global, keys: &Table, levels: u8) -> Result<Option<Rela
     Ok(Some(comparison(keys)?))
 }
 
-// The relation that holds where the one that a value describes does not.
+// The relation that holds exactly if the one that a value describes does not.
 #[cycle(relation)]
 fn negated(alloc: Global, value: &Value, levels: u8) -> Result<Option<Relation>, RuleRefusal>
     ensures { Builds meets result (negated_in (relation_in levels) (view value.now)) }
@@ -77,7 +77,7 @@ fn negated(alloc: Global, value: &Value, levels: u8) -> Result<Option<Relation>,
     }
 }
 
-// The relations of a list of 1 to 64, put together.
+// The relations of a list of 1 to 64, combined.
 #[cycle(relation)]
 #[tactic(auto, using(crate::proofs::Counts::items_counted))]
 fn joined_in(
@@ -95,7 +95,7 @@ fn joined_in(
     joined(alloc, items, join, levels)
 }
 
-// These relations, put together one after the other.
+// These relations, combined one after the other.
 #[cycle(relation)]
 fn joined(
     alloc: Global,
@@ -117,7 +117,7 @@ fn joined(
     Ok(put_together(alloc, join, first, others))
 }
 
-// Two relations put together.
+// Two relations combined.
 fn put_together(
     alloc: Global,
     join: Join,

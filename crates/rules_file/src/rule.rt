@@ -14,7 +14,7 @@ use std::alloc::Global;
 use toml::{Table, Value};
 use user_rules::Relation;
 
-/// A rule with its name, of 1 to 64 bytes of printable ASCII, and the relation that has to hold of each view.
+/// A rule with its name, of 1 to 64 bytes of printable ASCII, and the relation that must hold for each view.
 #[derive(Debug, Drop)]
 pub struct NamedRule {
     pub name: String,
@@ -22,7 +22,7 @@ pub struct NamedRule {
 }
 
 impl NamedRule {
-    /// The rule that a value describes; none where memory ran out.
+    /// The rule that a value describes; none if memory ran out.
     pub(crate) fn read(alloc: Global, value: &Value) -> Result<Option<NamedRule>, RuleRefusal>
         ensures { Builds said result (rule_in (view value.now)) }
     {
@@ -44,7 +44,7 @@ impl NamedRule {
     }
 }
 
-// A relation under a name.
+// A relation with a name.
 fn named(alloc: Global, name: &str, relation: Option<Relation>) -> Option<NamedRule>
     ensures { IfSome result (λ rule. (string_bytes rule.name ≡ name.now) × (relation ≡ Some rule.relation)) }
 {

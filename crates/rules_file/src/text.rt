@@ -18,10 +18,10 @@ use std::alloc::Global;
 use toml::de::Error;
 use toml::{Table, Value};
 
-/// Reads the rules that a text gives, in TOML, in its order.
+/// Reads the rules that a TOML text gives, in its order.
 ///
-/// Every fault but `Memory` is the first that the text has: a text above 1,048,576 bytes is `TooMany`, then comes `NotToml`,
-/// then the list of rules, then each rule in turn. Once the text is a table, each rule is judged whatever memory there is.
+/// Every fault but `Memory` is the first in the text: `TooMany` for a text above 1,048,576 bytes, then `NotToml`, then the list of rules,
+/// then each rule in turn. Once the text is a table, each rule is judged however little memory there is.
 pub fn read(alloc: Global, text: &[u8]) -> Result<Vec<NamedRule>, RulesFault>
     ensures value { Gives Memory (λ rules. map said rules.items) result (rules_of text.now) }
     ensures too_long { LONGEST_RULES_FILE < length text.now → result ≡ Err (File TooMany) }
@@ -34,7 +34,7 @@ pub fn read(alloc: Global, text: &[u8]) -> Result<Vec<NamedRule>, RulesFault>
 
 /// Reads the rules that a text gives, as `read` does. A refusal has the key at which the walk over the text stops.
 ///
-/// The fault of the refusal is the one of `read`, and so is the number of the rule that has it.
+/// The fault of the refusal is that of `read`, and so is the number of the rule that has it.
 pub fn read_explained(alloc: Global, text: &[u8]) -> Result<Vec<NamedRule>, RulesRefusal>
     ensures value { GivesPlaced (λ rules. map said rules.items) result (walk_of text.now) }
     ensures too_long { LONGEST_RULES_FILE < length text.now → result ≡ Err (keyless (File TooMany)) }
@@ -48,7 +48,7 @@ pub fn read_explained(alloc: Global, text: &[u8]) -> Result<Vec<NamedRule>, Rule
     }
 }
 
-// Why a text was not read as a table.
+// Why a text is not a table.
 fn text_fault(fault: &Error) -> RulesFault
     ensures memory { (result ≡ Memory) ↔ IsMemory fault.now }
     ensures not_toml { (result ≡ File NotToml) ↔ (¬ IsMemory fault.now) }
@@ -87,7 +87,7 @@ fn listed_under<'a>(keys: &'a Table) -> Result<&'a [Value], RuleRefusal>
     Ok(items)
 }
 
-// The rules that the items of a list describe. Where memory runs out the rules after are judged all the same.
+// The rules that the items of a list describe. If memory runs out, the rules after that are judged all the same.
 fn rules_from(alloc: Global, items: &[Value]) -> Result<Vec<NamedRule>, RulesRefusal>
     ensures value { GivesPlaced (λ rules. map said rules.items) result (rules_from 0 (items_view items.now)) }
     ensures refused { IfErr (rules_from 0 (items_view items.now)) (λ refusal. result ≡ Err refusal) }
@@ -113,7 +113,7 @@ fn rules_from(alloc: Global, items: &[Value]) -> Result<Vec<NamedRule>, RulesRef
     }
 }
 
-// Rules with one more after them.
+// Rules followed by one more.
 fn added(rules: Option<Vec<NamedRule>>, rule: Option<NamedRule>) -> Option<Vec<NamedRule>>
     ensures { IsAdded rules rule result }
 {

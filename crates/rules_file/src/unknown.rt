@@ -1,4 +1,4 @@
-// The word that names no field, for the person who wrote it.
+// The word that is not the name of a field, for the person who wrote it.
 
 ghost use Rattle.std.specs.Prelude.{◌≡◌, IfSome, None, string_bytes};
 ghost use Rattle.rules_file.specs.Names.{field_named};
@@ -8,9 +8,10 @@ use apex_types::limits::MOST_LEVELS;
 use std::alloc::Global;
 use toml::{Table, Value};
 
-/// The word that names no field, where the rule of this number, counted from 0, is refused for it: the first under `field`.
+/// The word that is not the name of a field, if the rule of this number, counted from 0, is refused for it: the first such word under
+/// `field`.
 ///
-/// None where the rule has no such word, or memory is refused. The text is read once more.
+/// None if the rule has no such word, or memory is refused. The text is read again.
 pub fn unknown_field(alloc: Global, text: &[u8], rule: usize) -> Option<String>
     ensures { IfSome result (λ word. field_named (string_bytes word) ≡ None) }
 {
@@ -50,7 +51,7 @@ fn unknown_in<'a>(value: &'a Value, levels: u8) -> Option<&'a str>
     }
 }
 
-// The relations that a table puts together, if it does.
+// The relations that a table combines, if it does.
 fn joined_items<'a>(keys: &'a Table) -> Option<&'a [Value]> {
     let list = match keys.get("and") {
         Some(list) => list,

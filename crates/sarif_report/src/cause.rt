@@ -2,7 +2,7 @@
 
 use apex_types::Cause;
 
-/// The name of a cause, as the report has it.
+/// The name of a cause in the report.
 pub fn name_of_cause(cause: Cause) -> &'static str {
     match cause {
         Cause::Names => "Names",
@@ -27,11 +27,11 @@ pub fn help_of_cause(cause: Cause) -> &'static str {
         Cause::Names => "A record names only partitions and channels that are configured.",
         Cause::Skew => "A tick leaves its core at most the skew ahead of every other core.",
         Cause::Idle => {
-            "Outside every window of its core, a record is no call, no return, no dispatch of a process and no tick of an occupied core."
+            "Outside every window, a core has no calls, no returns, no dispatches of a process and no ticks while it is occupied."
         }
         Cause::Window => "A call or a return is in a window of its own partition.",
         Cause::Choice => {
-            "A dispatch names the choice of its core; at every other record the occupant is the choice, and the record is of the occupant."
+            "A dispatch names the choice of its core. At every other record, the occupant is the choice, and a call or a return is the occupant's."
         }
         Cause::Return => {
             "A process returns from its last call before it makes another, and only from that call."

@@ -1,6 +1,6 @@
-// What a log tells of the outcome of a check.
+// What a log says of the outcome of a check.
 
-/// The rule of a result: its identifier, what it demands, and where the documents have it.
+/// The rule of a result: its identifier, what it demands, and where the documents describe it.
 #[derive(Clone, Copy, Debug)]
 pub struct ResultRule<'a> {
     pub id: &'a str,
@@ -8,14 +8,14 @@ pub struct ResultRule<'a> {
     pub section: &'a str,
 }
 
-/// A place in a file: the line, counted from 1, where it is known.
+/// A place in a file: the line, counted from 1, if it is known.
 #[derive(Clone, Copy, Debug)]
 pub struct Location<'a> {
     pub file: &'a str,
     pub line: Option<u64>,
 }
 
-/// The one result of a check that has no Yes.
+/// The one result of a check whose answer is not Yes.
 #[derive(Clone, Copy, Debug)]
 pub struct Finding<'a> {
     pub rule: ResultRule<'a>,

@@ -8,9 +8,9 @@ use std::alloc::{AllocError, Global};
 const SCHEMA: &str =
     "https://docs.oasis-open.org/sarif/sarif/v2.1.0/os/schemas/sarif-schema-2.1.0.json";
 
-/// The text of a log with one run: of this version of the program, which ended with this exit status. It has the result, if there is
-/// one, with the records before it, the earliest first; and a notice of what kept the records from being judged, where that is no
-/// result. It ends with a line feed.
+/// The text of a log with one run: a run of this version of the program, which ended with this exit status. The log has the result, if
+/// there is one, with the records before it, the earliest first. It has a notice of what kept the records from being judged, if that is not
+/// a result. It ends with a line feed.
 pub fn log_text(
     alloc: Global,
     version: &str,
@@ -40,7 +40,7 @@ pub fn log_text(
     Ok(text)
 }
 
-// How the program ended. It succeeded where it judged the records: with a Yes or a No.
+// How the program ended. It succeeded if it judged the records: with a Yes or a No.
 fn invocation_of(alloc: Global, status: u8, notice: Option<&str>) -> Result<Value, AllocError> {
     let mut notices = Vec::new(alloc);
     if let Some(text) = notice {

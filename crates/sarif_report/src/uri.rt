@@ -3,7 +3,7 @@
 use percent_encoding::{AsciiSet, NON_ALPHANUMERIC, utf8_percent_encode};
 use std::alloc::{AllocError, Global};
 
-// The reference of a file: that of an absolute name has the scheme `file`, and another name is relative.
+// The reference of a file: an absolute name gets the scheme `file`, and any other name is relative.
 pub fn uri_of(alloc: Global, file: &str) -> Result<String, AllocError> {
     let mut uri = String::new(alloc);
     if file.starts_with("/") {
@@ -13,7 +13,7 @@ pub fn uri_of(alloc: Global, file: &str) -> Result<String, AllocError> {
     Ok(uri)
 }
 
-// What is escaped: all but letters, digits, the marks that need no escape, and the slashes between folders.
+// What is escaped: everything but letters, digits, the marks that need no escape, and the slashes between folders.
 fn escaped() -> AsciiSet {
     NON_ALPHANUMERIC
         .remove(b'-')

@@ -8,7 +8,7 @@ use Rattle.apex_machine.specs.State.{Event}
 use Rattle.wait_set.specs.declared.object.Actor.{Actor}
 use Rattle.wait_set.specs.Actors.{joined_by, left_by}
 
--- those who wait after an operation: WAIT_EVENT adds a caller that waits
+-- the processes that wait after an operation: WAIT_EVENT adds a caller that waits
 abbrev pub waiters_after : Actor → EventOperation → Claim → List Entry → List Entry
 waiters_after actor EventOperation.Set claim entries = left_by claim entries
 waiters_after actor EventOperation.Reset claim entries = left_by claim entries

@@ -8,7 +8,7 @@ use Rattle.apex_machine.specs.State.{Semaphore}
 use Rattle.wait_set.specs.declared.object.Actor.{Actor}
 use Rattle.wait_set.specs.Actors.{joined_by, left_by}
 
--- those who wait after an operation: WAIT_SEMAPHORE adds a caller that waits
+-- the processes that wait after an operation: WAIT_SEMAPHORE adds a caller that waits
 abbrev pub waiters_after : Actor → SemaphoreOperation → Claim → List Entry → List Entry
 waiters_after actor (SemaphoreOperation.Wait time_out) claim entries = joined_by actor claim [] entries
 waiters_after actor SemaphoreOperation.Signal claim entries = left_by claim entries

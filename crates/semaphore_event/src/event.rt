@@ -12,7 +12,7 @@ use std::alloc::{AllocError, Global};
 use std::marker::Model;
 use wait_set::{Actor, ApexObject, Given, Named, Owners, WaitSet};
 
-/// An event: whether it is up, and those that wait for it.
+/// An event: whether it is up, and the processes that wait for it.
 #[derive(Drop)]
 pub struct Event {
     name: Name,
@@ -29,7 +29,7 @@ impl Model for Event {
 }
 
 impl Event {
-    /// The event that is down, and for which nobody waits. Takes no memory.
+    /// The event that is down, for which no process waits. Takes no memory.
     pub fn new(alloc: Global, name: Name) -> Event
         ensures { result ≡ record { name = name; up = false; waiters = [] } }
     {
@@ -47,14 +47,14 @@ impl Event {
         self.up
     }
 
-    /// Those that wait for it.
+    /// The processes that wait for it.
     pub fn waiters(&self) -> &WaitSet
         ensures { result.now.entries ≡ self.now.waiters }
     {
         &self.waiters
     }
 
-    /// GET_EVENT_STATUS: whether it is up, and how many wait. Takes no memory.
+    /// GET_EVENT_STATUS: whether it is up, and how many processes wait. Takes no memory.
     pub fn status(&self) -> Status
         ensures { result ≡ event_status self.now }
     {
@@ -87,10 +87,10 @@ impl ApexObject for Event {
 
     fn answer(&self, _actor: &Actor, operation: &EventOperation) -> Given<'_> {
         match operation {
-            // The event is up, and all who wait for it go on.
+            // The event goes up, and every waiter wakes.
             EventOperation::Set => Given::waking_all(&self.waiters),
             EventOperation::Reset => Given::done(),
-            // An event that is up lets its caller go on; else the caller waits.
+            // If the event is up, the caller goes on; else the call is unmet.
             EventOperation::Wait { .. } if self.up => Given::done(),
             EventOperation::Wait { time_out } => Given::unmet(*time_out),
         }

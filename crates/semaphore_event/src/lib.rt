@@ -1,10 +1,10 @@
-//! Counting semaphores and events, each with its operations as the definitions have them.
+//! Counting semaphores and events, each with the operations of the definitions.
 //!
-//! Promises: a semaphore and an event are seen as the definitions' own; an operation on one is accepted exactly where the
-//! claim is what the definitions' rule gives its caller, and leaves the object that the rule leaves, its waiting set too;
-//! else nothing has changed.
+//! Promises: contracts see a semaphore and an event as those of the definitions. An operation on one is accepted exactly if the claim is
+//! what the definitions' rule gives its caller, and leaves the object that the rule leaves, including its waiting set; else nothing has
+//! changed.
 //!
-//! An object needs no partition around it. A recording of a single lock can be judged by a semaphore alone:
+//! An object requires no partition. A semaphore alone can judge a recording of a single lock:
 //!
 //! ```text
 //! let mut lock = Semaphore::new(alloc, name, 1, 1, Discipline::Fifo);
@@ -20,7 +20,9 @@
 //! lock.apply(first, &signal, &wakes_second)?;  // its caller goes on
 //! ```
 //!
-//! A caller that is killed leaves by `leave`. Whether an error condition holds of a call is judged before its operation is applied.
+//! A caller that is killed leaves by `leave`. Whether an error condition holds for a call is judged before its operation is applied.
+//!
+//! An object knows no partition, and contracts see its name too. What it reports of itself is a `Status` (`status`).
 #![tactic(auto)]
 
 mod event;

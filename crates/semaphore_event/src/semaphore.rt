@@ -14,7 +14,7 @@ use std::alloc::{AllocError, Global};
 use std::marker::Model;
 use wait_set::{Actor, ApexObject, Given, Named, Owners, WaitSet};
 
-/// A counting semaphore: its value, its maximum, and those that wait.
+/// A counting semaphore: its value, its maximum, and the processes that wait.
 #[derive(Drop)]
 pub struct Semaphore {
     name: Name,
@@ -32,7 +32,7 @@ impl Model for Semaphore {
 }
 
 impl Semaphore {
-    /// The semaphore of this value, at which nobody waits. Takes no memory.
+    /// The semaphore of this value, at which no process waits. Takes no memory.
     pub fn new(
         alloc: Global,
         name: Name,
@@ -64,7 +64,7 @@ impl Semaphore {
         self.maximum
     }
 
-    /// Those that wait for it.
+    /// The processes that wait for it.
     pub fn waiters(&self) -> &WaitSet
         ensures discipline { result.now.discipline ≡ self.now.discipline }
         ensures entries { result.now.entries ≡ self.now.waiters }
@@ -72,7 +72,7 @@ impl Semaphore {
         &self.waiters
     }
 
-    /// GET_SEMAPHORE_STATUS: its value, and how many wait. Takes no memory.
+    /// GET_SEMAPHORE_STATUS: its value, and how many processes wait. Takes no memory.
     pub fn status(&self) -> Status
         ensures { result ≡ semaphore_status self.now }
     {
@@ -105,10 +105,10 @@ impl ApexObject for Semaphore {
 
     fn answer(&self, _actor: &Actor, operation: &SemaphoreOperation) -> Given<'_> {
         match operation {
-            // One is taken of a value above 0; else the caller waits.
+            // A value above 0 falls by one; else the call is unmet.
             SemaphoreOperation::Wait { .. } if self.value > 0 => Given::done(),
             SemaphoreOperation::Wait { time_out } => Given::unmet(*time_out),
-            // The first who waits goes on; else one is added; at the maximum nothing is done.
+            // The first waiter wakes; else the value rises by one; at the maximum nothing is done.
             SemaphoreOperation::Signal => {
                 let first = self.waiters.first().map(|entry| entry.who);
                 if first.is_some() || self.value < self.maximum {

@@ -1,12 +1,12 @@
--- What a sink over a writer tells of the bytes that went out.
+-- What a sink over a writer shows of the bytes that went out.
 use Rattle.std.specs.Prelude.{ℕ, List, Option, Some, None, ⊤}
 
--- what contracts see of a sink over a writer: the bytes that the writer holds, where they are known, and how often it failed
+-- what contracts see of a sink over a writer: the bytes that the writer holds, if they are known, and how often it failed
 pub record WriterView : Type 0 where
   pub bytes : Option (List ℕ)
   pub failures : ℕ
 
--- the bytes that a writer holds now, where it reported them from the first on
+-- the bytes that a writer holds now, if it has reported them from the first on
 abbrev pub held_since : Option (List ℕ) → Option (List ℕ) → Option (List ℕ)
 held_since None now = None
 held_since (Some first) now = now

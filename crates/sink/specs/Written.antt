@@ -1,4 +1,4 @@
--- What of a text went out in the end.
+-- How much of a text went out in the end.
 use Rattle.std.specs.Prelude.{◌≡◌, ◌++◌, ℕ, List, [], ◌∷◌, Option}
 use Rattle.std.specs.Borrow.{Bor}
 use Rattle.sink.specs.Taken.{with_more}

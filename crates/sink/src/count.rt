@@ -1,13 +1,13 @@
-// A count of failures that contracts alone see.
+// A count of failures that only contracts see.
 
 ghost use Rattle.std.specs.Prelude.{◌≡◌, ◌+◌, ℕ};
 ghost use Rattle.std.specs.Borrow.{ftrue};
 
 use std::marker::Model;
 
-/// How often a sink failed: a number that contracts alone see, so that it has no last value and takes no memory.
+/// How often a sink failed: a number that only contracts see, so that it has no greatest value and takes no memory.
 ///
-/// A sink of its own keeps one, tells it as its failures, and puts `raised` in its place at each failure.
+/// A sink that a caller defines keeps one, reports it as its failures, and replaces it by `raised` at each failure.
 #[derive(Drop)]
 pub struct FailureCount {
     pub ghost count: { ℕ },

@@ -1,7 +1,9 @@
-//! Where a report's text goes, piece by piece, into what may fail at any of them.
+//! Where a report's text goes, piece by piece, although each piece may fail.
 //!
-//! Promises: a text that is answered as written went out whole and met no failure; where it is not, its first bytes
-//! went out and no others, and the sink failed at least once more. A program's writer is such a sink.
+//! Promises: a text that is reported as written went out whole and met no failure. If it is not, its first bytes went out and no others,
+//! and the sink failed at least once more. A program's writer is such a sink.
+//!
+//! The bytes of a program's writer are those that the writer reports. A write that a signal interrupts is tried again.
 #![tactic(auto)]
 
 mod count;

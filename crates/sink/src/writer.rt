@@ -1,4 +1,4 @@
-// A program's writer, as standard output, in the place of a sink.
+// A program's writer, such as standard output, as a sink.
 
 ghost use Rattle.std.specs.Prelude.{◌≡◌, ◌<◌, OnErr, OnOk};
 ghost use Rattle.std.specs.Io.{WritesAtMost};
@@ -13,13 +13,13 @@ use std::io::{ErrorKind, Write};
 use std::marker::Model;
 use std::snapshot::Snapshot;
 
-/// A sink that hands its bytes to a writer, as standard output is one.
+/// A sink that hands its bytes to a writer, such as standard output.
 ///
-/// Its bytes are those that the writer tells, as one in memory does. No contract says what a file or a terminal takes.
+/// Its bytes are those that the writer reports, as a writer in memory does. No contract says what a file or a terminal takes.
 #[derive(Drop)]
 pub struct WriterSink<W: Write> {
     writer: W,
-    // The writer as it was given, which contracts alone see.
+    // The writer as it was given, which only contracts see.
     first: Snapshot<W>,
     failures: FailureCount,
 }
@@ -33,7 +33,7 @@ impl<W: Write> Model for WriterSink<W> {
 }
 
 impl<W: Write + Drop> WriterSink<W> {
-    /// A sink that hands its bytes to `writer`, and has not failed.
+    /// A sink that hands its bytes to `writer`, and has not failed yet.
     pub fn new(writer: W) -> WriterSink<W>
         ensures bytes { result.bytes ≡ W.contents writer }
         ensures unfailed { result.failures ≡ 0 }
@@ -45,11 +45,11 @@ impl<W: Write + Drop> WriterSink<W> {
         }
     }
 
-    /// Has the writer hand on all that it took.
+    /// Makes the writer pass on everything that it took.
     ///
     /// # Errors
     ///
-    /// `WriteFault` where the writer failed.
+    /// `WriteFault` if the writer failed.
     pub fn flush(&mut self) -> Result<(), WriteFault>
         ensures bytes { self.new.bytes ≡ self.old.bytes }
         ensures same { OnOk result (self.new.failures ≡ self.old.failures) }
@@ -83,7 +83,7 @@ impl<W: Write + Drop> Sink for WriterSink<W> {
     }
 }
 
-// One write, which is tried again where a signal interrupts it.
+// One write, which is retried if a signal interrupts it.
 fn write_retrying<W: Write>(writer: &mut W, piece: &[u8]) -> io::Result<usize>
     ensures bound { WritesAtMost result piece.now }
     ensures bytes { WriteAppends (W.contents writer.old) (W.contents writer.new) result piece.now }

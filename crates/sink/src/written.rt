@@ -1,4 +1,4 @@
-// Texts that are put out whole.
+// Texts that are written whole.
 
 ghost use Rattle.std.specs.Prelude.{◌≡◌, ◌<◌, OnOk, OnErr};
 ghost use Rattle.sink.specs.Written.{IsWritten, IsCut, joined};
@@ -9,11 +9,11 @@ use crate::output::Sink;
 #[derive(Clone, Copy, Debug, PartialEq, Eq)]
 pub struct WriteFault;
 
-/// Puts out all bytes of `text`.
+/// Writes all bytes of `text`.
 ///
 /// # Errors
 ///
-/// `WriteFault` where the sink failed. Then the first bytes of the text went out, and no others.
+/// `WriteFault` if the sink failed. Then the first bytes of the text went out, and no others.
 pub fn put_all<W: Sink>(w: &mut W, text: &[u8]) -> Result<(), WriteFault>
     ensures whole { OnOk result (IsWritten (W.bytes w.old) text.now (W.bytes w.new)) }
     ensures same { OnOk result (W.failures w.new ≡ W.failures w.old) }
@@ -31,11 +31,11 @@ pub fn put_all<W: Sink>(w: &mut W, text: &[u8]) -> Result<(), WriteFault>
     Ok(())
 }
 
-/// Puts out all bytes of each of `parts`, in their order.
+/// Writes all bytes of each of `parts`, in their order.
 ///
 /// # Errors
 ///
-/// `WriteFault` where the sink failed. Then the first bytes of the joined parts went out, and no others.
+/// `WriteFault` if the sink failed. Then the first bytes of the joined parts went out, and no others.
 pub fn put_parts<W: Sink>(w: &mut W, parts: &[&[u8]]) -> Result<(), WriteFault>
     ensures whole { OnOk result (IsWritten (W.bytes w.old) (joined parts.now) (W.bytes w.new)) }
     ensures same { OnOk result (W.failures w.new ≡ W.failures w.old) }

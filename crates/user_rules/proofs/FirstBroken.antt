@@ -11,7 +11,7 @@ use Rattle.std.specs.List.{All, list_all, position, position_or_len}
 use Rattle.apex_types.specs.declared.view.View.{View}
 use Rattle.user_rules.specs.declared.broken.Broken.{Broken}
 use Rattle.user_rules.specs.declared.relation.Relation.{Relation}
-use Rattle.user_rules.specs.FirstBroken.{IsFirstBroken, IsFirstRuleBroken, IsFirstViewBroken, MeetsAll, behind}
+use Rattle.user_rules.specs.FirstBroken.{IsFirstBroken, IsFirstRuleBroken, IsFirstViewBroken, MeetsAll, moved_by}
 use Rattle.user_rules.specs.Meets.{meets}
 use Rattle.user_rules.specs.Search.{IsFirstRule, IsFirstView, breaks_one}
 use Rattle.user_rules.proofs.Firsts.{all_more, none_lacks, one_split}
@@ -58,10 +58,10 @@ one_first_broken relations views (Some one) (Some other) first second = ap Some 
 
 -- lists of views, one after another
 
-pub first_broken_behind : (relations : List Relation) (front back : List View) (found : Option Broken)
-    → All (MeetsAll relations) front → IsFirstBroken relations back found → IsFirstBroken relations (front ++ back) (behind (length front) found)
-first_broken_behind relations front back None all others_all = All-append (MeetsAll relations) front back all others_all
-first_broken_behind relations front back (Some broken) all first = record {
+pub first_broken_after : (relations : List Relation) (front back : List View) (found : Option Broken)
+    → All (MeetsAll relations) front → IsFirstBroken relations back found → IsFirstBroken relations (front ++ back) (moved_by (length front) found)
+first_broken_after relations front back None all others_all = All-append (MeetsAll relations) front back all others_all
+first_broken_after relations front back (Some broken) all first = record {
   before = front ++ first.before;
   view = first.view;
   after = first.after;
@@ -85,7 +85,7 @@ first_broken_stays relations front back broken first = record {
 
 -- how it is found
 
--- a rule that is unmet, where all before its place are met
+-- a rule that is unmet, if all before its place are met
 pub rule_here : (relations : List Relation) (view : View) (rule : ℕ) (default : Relation) → rule < length relations → MeetsAll (take rule relations) view
     → meets (get_or relations rule default) view ≡ false → IsFirstRuleBroken relations view rule
 rule_here relations view rule default within met unmet = record {
@@ -98,7 +98,7 @@ rule_here relations view rule default within met unmet = record {
   unmet = unmet;
 }
 
--- a view that breaks a rule, where all before its place meet every rule
+-- a view that breaks a rule, if all before its place meet every rule
 pub view_here : (relations : List Relation) (views : List View) (place rule : ℕ) (default : View) → place < length views → All (MeetsAll relations) (take place views)
     → IsFirstRuleBroken relations (get_or views place default) rule → IsFirstViewBroken relations views (record { view = place; rule = rule })
 view_here relations views place rule default within met first = record {
@@ -140,7 +140,7 @@ module _ {Stated : Type 0} (says : Stated → Relation) where
       (take_all place (map says rules) (subst (λ count. count ≤ place) (sym (length-map rules says)) whole)) met
 
 module _ {X : Type 0} (p : X → Bool) (list : List X) where
-  -- where a search finds nothing, no element passes
+  -- if a search finds nothing, no element passes
   none_passes : position p list ≡ None → (place : ℕ) (default : X) → place < length list → p (get_or list place default) ≡ false
   none_passes none place default within = fails_before_first p list place default (by (nat_lt (position_or_len p list) (length list)) refl none)
     where

@@ -5,8 +5,8 @@ use Rattle.std.proofs.lemmas.List.Elements.{All-append, All-cons, All-nil}
 use Rattle.std.specs.List.{All}
 
 module _ {X : Type 0} (Holds : X → Type 0) where
-  pub all_behind : (one : X) (others : List X) → All Holds (one ∷ others) → All Holds others
-  all_behind one others all = λ place default within. all (suc place) default (omega arith)
+  pub all_after : (one : X) (others : List X) → All Holds (one ∷ others) → All Holds others
+  all_after one others all = λ place default within. all (suc place) default (omega arith)
 
   -- what holds up to a place, and at it, holds up to the next
   pub all_more : (list : List X) (place : ℕ) (default : X) → place < length list → All Holds (take place list) → Holds (get_or list place default)
@@ -15,11 +15,11 @@ module _ {X : Type 0} (Holds : X → Type 0) where
       subst (All Holds) (sym (take_more list place default within))
       (All-append Holds (take place list) (get_or list place default ∷ []) all (All-cons Holds _ [] here (All-nil Holds)))
 
-  -- where it holds of all, no element lacks it
+  -- if it holds for all, no element lacks it
   pub none_lacks : (before : List X) (one : X) (after list : List X) → list ≡ before ++ one ∷ after → All Holds list → Holds one
   none_lacks [] one after list split all = subst (All Holds) split all 0 one (omega arith)
   none_lacks (first ∷ before) one after list split all =
-      none_lacks before one after (before ++ one ∷ after) refl (all_behind first _ (subst (All Holds) split all))
+      none_lacks before one after (before ++ one ∷ after) refl (all_after first _ (subst (All Holds) split all))
 
   -- a list is split at the first that lacks it in one way alone
   pub one_split : (before : List X) (one : X) (after others_before : List X) (other : X) (others_after : List X)
@@ -36,6 +36,6 @@ module _ {X : Type 0} (Holds : X → Type 0) where
       absurd (other_lacks (subst Holds head (all 0 first (omega arith))))
   one_split (first ∷ before) one after (second ∷ others_before) other others_after same all lacks others_all other_lacks =
       let tail : before ++ one ∷ after ≡ others_before ++ other ∷ others_after = cc in
-      let more = one_split before one after others_before other others_after tail (all_behind first before all) lacks
-      (all_behind second others_before others_all) other_lacks in
+      let more = one_split before one after others_before other others_after tail (all_after first before all) lacks
+      (all_after second others_before others_all) other_lacks in
       (ap suc more.0, more.1)

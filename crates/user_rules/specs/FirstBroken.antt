@@ -31,30 +31,30 @@ pub record IsFirstViewBroken (relations : List Relation) (views : List View) (br
   pub met : All (MeetsAll relations) before
   pub first : IsFirstRuleBroken relations view broken.rule
 
--- the first view that breaks a rule, and the first rule that it breaks; none where each view meets every rule
+-- the first view that breaks a rule, and the first rule that it breaks; none if each view meets every rule
 abbrev pub IsFirstBroken : List Relation → List View → Option Broken → Type 0
 IsFirstBroken relations views None = All (MeetsAll relations) views
 IsFirstBroken relations views (Some broken) = IsFirstViewBroken relations views broken
 
--- what was found, after so many views more
-abbrev pub behind : ℕ → Option Broken → Option Broken
-behind count found = option_map (λ broken. record { view = count + broken.view; rule = broken.rule }) found
+-- what was found, with this many more views before it
+abbrev pub moved_by : ℕ → Option Broken → Option Broken
+moved_by count found = option_map (λ broken. record { view = count + broken.view; rule = broken.rule }) found
 
 -- the laws
 
--- of views there is at most one that breaks a rule first, and one rule that it breaks first
+-- in a list of views, at most one breaks a rule first, and there is one rule that it breaks first
 abbrev pub OneFirstBroken : Type 0
 OneFirstBroken =
     (relations : List Relation) (views : List View) (one other : Option Broken)
     → IsFirstBroken relations views one → IsFirstBroken relations views other → one ≡ other
 
--- after views that meet every rule the first broken one is that of the views after them, counted on
-abbrev pub FirstBrokenBehind : Type 0
-FirstBrokenBehind =
+-- after views that meet every rule, the first broken view is that of the views after them, with the earlier views counted in
+abbrev pub FirstBrokenAfter : Type 0
+FirstBrokenAfter =
     (relations : List Relation) (front back : List View) (found : Option Broken)
-    → All (MeetsAll relations) front → IsFirstBroken relations back found → IsFirstBroken relations (front ++ back) (behind (length front) found)
+    → All (MeetsAll relations) front → IsFirstBroken relations back found → IsFirstBroken relations (front ++ back) (moved_by (length front) found)
 
--- a broken view stays the first, whatever comes after
+-- the first broken view stays the first, whatever views come after
 abbrev pub FirstBrokenStays : Type 0
 FirstBrokenStays =
     (relations : List Relation) (front back : List View) (broken : Broken)

@@ -6,7 +6,7 @@ use Rattle.apex_types.specs.Fields.{field_of}
 use Rattle.user_rules.specs.declared.relation.Relation.{Relation}
 use Rattle.user_rules.specs.declared.relation.Relation.TheVariants.{Less, Equal, Greater, And', Or', Not'}
 
--- whether a view meets a relation; of a relation in a box its place in memory says nothing
+-- whether a view meets a relation; where a box is in memory does not matter
 abbrev pub meets : Relation → View → Bool
 meets (Less field number) view = int_lt (field_of view field) number
 meets (Equal field number) view = int_eq (field_of view field) number

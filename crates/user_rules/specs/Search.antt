@@ -15,7 +15,7 @@ abbrev pub IsFirstRule : List Relation → View → Option ℕ → Type 0
 IsFirstRule relations view None = MeetsAll relations view
 IsFirstRule relations view (Some rule) = IsFirstRuleBroken relations view rule
 
--- the first view that breaks a rule, counted from 0, if one does: all views before it meet every rule, and it does not
+-- the first view that breaks a rule, counted from 0, if one does: all views before it meet every rule
 abbrev pub IsFirstView : List Relation → List View → Option ℕ → Type 0
 IsFirstView relations views None = All (MeetsAll relations) views
 IsFirstView relations views (Some place) =

@@ -17,11 +17,11 @@ pub struct Broken {
     pub rule: usize,
 }
 
-// How many tests, of one rule on one view each, are worth a thread of their own.
+// How many tests, each of one rule on one view, are worth a thread of their own.
 const TESTS_OF_A_THREAD: usize = 16_384;
 
-/// The first view that breaks a rule, and the first rule that it breaks; None where each view meets every rule. Several threads
-/// look where there is enough to look at, and each goes through its share to the end. Takes no memory.
+/// The first view that breaks a rule, and the first rule that it breaks; None if each view meets every rule. If there are enough views,
+/// several threads share the search, and each goes through its share to the end. Takes no memory.
 pub fn first_broken<R: Threads + Sync>(rt: &R, rules: &[Rule], views: &[View]) -> Option<Broken>
     ensures { IsFirstBroken (relations_of rules.now) views.now result }
 {
@@ -42,7 +42,7 @@ pub fn first_broken_in_turn(rules: &[Rule], views: &[View]) -> Option<Broken>
     None
 }
 
-// The place of the first view that breaks a rule, looked for in several threads.
+// The place of the first view that breaks a rule, found by several threads.
 fn first_view<R: Threads + Sync>(rt: &R, rules: &[Rule], views: &[View]) -> Option<usize>
     ensures { IsFirstView (relations_of rules.now) views.now result }
 {
@@ -63,7 +63,7 @@ fn breaks_one(rules: &[Rule], view: &View) -> bool
     first_rule_broken(rules, view).is_some()
 }
 
-/// The first rule that a view breaks, counted from 0; None where the view meets every rule. Takes no memory.
+/// The first rule that a view breaks, counted from 0; None if the view meets every rule. Takes no memory.
 pub fn first_rule_broken(rules: &[Rule], view: &View) -> Option<usize>
     ensures { IsFirstRule (relations_of rules.now) view.now result }
 {

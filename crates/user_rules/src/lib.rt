@@ -1,11 +1,16 @@
-//! Rules of a user over the views of records: a relation that has to hold of each, and the test that finds out.
+//! A user's rules over the views of records: relations that must hold for each view, and the tests that find out.
 //!
-//! Promises: a relation holds of a view exactly where the definitions say that the view meets it. A rule's test agrees with its
-//! relation, so what the tests find is said of the relations. Of a view the first rule is found that it breaks; of a list of views
-//! the first that breaks a rule, and the first rule that it breaks: by several threads or by one, the answer is the same.
+//! Promises: a relation holds for a view exactly if the definitions say that the view meets it. A rule's test agrees with its relation, so
+//! what the tests find is true of the relations. For a view, the first rule that it breaks is found; in a list of views, the first that
+//! breaks a rule, and the first rule that it breaks. The answer is the same with several threads as with one.
 //!
-//! A rule is made of any test that agrees with its relation. Whoever has no test of their own takes the relation itself, over a
-//! clone, and boxes it where the rule is made, since a function may not hand out a box that it made:
+//! A `Relation` compares fields of a view with numbers, and relations can be combined; a definition by cases says which views meet it. A
+//! `Rule` is a relation with a boxed test. It is made only if the two are proved to agree. No struct that holds rules can have a model of
+//! its own, so rules are lent as slices. `first_broken` shares the views among threads if the number of rules times views is worth it, and
+//! takes no memory. The pieces use `first_rule_broken`; the other two are for callers of the library.
+//!
+//! A rule is made of any test that agrees with its relation. A caller without a test of its own takes the relation itself, over a clone,
+//! and boxes it where the rule is made, since a function may not return a box that it made:
 //!
 //! ```text
 //! // No call is more than 5 ticks ahead of its return.
@@ -19,8 +24,8 @@
 //! first_rule_broken(&rules, &views[3]);   // Some(0)
 //! ```
 //!
-//! A list of views may be judged in parts: the first broken view stays the first whatever comes after (`first_broken_stays`),
-//! and after views that meet every rule it is that of the views after them (`first_broken_behind`).
+//! A list of views may be judged in parts: the first broken view stays the first whatever comes after (`first_broken_stays`), and after
+//! views that meet every rule it is that of the views after them (`first_broken_after`).
 #![tactic(auto)]
 
 mod broken;
@@ -29,6 +34,6 @@ mod relation;
 mod rule;
 
 pub use broken::{Broken, first_broken, first_broken_in_turn, first_rule_broken};
-pub use laws::{first_broken_behind, first_broken_stays, one_first_broken};
+pub use laws::{first_broken_after, first_broken_stays, one_first_broken};
 pub use relation::Relation;
 pub use rule::{Rule, Test};

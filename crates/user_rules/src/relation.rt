@@ -6,9 +6,9 @@ ghost use Rattle.user_rules.specs.Meets.{MeansTheSame, meets};
 use apex_types::{Field, View};
 use std::alloc::AllocError;
 
-/// What a user's rule says of a view: a field is compared with a number, and relations are put together.
+/// What a user's rule says of a view: a field is compared with a number, and relations are combined.
 ///
-/// A clone wants memory, and the same views meet it.
+/// A clone needs memory, and the same views meet it.
 #[derive(Debug, Drop)]
 pub enum Relation {
     /// The field is below the number.

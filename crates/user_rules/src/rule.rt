@@ -8,10 +8,10 @@ ghost use Rattle.user_rules.specs.Meets.{meets};
 use crate::relation::Relation;
 use apex_types::View;
 
-/// The test of a rule: what it answers of a view.
+/// The test of a rule: what it answers for a view.
 pub type Test = Box<dyn Fn(&View) -> bool + Send + Sync>;
 
-/// A relation that has to hold of each record's view, and the test that finds out.
+/// A relation that must hold for each record's view, and the test that finds out.
 #[derive(Drop)]
 pub struct Rule {
     pub relation: Relation,
@@ -23,8 +23,7 @@ pub struct Rule {
 }
 
 impl Rule {
-    /// The rule of a relation and of a test that agrees with it: what the test answers of a view is whether the view meets the
-    /// relation.
+    /// The rule of a relation and of a test that agrees with it: the test answers for a view whether the view meets the relation.
     pub fn new(relation: Relation, test: Test) -> Rule
         requires callable { Test.IsAlwaysCallable test }
         requires agrees { (view : Bor View) (answer : Bool) → Test.post test view answer → answer ≡ meets relation view.now }

@@ -11,9 +11,9 @@ Keeps configuration piece first records Fact =
     (index : ℕ) (ordered : Ordered) → index < length records → get_or records index ordered ≡ ordered → touches configuration piece ordered ≡ false
     → Fact (first + index) → Fact (first + suc index)
 
-keeps_behind : (configuration : Configuration) (piece : Piece) (first : ℕ) (ordered : Ordered) (others : List Ordered) (Fact : ℕ → Type 0)
+keeps_after : (configuration : Configuration) (piece : Piece) (first : ℕ) (ordered : Ordered) (others : List Ordered) (Fact : ℕ → Type 0)
     → Keeps configuration piece first (ordered ∷ others) Fact → Keeps configuration piece (suc first) others Fact
-keeps_behind configuration piece first ordered others Fact keeps = λ index one within is off fact.
+keeps_after configuration piece first ordered others Fact keeps = λ index one within is off fact.
     subst Fact (let e : first + suc (suc index) ≡ suc first + suc index = omega arith in e)
     (keeps (suc index) one (omega (arith, within)) is off (subst Fact (let e : suc first + index ≡ first + suc index = omega arith in e) fact))
 
@@ -23,7 +23,7 @@ to_first : (configuration : Configuration) (piece : Piece) (first end : ℕ) (re
 to_first configuration piece first end [] Fact is keeps fact = subst Fact (let e : first ≡ end = omega (arith, is) in e) fact
 to_first configuration piece first end (ordered ∷ others) Fact is keeps fact =
     by (touches configuration piece ordered) refl
-    (λ next. to_first configuration piece (suc first) end others Fact (omega (arith, is)) (keeps_behind configuration piece first ordered others Fact keeps) next)
+    (λ next. to_first configuration piece (suc first) end others Fact (omega (arith, is)) (keeps_after configuration piece first ordered others Fact keeps) next)
   where
     by : (touched : Bool) → touches configuration piece ordered ≡ touched → (Fact (suc first) → Fact (get_or (touching configuration piece (suc first) others) 0 end))
         → Fact (get_or (if touched then first ∷ touching configuration piece (suc first) others else touching configuration piece (suc first) others) 0 end)
@@ -39,8 +39,8 @@ to_next : (configuration : Configuration) (piece : Piece) (first outcome end : �
 to_next configuration piece first outcome end [] Fact is one keeps fact = absurd (omega (arith, one))
 to_next configuration piece first outcome end (ordered ∷ others) Fact is one keeps fact =
     by (touches configuration piece ordered) outcome one fact
-    (λ next. to_first configuration piece (suc first) end others Fact (omega (arith, is)) (keeps_behind configuration piece first ordered others Fact keeps) next)
-    (λ later there next. to_next configuration piece (suc first) later end others Fact (omega (arith, is)) there (keeps_behind configuration piece first ordered others Fact keeps) next)
+    (λ next. to_first configuration piece (suc first) end others Fact (omega (arith, is)) (keeps_after configuration piece first ordered others Fact keeps) next)
+    (λ later there next. to_next configuration piece (suc first) later end others Fact (omega (arith, is)) there (keeps_after configuration piece first ordered others Fact keeps) next)
   where
     rest : List ℕ
     rest = touching configuration piece (suc first) others

@@ -29,7 +29,7 @@ use Rattle.verdict_merge.proofs.Watching.{held_at, length_held, views_are_wanted
 
 -- what one piece sees
 
--- what is seen of one record stands at its index
+-- what is seen of one record is at its index
 seen_at : (given : Option View) (index : ℕ) (one : Seen) → Contains (seen_of given index) one → one.index ≡ index
 seen_at None index one there = absurd (contains_none one there)
 seen_at (Some view) index one there = elim (contains_cases (record { index = index; view = view }) one [] there) [
@@ -82,7 +82,7 @@ pub record IsBreachIn (configuration : Configuration) (parts : ℕ → Part) (re
   pub before : (index : ℕ) (view : View) → index < breach.seen.index → slot_at slots index ≡ Some view → MeetsAll relations view
   pub first : IsFirstRuleBroken relations breach.seen.view breach.rule
 
--- the first breach among the views in these slots; none where each meets every rule
+-- the first breach among the views in these slots; none if each meets every rule
 abbrev pub IsFirstIn : Configuration → (ℕ → Part) → List Relation → List Ordered → List (Option View) → Option Breach → Type 0
 IsFirstIn configuration parts relations records slots None = (index : ℕ) (view : View) → slot_at slots index ≡ Some view → MeetsAll relations view
 IsFirstIn configuration parts relations records slots (Some breach) = IsBreachIn configuration parts relations records slots breach
@@ -102,7 +102,7 @@ first_more configuration parts relations number records found seen slots old nex
     meets_at : (index : ℕ) (view : View) → slot_at (put_in seen slots) index ≡ Some view → ((one : View) → slot_at slots index ≡ Some one → MeetsAll relations one)
         → ((one : Seen) → Contains seen one → one.index ≡ index → MeetsAll relations one.view) → MeetsAll relations view
     meets_at index view held there here = elim (put_in_from seen slots index view have held) [
-      | inl stands ↦ there view stands
+      | inl is_shown ↦ there view is_shown
       | inr (one, among, at, same) ↦ subst (MeetsAll relations) same (here one among at)
     ]
 
@@ -174,7 +174,7 @@ module _ (configuration : Configuration) (parts : ℕ → Part) (relations : Lis
         λ index one less. held_at held.0 wanted slots held.1 index (get_or held.0 index one) (slice_get-get_or held.0 index one (omega (arith, less, counted))),
       )
 
-  -- where each of these views meets every rule
+  -- if each of these views meets every rule
   none_tested : (slots : List (Option View)) → length slots ≡ length records → AreSound configuration parts records slots
       → ((index : ℕ) → index < wanted → (view : View) × (slot_at slots index ≡ Some view))
       → ((index : ℕ) (view : View) → index < wanted → slot_at slots index ≡ Some view → MeetsAll relations view)
@@ -187,7 +187,7 @@ module _ (configuration : Configuration) (parts : ℕ → Part) (relations : Lis
         reported = tt;
       }
 
-  -- where one of them breaks a rule: its view is put into its slot
+  -- if one of them breaks a rule: its view is put into its slot
   one_tested : (slots : List (Option View)) (breach : Breach) → length slots ≡ length records → AreSound configuration parts records slots
       → ((index : ℕ) → index < wanted → (view : View) × (slot_at slots index ≡ Some view))
       → IsBreachIn configuration parts relations records slots breach → breach.seen.index < wanted

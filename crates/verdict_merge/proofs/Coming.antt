@@ -37,7 +37,7 @@ take_on : (records : List Ordered) (index : ℕ) (ordered : Ordered) → index <
 take_on records index ordered within is =
     ap (λ n. take n records) (sym (add-one index)) ∙ take_more records index ordered within ∙ ap (λ one. take index records ++ one ∷ []) is
 
--- what is seen where one more record is judged
+-- what is seen if one more record is judged
 seen_more : (configuration : Configuration) (piece : Piece) (old now next : Part) (records : List Ordered) (index : ℕ) (ordered : Ordered) (seen : List Seen)
     → index < length records → take (suc index) records ≡ take index records ++ ordered ∷ []
     → PieceRun configuration piece old (take index records) now → Goes (touches configuration piece ordered) configuration now ordered next
@@ -101,8 +101,8 @@ come_nowhere configuration number old records of_module whose = record {
   holds_before = λ place placed above. HoldsBefore_later place (place + 0) old.part (omega arith) above;
 }
 
--- where the record stands that comes after so many of a piece's list: it is the next that touches the piece
-pub record Stands (configuration : Configuration) (number first : ℕ) (records : List Ordered) (outcome index : ℕ) (ordered : Ordered) : Type 0 where
+-- the place of the record that comes after this many of a piece's list: it is the next that touches the piece
+pub record IsAtPlace (configuration : Configuration) (number first : ℕ) (records : List Ordered) (outcome index : ℕ) (ordered : Ordered) : Type 0 where
   pub listed : outcome < length (touching configuration (piece_at configuration number) 0 records)
   pub reaches : index ≡ reached configuration (piece_at configuration number) records outcome
   pub within : reached configuration (piece_at configuration number) records outcome < length records
@@ -121,10 +121,10 @@ next_within configuration number records outcome {left} {next} {index} listed st
     let at = reached_at configuration (piece_at configuration number) records (outcome ++ index ∷ next) (length outcome) (sym split) one in
     (at.0, sym (get_or-append_seam outcome index next 0) ∙ at.1)
 
-pub stands : (configuration : Configuration) (number first : ℕ) (records : List Ordered) (outcome : List ℕ) {left next : List ℕ} {index : ℕ} {ordered : Ordered}
+pub is_shown : (configuration : Configuration) (number first : ℕ) (records : List Ordered) (outcome : List ℕ) {left next : List ℕ} {index : ℕ} {ordered : Ordered}
     → touching configuration (piece_at configuration number) 0 records ≡ outcome ++ left → left ≡ index ∷ next → ordered ≡ get_or records index ordered
-    → ArePlaced first records → AreOfCores configuration.cores records → Stands configuration number first records (length outcome) index ordered
-stands configuration number first records outcome {left} {next} {index} {ordered} listed steps is placed cores =
+    → ArePlaced first records → AreOfCores configuration.cores records → IsAtPlace configuration number first records (length outcome) index ordered
+is_shown configuration number first records outcome {left} {next} {index} {ordered} listed steps is placed cores =
     let piece = piece_at configuration number in
     let at = next_within configuration number records outcome listed steps in
     let place = reached configuration piece records (length outcome) in

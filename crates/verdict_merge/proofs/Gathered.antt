@@ -13,8 +13,8 @@ use Rattle.verdict_merge.proofs.Breaking.{IsFirstIn}
 use Rattle.verdict_merge.proofs.Rounds.{HasBeen, IsFound}
 use Rattle.verdict_merge.proofs.Viewing.{AreSound, HasFilled}
 
--- the first pieces, so many, have been taken in: the least refusal of theirs, the views that they gave, each in the slot of its
--- record, and the first of these that breaks a rule
+-- this many of the first pieces have been taken in: the least refusal of theirs, the views that they gave, each in the slot of its record,
+-- and the first of these that breaks a rule
 pub record AreTakenIn (configuration : Configuration) (records : List Ordered) (relations : List Relation) (old : List Holding) (judged : List Judged) (count : ℕ) (found : Option Refused) (breach : Option Breach) : Type 0 where
   pub been : (number : ℕ) → number < count → HasBeen configuration (parts_in old) records (parts_in (pieces_in judged)) found number
   pub least : IsFound configuration (parts_in old) (parts_in (pieces_in judged)) records count found

@@ -59,7 +59,7 @@ names_judge configuration cores core (Ret ret) hold = hold.0
 names_judge configuration cores core (Disp who) hold = refl
 names_judge configuration cores core (Tick woken) hold = refl
 
--- where the module runs through a record, one of the pieces judges it
+-- if the module runs through a record, one of the pieces judges it
 pub judged_by : (configuration : Configuration) (parts : ℕ → Part) (before : List Ordered) (ordered : Ordered) → IsPartOf Module (parts 0)
     → Runs configuration parts 0 (before ++ ordered ∷ [])
     → (number : ℕ) × (number < length (pieces configuration)) × (piece_at configuration number ≡ judge ordered)
@@ -79,25 +79,25 @@ split_at (first ∷ others) (suc index) within =
     let rest = split_at others index (omega (arith, within)) in
     (first ∷ rest.0, rest.1, rest.2, ap (λ list. first ∷ list) rest.3, ap suc rest.4)
 
--- what became of all pieces: they ran over the records, or a No stands among them
+-- what became of all pieces: they ran over the records, or there is a No among them
 abbrev pub HaveRun : Configuration → (ℕ → Part) → List Ordered → Option Refused → Type 0
 HaveRun configuration parts records None = (number : ℕ) → number < length (pieces configuration) → Runs configuration parts number records
 HaveRun configuration parts records (Some found) = IsNo configuration parts records found
 
 -- the records before the one that is refused are those before the No
 pub up_to_no : (configuration : Configuration) (parts : ℕ → Part) (first : ℕ) (records : List Ordered) (found : Refused) → ArePlaced first records
-    → (stands : IsNo configuration parts records found) → up_to (Some found) records ≡ stands.before
-up_to_no configuration parts first records found placed stands =
-    ap (up_to (Some found)) stands.split ∙ before_of first stands.before stands.ordered stands.after found.pos (subst (ArePlaced first) stands.split placed) stands.place
+    → (is_shown : IsNo configuration parts records found) → up_to (Some found) records ≡ is_shown.before
+up_to_no configuration parts first records found placed is_shown =
+    ap (up_to (Some found)) is_shown.split ∙ before_of first is_shown.before is_shown.ordered is_shown.after found.pos (subst (ArePlaced first) is_shown.split placed) is_shown.place
 
 -- all pieces run over the front of what is before a refusal
 pub run_up_to : (configuration : Configuration) (parts : ℕ → Part) (first : ℕ) (records : List Ordered) (found : Option Refused) → ArePlaced first records → HaveRun configuration parts records found
     → (number : ℕ) → number < length (pieces configuration) → (front back : List Ordered) → up_to found records ≡ front ++ back → Runs configuration parts number front
 run_up_to configuration parts first records None placed outcome number within front back split =
     runs_front configuration parts number front back (subst (Runs configuration parts number) split (outcome number within))
-run_up_to configuration parts first records (Some found) placed stands number within front back split =
+run_up_to configuration parts first records (Some found) placed is_shown number within front back split =
     runs_front configuration parts number front back
-    (subst (Runs configuration parts number) (sym (up_to_no configuration parts first records found placed stands) ∙ split) (runs_up_to configuration parts records found stands number within))
+    (subst (Runs configuration parts number) (sym (up_to_no configuration parts first records found placed is_shown) ∙ split) (runs_up_to configuration parts records found is_shown number within))
 
 -- each record before the one that is refused has its view in its slot
 pub all_filled : (configuration : Configuration) (parts : ℕ → Part) (first : ℕ) (records : List Ordered) (found : Option Refused) (slots : List (Option View)) → ArePlaced first records

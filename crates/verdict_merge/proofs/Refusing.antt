@@ -52,35 +52,35 @@ configured_at configuration (suc index) within = elim (cases_lt index (length co
 
 -- a piece that runs over these records and refuses the next one has no local step there, so the machine has none
 no_step_there : (configuration : Configuration) (records : List Ordered) (found : Refused) → EndsAreApart configuration
-    → (stands : IsNo configuration (cold_parts configuration) records found) (reached : State) → Run configuration (cold_state configuration) stands.before reached
-    → (next : State) → ¬ Step configuration reached stands.ordered next
-no_step_there configuration records found ends stands reached run next step =
+    → (is_shown : IsNo configuration (cold_parts configuration) records found) (reached : State) → Run configuration (cold_state configuration) is_shown.before reached
+    → (next : State) → ¬ Step configuration reached is_shown.ordered next
+no_step_there configuration records found ends is_shown reached run next step =
     let piece = piece_at configuration found.piece in
-    let known = configured_at configuration found.piece stands.piece in
+    let known = configured_at configuration found.piece is_shown.piece in
     let cold = cold_state configuration in
-    let before = run_of_each configuration cold stands.before reached ends (stays_tied.0 configuration) run piece known in
-    let there = run_of_each configuration reached (stands.ordered ∷ []) next ends (stays_tied.2 configuration stands.before cold reached (stays_tied.0 configuration) run) (next, step, refl) piece known in
-    let whole : PieceRun configuration piece (part piece cold) (stands.before ++ stands.ordered ∷ []) (part piece next) =
-    (runs_join configuration piece (part piece cold) stands.before (stands.ordered ∷ []) (part piece next)).1 (part piece reached, before, there) in
-    runs_and_refuses configuration piece (part piece cold) stands.before stands.ordered found.cause (part piece next) whole stands.refused
+    let before = run_of_each configuration cold is_shown.before reached ends (stays_tied.0 configuration) run piece known in
+    let there = run_of_each configuration reached (is_shown.ordered ∷ []) next ends (stays_tied.2 configuration is_shown.before cold reached (stays_tied.0 configuration) run) (next, step, refl) piece known in
+    let whole : PieceRun configuration piece (part piece cold) (is_shown.before ++ is_shown.ordered ∷ []) (part piece next) =
+    (runs_join configuration piece (part piece cold) is_shown.before (is_shown.ordered ∷ []) (part piece next)).1 (part piece reached, before, there) in
+    runs_and_refuses configuration piece (part piece cold) is_shown.before is_shown.ordered found.cause (part piece next) whole is_shown.refused
 
 refused_at : (configuration : Configuration) (relations : List Relation) (records : List Ordered) (found : Refused)
     → WindowsAreConfigured configuration → EndsAreApart configuration → ArePlaced 0 records
-    → (stands : IsNo configuration (cold_parts configuration) records found) → ViewsMeet configuration relations (cold_parts configuration) stands.before
+    → (is_shown : IsNo configuration (cold_parts configuration) records found) → ViewsMeet configuration relations (cold_parts configuration) is_shown.before
     → IsRefusedAt configuration relations records found.pos
-refused_at configuration relations records found windows ends placed stands meet =
-    let front = placed_front 0 stands.before (stands.ordered ∷ stands.after) (subst (ArePlaced 0) stands.split placed) in
-    let run = machine_runs configuration stands.before windows front (runs_up_to configuration (cold_parts configuration) records found stands) in
+refused_at configuration relations records found windows ends placed is_shown meet =
+    let front = placed_front 0 is_shown.before (is_shown.ordered ∷ is_shown.after) (subst (ArePlaced 0) is_shown.split placed) in
+    let run = machine_runs configuration is_shown.before windows front (runs_up_to configuration (cold_parts configuration) records found is_shown) in
     record {
-      before = stands.before;
-      ordered = stands.ordered;
-      after = stands.after;
-      split = stands.split;
-      place = omega (arith, no_at configuration (cold_parts configuration) 0 records found placed stands);
+      before = is_shown.before;
+      ordered = is_shown.ordered;
+      after = is_shown.after;
+      split = is_shown.split;
+      place = omega (arith, no_at configuration (cold_parts configuration) 0 records found placed is_shown);
       reached = run.0;
       run = run.1;
-      meets = run_meets configuration relations stands.before run.0 run.1 ends meet;
-      no_step = no_step_there configuration records found ends stands run.0 run.1;
+      meets = run_meets configuration relations is_shown.before run.0 run.1 ends meet;
+      no_step = no_step_there configuration records found ends is_shown run.0 run.1;
     }
 
 -- a broken rule
@@ -110,13 +110,13 @@ broken_at configuration relations records pos rule windows ends placed is =
     same broken view number =
         ap (λ one. broken_of one broken.rule) view ∙ ap (λ one. broken_of pos one) number
 
--- the machine runs up to what a verdict tells
+-- the machine runs up to what a verdict reports
 pub run_up_to_no : (configuration : Configuration) (relations : List Relation) (records : List Ordered) (verdict : Verdict)
     → WindowsAreConfigured configuration → EndsAreApart configuration → ArePlaced 0 records → IsVerdict configuration relations records verdict
     → IsRunUpToNo configuration relations records verdict
 run_up_to_no configuration relations records (Yes count) windows ends placed is = tt
-run_up_to_no configuration relations records (No place piece cause) windows ends placed (stands, meet) =
-    refused_at configuration relations records (record { pos = place; piece = piece; cause = cause }) windows ends placed stands meet
+run_up_to_no configuration relations records (No place piece cause) windows ends placed (is_shown, meet) =
+    refused_at configuration relations records (record { pos = place; piece = piece; cause = cause }) windows ends placed is_shown meet
 run_up_to_no configuration relations records (Broken place rule) windows ends placed is = broken_at configuration relations records place rule windows ends placed is
 
 pub verdict_is_of_the_machine : VerdictIsOfTheMachine

@@ -12,7 +12,7 @@ use Rattle.verdict_merge.specs.declared.finding.Refused.{Refused}
 use Rattle.verdict_merge.specs.Findings.{IsLeastWith, IsLesser, Precedes}
 use Rattle.verdict_merge.specs.Rounds.{AllRun, HasRunOver, IsNo, RefusesAmong, Runs}
 use Rattle.verdict_merge.proofs.Least.{IsNoSooner, greater, no_smaller, no_sooner_next, no_sooner_stays}
-use Rattle.verdict_merge.proofs.Splits.{begins, place_behind}
+use Rattle.verdict_merge.proofs.Splits.{begins, place_after}
 
 -- runs
 
@@ -40,37 +40,37 @@ all_run_on configuration old next new front back first second = λ number within
 -- a No after runs of all pieces
 abbrev pub no_on : (configuration : Configuration) (old next : ℕ → Part) (front records : List Ordered) (found : Refused)
     → AllRun configuration old front next → IsNo configuration next records found → IsNo configuration old (front ++ records) found
-no_on configuration old next front records found all stands = record {
-  before = front ++ stands.before;
-  ordered = stands.ordered;
-  after = stands.after;
-  split = ap (λ list. front ++ list) stands.split ∙ sym (append_assoc front stands.before (stands.ordered ∷ stands.after));
-  place = stands.place;
-  piece = stands.piece;
-  refused = let reached = stands.refused in (
+no_on configuration old next front records found all is_shown = record {
+  before = front ++ is_shown.before;
+  ordered = is_shown.ordered;
+  after = is_shown.after;
+  split = ap (λ list. front ++ list) is_shown.split ∙ sym (append_assoc front is_shown.before (is_shown.ordered ∷ is_shown.after));
+  place = is_shown.place;
+  piece = is_shown.piece;
+  refused = let reached = is_shown.refused in (
     reached.0,
-    (runs_join configuration (piece_at configuration found.piece) (old found.piece) front stands.before reached.0).1 (next found.piece, all found.piece stands.piece, reached.1),
+    (runs_join configuration (piece_at configuration found.piece) (old found.piece) front is_shown.before reached.0).1 (next found.piece, all found.piece is_shown.piece, reached.1),
     reached.2,
     reached.3,
   );
-  smaller = λ number less. subst (Runs configuration old number) (sym (append_assoc front stands.before (stands.ordered ∷ [])))
-      (runs_on configuration old next number front (stands.before ++ stands.ordered ∷ []) (all number (omega (arith, less, stands.piece))) (stands.smaller number less));
-  larger = λ number more within. runs_on configuration old next number front stands.before (all number within) (stands.larger number more within);
+  smaller = λ number less. subst (Runs configuration old number) (sym (append_assoc front is_shown.before (is_shown.ordered ∷ [])))
+      (runs_on configuration old next number front (is_shown.before ++ is_shown.ordered ∷ []) (all number (omega (arith, less, is_shown.piece))) (is_shown.smaller number less));
+  larger = λ number more within. runs_on configuration old next number front is_shown.before (all number within) (is_shown.larger number more within);
 }
 
--- a No stands whatever comes after it
-abbrev pub no_behind : (configuration : Configuration) (parts : ℕ → Part) (records more : List Ordered) (found : Refused)
+-- a No holds whatever comes after it
+abbrev pub no_after : (configuration : Configuration) (parts : ℕ → Part) (records more : List Ordered) (found : Refused)
     → IsNo configuration parts records found → IsNo configuration parts (records ++ more) found
-no_behind configuration parts records more found stands = record {
-  before = stands.before;
-  ordered = stands.ordered;
-  after = stands.after ++ more;
-  split = ap (λ list. list ++ more) stands.split ∙ append_assoc stands.before (stands.ordered ∷ stands.after) more;
-  place = stands.place;
-  piece = stands.piece;
-  refused = stands.refused;
-  smaller = stands.smaller;
-  larger = stands.larger;
+no_after configuration parts records more found is_shown = record {
+  before = is_shown.before;
+  ordered = is_shown.ordered;
+  after = is_shown.after ++ more;
+  split = ap (λ list. list ++ more) is_shown.split ∙ append_assoc is_shown.before (is_shown.ordered ∷ is_shown.after) more;
+  place = is_shown.place;
+  piece = is_shown.piece;
+  refused = is_shown.refused;
+  smaller = is_shown.smaller;
+  larger = is_shown.larger;
 }
 
 -- a piece that refuses one of the records does so in the part that it has come to
@@ -96,7 +96,7 @@ runs_to : (configuration : Configuration) (old new : ℕ → Part) (records : Li
 runs_to configuration old new records first found number placed front back split past (inl run) =
     runs_front configuration old number front back (subst (Runs configuration old number) split (new number, run))
 runs_to configuration old new records first found number placed front back split past (inr (other, (of, (before, ordered, after, split', place, run, rejects)), later)) =
-    let there : ordered.pos ≡ first + length before = place_behind first before ordered after (subst (ArePlaced first) split' placed) in
+    let there : ordered.pos ≡ first + length before = place_after first before ordered after (subst (ArePlaced first) split' placed) in
     let long = begins front back before (ordered ∷ after) (sym split ∙ split') (let most = past other of later in omega (arith, most, there, place)) in
     runs_front configuration old number front long.0 (subst (Runs configuration old number) long.1 (new number, run))
 
@@ -106,7 +106,7 @@ pub least_is_no : (configuration : Configuration) (old new : ℕ → Part) (reco
     → ((number : ℕ) → number < length (pieces configuration) → HasBeen configuration old records new (Some found) number)
     → IsNo configuration old records found
 least_is_no configuration old new records first found part placed within (of, (before, ordered, after, split, place, run, rejects)) been =
-    let at : ordered.pos ≡ first + length before = place_behind first before ordered after (subst (ArePlaced first) split placed) in
+    let at : ordered.pos ≡ first + length before = place_after first before ordered after (subst (ArePlaced first) split placed) in
     record {
       before = before;
       ordered = ordered;
@@ -123,7 +123,7 @@ least_is_no configuration old new records first found part placed within (of, (b
           (λ other of not. omega (arith, at, place, no_smaller other found not)) (been number inside);
     }
 
--- where nothing was found each piece ran over the records
+-- if nothing was found, each piece ran over the records
 pub none_ran : (configuration : Configuration) (old new : ℕ → Part) (records : List Ordered)
     → ((number : ℕ) → number < length (pieces configuration) → HasBeen configuration old records new None number) → AllRun configuration old records new
 none_ran configuration old new records been = λ number within. elim (been number within) [

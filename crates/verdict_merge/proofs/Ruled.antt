@@ -17,7 +17,7 @@ use Rattle.apex_machine.specs.Step.{Run}
 use Rattle.apex_machine.specs.Views.{run_views}
 use Rattle.apex_laws.proofs.Stays.{stays_tied}
 use Rattle.piece_check.specs.Parts.{Holding}
-use Rattle.user_rules.proofs.FirstBroken.{first_broken_behind, first_broken_stays, one_first_broken}
+use Rattle.user_rules.proofs.FirstBroken.{first_broken_after, first_broken_stays, one_first_broken}
 use Rattle.user_rules.specs.declared.broken.Broken.{Broken as BrokenView}
 use Rattle.user_rules.specs.declared.relation.Relation.{Relation}
 use Rattle.user_rules.specs.FirstBroken.{IsFirstBroken, MeetsAll}
@@ -28,9 +28,9 @@ use Rattle.verdict_merge.specs.declared.verdict.Verdict.TheVariants.{Yes, No, Br
 use Rattle.verdict_merge.specs.declared.breach.Breach.{Breach}
 use Rattle.verdict_merge.specs.Rounds.{AllRun, AreGoing, HaveRunOver, IsNo, IsRound, IsSurveyed, IsTested, Judging, cold_parts, parts_in, parts_of}
 use Rattle.verdict_merge.specs.Verdicts.{IsBroken, IsRunWhereYes, IsVerdict, IsVerdictFrom, OneVerdict, ViewsMeet, against, no_of}
-use Rattle.verdict_merge.specs.Views.{AreViews, AreViewsBehind, broken_of, up_to}
+use Rattle.verdict_merge.specs.Views.{AreViews, AreViewsAfter, broken_of, up_to}
 use Rattle.verdict_merge.proofs.Giving.{HaveRun, run_up_to, up_to_no}
-use Rattle.verdict_merge.proofs.Rounds.{all_run_on, no_behind, no_on, runs_on}
+use Rattle.verdict_merge.proofs.Rounds.{all_run_on, no_after, no_on, runs_on}
 use Rattle.verdict_merge.proofs.Silence.{machine_runs}
 use Rattle.verdict_merge.proofs.Splits.{begins, begins_with}
 use Rattle.verdict_merge.proofs.Verdicts.{no_rule_broken, one_pieces_verdict, runs_no_longer}
@@ -41,8 +41,8 @@ use Rattle.verdict_merge.proofs.ViewedRun.{one_list_of_views, views_are_of_the_r
 
 -- the views of the front of some records
 pub views_front : (configuration : Configuration) (parts : ℕ → Part) (before front back : List Ordered) (views : List View)
-    → AreViewsBehind configuration parts before (front ++ back) views
-    → (first : List View) × (rest : List View) × (views ≡ first ++ rest) × AreViewsBehind configuration parts before front first
+    → AreViewsAfter configuration parts before (front ++ back) views
+    → (first : List View) × (rest : List View) × (views ≡ first ++ rest) × AreViewsAfter configuration parts before front first
 views_front configuration parts before [] back views viewed = ([], views, refl, refl)
 views_front configuration parts before (ordered ∷ front) back views (view, more, is, here, holds_before) =
     let further = views_front configuration parts (before ++ ordered ∷ []) front back more holds_before in
@@ -58,20 +58,20 @@ pub meet_on : (configuration : Configuration) (relations : List Relation) (old n
 meet_on configuration [] old new front back all meet also = tt
 meet_on configuration (relation ∷ relations) old new front back all (views, viewed, meet) (more, seen, also) = (
   views ++ more,
-  views_join configuration old [] front back views more viewed (subst (λ list. AreViewsBehind configuration old list back more) (append-nil front) (views_on configuration old new front [] back more all seen)),
+  views_join configuration old [] front back views more viewed (subst (λ list. AreViewsAfter configuration old list back more) (append-nil front) (views_on configuration old new front [] back more all seen)),
   All-append (MeetsAll (relation ∷ relations)) views more meet also,
 )
 
 -- one verdict
 
--- where a rule is broken, not all views of as many records meet every relation
+-- if a rule is broken, not all views of as many records meet every relation
 broken_not_met : (configuration : Configuration) (relations : List Relation) (records : List Ordered) (pos rule : ℕ)
     → (is : IsBroken configuration relations (cold_parts configuration) 0 records pos rule) → (long rest : List Ordered) → records ≡ long ++ rest → length is.through ≤ length long
     → ViewsMeet configuration relations (cold_parts configuration) long → ⊥
 broken_not_met configuration [] records pos rule is long rest split most meet = no_rule_broken is.views is.broken is.first
 broken_not_met configuration (relation ∷ relations) records pos rule is long rest split most (views, viewed, meet) =
     let middle = begins is.through is.after long rest (sym is.split ∙ split) most in
-    let parted = views_front configuration (cold_parts configuration) [] is.through middle.0 views (subst (λ list. AreViewsBehind configuration (cold_parts configuration) [] list views) middle.1 viewed) in
+    let parted = views_front configuration (cold_parts configuration) [] is.through middle.0 views (subst (λ list. AreViewsAfter configuration (cold_parts configuration) [] list views) middle.1 viewed) in
     let same : parted.0 ≡ is.views = one_list_of_views configuration [] is.through parted.0 is.views parted.3 is.viewed in
     let met : IsFirstBroken (relation ∷ relations) is.views None =
     subst (All (MeetsAll (relation ∷ relations))) same (all_front (MeetsAll (relation ∷ relations)) parted.0 parted.1 (subst (All (MeetsAll (relation ∷ relations))) parted.2 meet)) in
@@ -80,14 +80,14 @@ broken_not_met configuration (relation ∷ relations) records pos rule is long r
 
 -- a No before which all views meet every relation, and a broken rule
 no_and_broken : (configuration : Configuration) (relations : List Relation) (records : List Ordered) (found : Refused) (pos rule : ℕ)
-    → (stands : IsNo configuration (cold_parts configuration) records found) → ViewsMeet configuration relations (cold_parts configuration) stands.before
+    → (is_shown : IsNo configuration (cold_parts configuration) records found) → ViewsMeet configuration relations (cold_parts configuration) is_shown.before
     → IsBroken configuration relations (cold_parts configuration) 0 records pos rule → ⊥
-no_and_broken configuration relations records found pos rule stands meet is = elim (cases_lt (length stands.before) (length is.through)) [
-  | inl less ↦ runs_no_longer configuration (cold_parts configuration) records found stands is.through is.after is.split less (is.runs found.piece stands.piece)
-  | inr most ↦ broken_not_met configuration relations records pos rule is stands.before (stands.ordered ∷ stands.after) stands.split most meet
+no_and_broken configuration relations records found pos rule is_shown meet is = elim (cases_lt (length is_shown.before) (length is.through)) [
+  | inl less ↦ runs_no_longer configuration (cold_parts configuration) records found is_shown is.through is.after is.split less (is.runs found.piece is_shown.piece)
+  | inr most ↦ broken_not_met configuration relations records pos rule is is_shown.before (is_shown.ordered ∷ is_shown.after) is_shown.split most meet
 ]
 
--- where each piece runs over all the records and all views meet every relation, no rule is broken
+-- if each piece runs over all the records and all views meet every relation, no rule is broken
 yes_and_broken : (configuration : Configuration) (relations : List Relation) (records : List Ordered) (pos rule : ℕ) → ViewsMeet configuration relations (cold_parts configuration) records
     → IsBroken configuration relations (cold_parts configuration) 0 records pos rule → ⊥
 yes_and_broken configuration relations records pos rule meet is =
@@ -99,7 +99,7 @@ one_broken_of : (configuration : Configuration) (relations : List Relation) (rec
     → length is.through ≤ length also.through → is.broken ≡ also.broken
 one_broken_of configuration relations records pos rule pos' rule' is also most =
     let middle = begins is.through is.after also.through also.after (sym is.split ∙ also.split) most in
-    let parted = views_front configuration (cold_parts configuration) [] is.through middle.0 also.views (subst (λ list. AreViewsBehind configuration (cold_parts configuration) [] list also.views) middle.1 also.viewed) in
+    let parted = views_front configuration (cold_parts configuration) [] is.through middle.0 also.views (subst (λ list. AreViewsAfter configuration (cold_parts configuration) [] list also.views) middle.1 also.viewed) in
     let same : parted.0 ≡ is.views = one_list_of_views configuration [] is.through parted.0 is.views parted.3 is.viewed in
     let here : IsFirstBroken relations also.views (Some is.broken) =
     subst (λ list. IsFirstBroken relations list (Some is.broken)) (sym parted.2)
@@ -134,7 +134,7 @@ one_verdict configuration relations records (Broken pos rule) (Broken pos' rule'
 
 -- what a Yes means
 
--- the views of a run that the pieces see are the machine's: where those meet every relation, these do
+-- the views of a run that the pieces see are the machine's: if those meet every relation, these do
 pub run_meets : (configuration : Configuration) (relations : List Relation) (records : List Ordered) (final : State) (run : Run configuration (cold_state configuration) records final)
     → EndsAreApart configuration → ViewsMeet configuration relations (cold_parts configuration) records
     → All (MeetsAll relations) (run_views configuration (cold_state configuration) records final run)
@@ -165,7 +165,7 @@ round_is configuration old new records relations survey counted surveyed left =
     by (Some found) outcome = outcome
 
 -- how many views records have
-length_viewed : (configuration : Configuration) (parts : ℕ → Part) (before records : List Ordered) (views : List View) → AreViewsBehind configuration parts before records views
+length_viewed : (configuration : Configuration) (parts : ℕ → Part) (before records : List Ordered) (views : List View) → AreViewsAfter configuration parts before records views
     → length views ≡ length records
 length_viewed configuration parts before [] views none = ap length none
 length_viewed configuration parts before (ordered ∷ others) views (view, more, is, here, rest) =
@@ -180,9 +180,9 @@ verdict_on configuration relations old new count front back (Yes all) runs meet 
   (final, all_run_on configuration old new final front back runs more),
   meet_on configuration relations old new front back runs meet also,
 )
-verdict_on configuration relations old new count front back (No pos piece cause) runs meet (stands, also) = (
-  no_on configuration old new front back (record { pos = pos; piece = piece; cause = cause }) runs stands,
-  meet_on configuration relations old new front stands.before runs meet also,
+verdict_on configuration relations old new count front back (No pos piece cause) runs meet (is_shown, also) = (
+  no_on configuration old new front back (record { pos = pos; piece = piece; cause = cause }) runs is_shown,
+  meet_on configuration relations old new front is_shown.before runs meet also,
 )
 verdict_on configuration [] old new count front back (Broken pos rule) runs meet is = absurd (no_rule_broken is.views is.broken is.first)
 verdict_on configuration (relation ∷ relations) old new count front back (Broken pos rule) runs (views, viewed, meet) is =
@@ -194,20 +194,20 @@ verdict_on configuration (relation ∷ relations) old new count front back (Brok
       runs = λ number within. runs_on configuration old new number front is.through (runs number within) (is.runs number within);
       views = views ++ is.views;
       viewed = views_join configuration old [] front is.through views is.views viewed
-          (subst (λ list. AreViewsBehind configuration old list is.through is.views) (append-nil front) (views_on configuration old new front [] is.through is.views runs is.viewed));
+          (subst (λ list. AreViewsAfter configuration old list is.through is.views) (append-nil front) (views_on configuration old new front [] is.through is.views runs is.viewed));
       broken = record { view = length views + is.broken.view; rule = is.broken.rule };
-      first = first_broken_behind (relation ∷ relations) views is.views (Some is.broken) meet is.first;
+      first = first_broken_after (relation ∷ relations) views is.views (Some is.broken) meet is.first;
       last = length-append front is.through ∙ omega (arith, is.last, counted);
       place = omega (arith, is.place, counted);
       number = is.number;
     }
 
--- a No in a round stands, whatever comes after
+-- a No in a round holds, whatever comes after
 pub no_here : (configuration : Configuration) (relations : List Relation) (parts : ℕ → Part) (count : ℕ) (records more : List Ordered) (found : Refused) → ArePlaced count records
     → IsNo configuration parts records found → ViewsMeet configuration relations parts (up_to (Some found) records)
     → IsVerdictFrom configuration relations parts count (records ++ more) (no_of found)
-no_here configuration relations parts count records more found placed stands meet =
-    (no_behind configuration parts records more found stands, subst (ViewsMeet configuration relations parts) (up_to_no configuration parts count records found placed stands) meet)
+no_here configuration relations parts count records more found placed is_shown meet =
+    (no_after configuration parts records more found is_shown, subst (ViewsMeet configuration relations parts) (up_to_no configuration parts count records found placed is_shown) meet)
 
 -- the first broken view is the first of those up to it
 first_through : (relations : List Relation) (front back : List View) (broken : BrokenView) → length front ≡ suc broken.view → IsFirstBroken relations (front ++ back) (Some broken)
@@ -229,7 +229,7 @@ first_through relations front back broken counted is =
     no_more [] e = refl
     no_more (one ∷ list) e = absurd (omega (arith, e))
 
--- a view of a round that breaks a rule stands, whatever comes after
+-- a view of a round that breaks a rule does so, whatever comes after
 pub broken_here : (configuration : Configuration) (relations : List Relation) (parts : ℕ → Part) (count : ℕ) (records more : List Ordered) (found : Option Refused) (views : List View) (broken : BrokenView)
     → ArePlaced count records → HaveRun configuration parts records found → AreViews configuration parts (up_to found records) views → IsFirstBroken relations views (Some broken)
     → IsVerdictFrom configuration relations parts count (records ++ more) (Broken (count + broken.view) broken.rule)
@@ -241,7 +241,7 @@ broken_here configuration relations parts count records more found views broken 
     let rest = drop (suc broken.view) (up_to found records) in
     let cut : up_to found records ≡ through ++ rest = sym (take-append-drop (suc broken.view) (up_to found records)) in
     let many : length through ≡ suc broken.view = length-take-le (suc broken.view) (up_to found records) (omega (arith, inside)) in
-    let parted = views_front configuration parts [] through rest views (subst (λ list. AreViewsBehind configuration parts [] list views) cut viewed) in
+    let parted = views_front configuration parts [] through rest views (subst (λ list. AreViewsAfter configuration parts [] list views) cut viewed) in
     record {
       through = through;
       after = (rest ++ front.0) ++ more;
@@ -258,7 +258,7 @@ broken_here configuration relations parts count records more found views broken 
 
 -- the verdict of a round
 
--- where no view breaks a rule, all meet every relation
+-- if no view breaks a rule, all meet every relation
 pub meet_tested : (configuration : Configuration) (relations : List Relation) (parts : ℕ → Part) (records : List Ordered) (found : Option Refused)
     → IsTested configuration relations parts records found None → ViewsMeet configuration relations parts (up_to found records)
 meet_tested configuration [] parts records found tested = tt
@@ -280,7 +280,7 @@ run_of_round : (configuration : Configuration) (old new : Judging) (records : Li
 run_of_round configuration old new records None is = λ number within. (parts_of new number, is.0 number within)
 run_of_round configuration old new records (Some found) is = is.0
 
--- the verdict that ends a round stands, whatever comes after
+-- the verdict that ends a round holds, whatever comes after
 pub ends_here : (configuration : Configuration) (relations : List Relation) (old new : Judging) (records more : List Ordered) (found : Option Refused) (breach : Option Breach) (verdict : Verdict)
     → ArePlaced old.count records → IsRound configuration old records found new → IsTested configuration relations (parts_of old) records found breach
     → against old.count found (broken_of breach) ≡ Some verdict → IsVerdictFrom configuration relations (parts_of old) old.count (records ++ more) verdict
@@ -295,7 +295,7 @@ ends_here configuration relations old new records more (Some found) None verdict
     (no_here configuration relations (parts_of old) old.count records more found placed round.0 (meet_tested configuration relations (parts_of old) records (Some found) tested))
 ends_here configuration relations old new records more None None verdict placed round tested is = let none : ◌≡◌ {A = Option Verdict} None (Some verdict) = is in cc
 
--- where nothing decides against a round, all pieces ran over it, and its views meet every relation
+-- if nothing decides against a round, all pieces ran over it, and its views meet every relation
 pub goes_on_here : (configuration : Configuration) (relations : List Relation) (old new : Judging) (records : List Ordered) (found : Option Refused) (breach : Option Breach)
     → IsRound configuration old records found new → IsTested configuration relations (parts_of old) records found breach → against old.count found (broken_of breach) ≡ None
     → IsRound configuration old records None new × ViewsMeet configuration relations (parts_of old) records

@@ -10,7 +10,7 @@ use Rattle.apex_machine.specs.Runs.{Goes, PieceRun}
 use Rattle.apex_machine.specs.Views.{view_in}
 use Rattle.verdict_merge.specs.declared.breach.Seen.{Seen}
 use Rattle.verdict_merge.specs.Views.{AreSeen, SeesNext, seen_of}
-use Rattle.verdict_merge.proofs.Among.{contains_behind, contains_cases, contains_here, contains_none}
+use Rattle.verdict_merge.proofs.Among.{contains_after, contains_cases, contains_here, contains_none}
 
 -- a record leaves one part
 one_next : (touched : Bool) (configuration : Configuration) (old : Part) (ordered : Ordered) (one other : Part)
@@ -30,7 +30,7 @@ sees_one : (given : Option View) (index : ℕ) (More : List Seen → Type 0) →
 sees_one None index More more = more
 sees_one (Some view) index More more = ([], refl, more)
 
--- what is seen further, where more is seen after the first record
+-- what more is seen, if more is seen after the first record
 further : (given : Option View) (index : ℕ) (seen last : List Seen) (Old New : List Seen → Type 0) → ((more : List Seen) → Old more → New (more ++ last))
     → SeesNext given index seen Old → SeesNext given index (seen ++ last) New
 further None index seen last Old New goes_on sees = goes_on seen sees
@@ -62,7 +62,7 @@ sees_on configuration piece old now next index (first ∷ before) ordered seen (
       sees,
 )
 
--- what was seen of a record: it comes after so many others, and the piece that has run over these gives its view
+-- what was seen of a record: it comes after this many others, and the piece that has run over these gives its view
 pub record SeenAt (configuration : Configuration) (piece : Piece) (old : Part) (index : ℕ) (records : List Ordered) (one : Seen) : Type 0 where
   pub before : List Ordered
   pub ordered : Ordered
@@ -155,7 +155,7 @@ is_seen configuration piece old index (first ∷ others) seen (next, goes, sees)
     let rest = seen_further (view_in old first) index seen (AreSeen configuration piece next (suc index) others)
     (λ more. (reached : Part) × PieceRun configuration piece next before reached
     × ((view : View) → view_in reached ordered ≡ Some view → Contains more (record { index = suc index + length before; view = view })))
-    (λ view more given there. (there.0, there.1, λ one is. contains_behind (record { index = index; view = view }) (record { index = suc index + length before; view = one }) more (there.2 one is)))
+    (λ view more given there. (there.0, there.1, λ one is. contains_after (record { index = index; view = view }) (record { index = suc index + length before; view = one }) more (there.2 one is)))
     (λ more list is there. (there.0, there.1, λ one given. subst (λ all. Contains all (record { index = suc index + length before; view = one })) (sym is) (there.2 one given)))
     (λ more holds_before. is_seen configuration piece next (suc index) others more holds_before before ordered after tail) sees in (
       rest.0,

@@ -70,7 +70,7 @@ run_to configuration records runs piece = by (is_configured configuration piece)
         (run.0, λ _. subst (λ one. PieceRun configuration one (part one (cold_state configuration)) records run.0) there.2 run.1)
     by false has = (part piece (cold_state configuration), λ h. absurd (true≢false (sym h ∙ has)))
 
--- where all pieces have runs over the records, these are a run of the machine, which reaches what the pieces reach
+-- if all pieces have runs over the records, these are a run of the machine, which reaches what the pieces reach
 pub machine_runs : (configuration : Configuration) (records : List Ordered) → WindowsAreConfigured configuration → ArePlaced 0 records
     → ((number : ℕ) → number < length (pieces configuration) → Runs configuration (cold_parts configuration) number records)
     → (final : State) × Run configuration (cold_state configuration) records final

@@ -17,7 +17,7 @@ begins (x ∷ short) holds_before (y ∷ long) rest same less =
     let more = begins short holds_before long rest tail (omega arith) in
     (more.0, ap (λ one. one ∷ long) (sym head) ∙ ap (λ list. x ∷ list) more.1)
 
--- an element of one split stands in a longer front
+-- an element of one split is in a longer front
 pub begins_with : {A : Type 0} (before : List A) (one : A) (after long rest : List A) → before ++ one ∷ after ≡ long ++ rest → length before < length long
     → (middle : List A) × (long ≡ (before ++ one ∷ []) ++ middle)
 begins_with before one after long rest same less =
@@ -25,15 +25,15 @@ begins_with before one after long rest same less =
 
 -- records at places
 
-pub place_behind : (first : ℕ) (before : List Ordered) (ordered : Ordered) (after : List Ordered) → ArePlaced first (before ++ ordered ∷ after) → ordered.pos ≡ first + length before
-place_behind first [] ordered after placed = omega (arith, placed.0)
-place_behind first (one ∷ before) ordered after placed = omega (arith, place_behind (suc first) before ordered after placed.1)
+pub place_after : (first : ℕ) (before : List Ordered) (ordered : Ordered) (after : List Ordered) → ArePlaced first (before ++ ordered ∷ after) → ordered.pos ≡ first + length before
+place_after first [] ordered after placed = omega (arith, placed.0)
+place_after first (one ∷ before) ordered after placed = omega (arith, place_after (suc first) before ordered after placed.1)
 
 pub placed_front : (first : ℕ) (front back : List Ordered) → ArePlaced first (front ++ back) → ArePlaced first front
 placed_front first [] back placed = tt
 placed_front first (one ∷ front) back placed = (placed.0, placed_front (suc first) front back placed.1)
 
--- the last of some records stands right before what comes after them
+-- the last of some records comes right before what follows them
 pub last_place : (first : ℕ) (records : List Ordered) (last : Ordered) → ArePlaced first records → slice_get records (length records - 1) ≡ Some last → last.pos + 1 ≡ first + length records
 last_place first records last placed is =
     let within = slice_get_within records (length records - 1) last is in

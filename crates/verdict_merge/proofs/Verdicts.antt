@@ -23,10 +23,10 @@ use Rattle.verdict_merge.specs.declared.verdict.Verdict.TheVariants.{Yes, No, Br
 use Rattle.verdict_merge.specs.Findings.{IsLeast, IsLesser, Precedes}
 use Rattle.verdict_merge.specs.Rounds.{AllRun, IsNo, Runs, cold_parts}
 use Rattle.verdict_merge.specs.Verdicts.{AllFind, Follows, IsVerdict, VerdictIsOfTheFindings, findings_of}
-use Rattle.verdict_merge.proofs.Among.{contains_behind, contains_cases, contains_here, contains_none}
+use Rattle.verdict_merge.proofs.Among.{contains_after, contains_cases, contains_here, contains_none}
 use Rattle.verdict_merge.proofs.Least.{least_more, not_itself, through}
 use Rattle.verdict_merge.proofs.Rounds.{HasBeen, least_is_no, refuses_in, runs_front}
-use Rattle.verdict_merge.proofs.Splits.{begins_with, place_behind}
+use Rattle.verdict_merge.proofs.Splits.{begins_with, place_after}
 
 -- what the pieces say of one order of records, whatever the rules
 abbrev pub IsPiecesVerdict : Configuration → List Ordered → Verdict → Type 0
@@ -45,39 +45,39 @@ runs_and_refuses configuration piece old before ordered cause final run refuses 
     (run_finds_nothing configuration piece old (before ++ ordered ∷ []) final run)
     (refused_found configuration piece old before ordered [] refusal refl refuses))
 
--- the record of a No stands where its place tells
+-- the record of a No is at its place
 pub no_at : (configuration : Configuration) (parts : ℕ → Part) (first : ℕ) (records : List Ordered) (found : Refused) → ArePlaced first records
-    → (stands : IsNo configuration parts records found) → found.pos ≡ first + length stands.before
-no_at configuration parts first records found placed stands =
-    stands.place ∙ place_behind first stands.before stands.ordered stands.after (subst (ArePlaced first) stands.split placed)
+    → (is_shown : IsNo configuration parts records found) → found.pos ≡ first + length is_shown.before
+no_at configuration parts first records found placed is_shown =
+    is_shown.place ∙ place_after first is_shown.before is_shown.ordered is_shown.after (subst (ArePlaced first) is_shown.split placed)
 
 -- each piece runs up to the record of a No
-pub runs_up_to : (configuration : Configuration) (parts : ℕ → Part) (records : List Ordered) (found : Refused) (stands : IsNo configuration parts records found)
-    → (number : ℕ) → number < length (pieces configuration) → Runs configuration parts number stands.before
-runs_up_to configuration parts records found stands number within = elim (cases_order number found.piece) [
-  | inr (inl less) ↦ runs_front configuration parts number stands.before (stands.ordered ∷ []) (stands.smaller number less)
-  | inl same ↦ subst (λ one. Runs configuration parts one stands.before) (sym same) (stands.refused.0, stands.refused.1)
-  | inr (inr more) ↦ stands.larger number more within
+pub runs_up_to : (configuration : Configuration) (parts : ℕ → Part) (records : List Ordered) (found : Refused) (is_shown : IsNo configuration parts records found)
+    → (number : ℕ) → number < length (pieces configuration) → Runs configuration parts number is_shown.before
+runs_up_to configuration parts records found is_shown number within = elim (cases_order number found.piece) [
+  | inr (inl less) ↦ runs_front configuration parts number is_shown.before (is_shown.ordered ∷ []) (is_shown.smaller number less)
+  | inl same ↦ subst (λ one. Runs configuration parts one is_shown.before) (sym same) (is_shown.refused.0, is_shown.refused.1)
+  | inr (inr more) ↦ is_shown.larger number more within
 ]
 
 -- the piece of a No runs over no longer list of the same records
-pub runs_no_longer : (configuration : Configuration) (parts : ℕ → Part) (records : List Ordered) (found : Refused) (stands : IsNo configuration parts records found)
-    → (long rest : List Ordered) → records ≡ long ++ rest → length stands.before < length long → Runs configuration parts found.piece long → ⊥
-runs_no_longer configuration parts records found stands long rest split less runs =
-    let front = begins_with stands.before stands.ordered stands.after long rest (sym stands.split ∙ split) less in
-    let run = runs_front configuration parts found.piece (stands.before ++ stands.ordered ∷ []) front.0 (subst (Runs configuration parts found.piece) front.1 runs) in
-    runs_and_refuses configuration (piece_at configuration found.piece) (parts found.piece) stands.before stands.ordered found.cause run.0 run.1 stands.refused
+pub runs_no_longer : (configuration : Configuration) (parts : ℕ → Part) (records : List Ordered) (found : Refused) (is_shown : IsNo configuration parts records found)
+    → (long rest : List Ordered) → records ≡ long ++ rest → length is_shown.before < length long → Runs configuration parts found.piece long → ⊥
+runs_no_longer configuration parts records found is_shown long rest split less runs =
+    let front = begins_with is_shown.before is_shown.ordered is_shown.after long rest (sym is_shown.split ∙ split) less in
+    let run = runs_front configuration parts found.piece (is_shown.before ++ is_shown.ordered ∷ []) front.0 (subst (Runs configuration parts found.piece) front.1 runs) in
+    runs_and_refuses configuration (piece_at configuration found.piece) (parts found.piece) is_shown.before is_shown.ordered found.cause run.0 run.1 is_shown.refused
 
 -- of two Nos of the same records none precedes the other
 no_sooner : (configuration : Configuration) (parts : ℕ → Part) (first : ℕ) (records : List Ordered) (one other : Refused) → ArePlaced first records
     → IsNo configuration parts records one → IsNo configuration parts records other → Precedes one other → ⊥
-no_sooner configuration parts first records one other placed stands also (inl sooner) =
-    runs_no_longer configuration parts records one stands also.before (also.ordered ∷ also.after) also.split
-    (omega (arith, sooner, no_at configuration parts first records one placed stands, no_at configuration parts first records other placed also))
-    (runs_up_to configuration parts records other also one.piece stands.piece)
-no_sooner configuration parts first records one other placed stands also (inr (same, less)) =
-    runs_no_longer configuration parts records one stands (also.before ++ also.ordered ∷ []) also.after (also.split ∙ sym (append_assoc also.before (also.ordered ∷ []) also.after))
-    (omega (arith, same, length-append also.before (also.ordered ∷ []), no_at configuration parts first records one placed stands, no_at configuration parts first records other placed also))
+no_sooner configuration parts first records one other placed is_shown also (inl sooner) =
+    runs_no_longer configuration parts records one is_shown also.before (also.ordered ∷ also.after) also.split
+    (omega (arith, sooner, no_at configuration parts first records one placed is_shown, no_at configuration parts first records other placed also))
+    (runs_up_to configuration parts records other also one.piece is_shown.piece)
+no_sooner configuration parts first records one other placed is_shown also (inr (same, less)) =
+    runs_no_longer configuration parts records one is_shown (also.before ++ also.ordered ∷ []) also.after (also.split ∙ sym (append_assoc also.before (also.ordered ∷ []) also.after))
+    (omega (arith, same, length-append also.before (also.ordered ∷ []), no_at configuration parts first records one placed is_shown, no_at configuration parts first records other placed also))
     (also.smaller one.piece less)
 
 no_less : (a b : ℕ) → ¬ (a < b) → ¬ (b < a) → a ≡ b
@@ -86,46 +86,46 @@ no_less a b not also = omega (arith, not, also)
 -- what the piece of a No finds in all the records
 no_finds : (configuration : Configuration) (parts : ℕ → Part) (records : List Ordered) (found : Refused) → IsNo configuration parts records found
     → Finds configuration (piece_at configuration found.piece) (parts found.piece) records (Some (record { pos = found.pos; cause = found.cause }))
-no_finds configuration parts records found stands =
-    subst (λ list. Finds configuration (piece_at configuration found.piece) (parts found.piece) list (Some (record { pos = found.pos; cause = found.cause }))) (sym stands.split)
-    (refused_found configuration (piece_at configuration found.piece) (parts found.piece) stands.before stands.ordered stands.after (record { pos = found.pos; cause = found.cause })
-    stands.place stands.refused)
+no_finds configuration parts records found is_shown =
+    subst (λ list. Finds configuration (piece_at configuration found.piece) (parts found.piece) list (Some (record { pos = found.pos; cause = found.cause }))) (sym is_shown.split)
+    (refused_found configuration (piece_at configuration found.piece) (parts found.piece) is_shown.before is_shown.ordered is_shown.after (record { pos = found.pos; cause = found.cause })
+    is_shown.place is_shown.refused)
 
 one_no : (configuration : Configuration) (parts : ℕ → Part) (first : ℕ) (records : List Ordered) (pos piece : ℕ) (cause : Cause) (pos' piece' : ℕ) (cause' : Cause) → ArePlaced first records
     → IsNo configuration parts records (record { pos = pos; piece = piece; cause = cause }) → IsNo configuration parts records (record { pos = pos'; piece = piece'; cause = cause' })
     → ◌≡◌ {A = Verdict} (No pos piece cause) (No pos' piece' cause')
-one_no configuration parts first records pos piece cause pos' piece' cause' placed stands also =
+one_no configuration parts first records pos piece cause pos' piece' cause' placed is_shown also =
     let one : Refused = record { pos = pos; piece = piece; cause = cause } in
     let other : Refused = record { pos = pos'; piece = piece'; cause = cause' } in
-    let not = no_sooner configuration parts first records one other placed stands also in
-    let nor = no_sooner configuration parts first records other one placed also stands in
+    let not = no_sooner configuration parts first records one other placed is_shown also in
+    let nor = no_sooner configuration parts first records other one placed also is_shown in
     let same : pos ≡ pos' = no_less pos pos' (λ less. not (inl less)) (λ less. nor (inl less)) in
     let alike : piece ≡ piece' = no_less piece piece' (λ less. not (inr (same, less))) (λ less. nor (inr (sym same, less))) in
     let finds = subst (λ number. Finds configuration (piece_at configuration number) (parts number) records (Some (record { pos = pos'; cause = cause' }))) (sym alike)
     (no_finds configuration parts records other also) in
     let refusals = same_Some {A = Refusal} (record { pos = pos; cause = cause }) (record { pos = pos'; cause = cause' })
     (one_first_refusal configuration (piece_at configuration piece) (parts piece) records (Some (record { pos = pos; cause = cause })) (Some (record { pos = pos'; cause = cause' }))
-    (no_finds configuration parts records one stands) finds) in
+    (no_finds configuration parts records one is_shown) finds) in
     let caused : cause ≡ cause' = ap (λ refusal. refusal.cause) refusals in
     cc
 
--- where each piece runs over all the records there is no No
+-- if each piece runs over all the records, there is no No
 no_yes : (configuration : Configuration) (records : List Ordered) (found : Refused) (final : ℕ → Part) → AllRun configuration (cold_parts configuration) records final
     → IsNo configuration (cold_parts configuration) records found → ⊥
-no_yes configuration records found final all stands =
-    runs_no_longer configuration (cold_parts configuration) records found stands records [] (sym (append-nil records))
-    (omega (arith, ap length stands.split, length-append stands.before (stands.ordered ∷ stands.after))) (final found.piece, all found.piece stands.piece)
+no_yes configuration records found final all is_shown =
+    runs_no_longer configuration (cold_parts configuration) records found is_shown records [] (sym (append-nil records))
+    (omega (arith, ap length is_shown.split, length-append is_shown.before (is_shown.ordered ∷ is_shown.after))) (final found.piece, all found.piece is_shown.piece)
 
 -- the pieces say one thing
 pub one_pieces_verdict : (configuration : Configuration) (records : List Ordered) (one other : Verdict) → ArePlaced 0 records
     → IsPiecesVerdict configuration records one → IsPiecesVerdict configuration records other → one ≡ other
 one_pieces_verdict configuration records (Yes count) (Yes count') placed (is, (final, all)) (also, (final', all')) = ap Yes (is ∙ sym also)
-one_pieces_verdict configuration records (Yes count) (No pos piece cause) placed (is, (final, all)) stands =
-    absurd (no_yes configuration records (record { pos = pos; piece = piece; cause = cause }) final all stands)
-one_pieces_verdict configuration records (No pos piece cause) (Yes count) placed stands (is, (final, all)) =
-    absurd (no_yes configuration records (record { pos = pos; piece = piece; cause = cause }) final all stands)
-one_pieces_verdict configuration records (No pos piece cause) (No pos' piece' cause') placed stands also =
-    one_no configuration (cold_parts configuration) 0 records pos piece cause pos' piece' cause' placed stands also
+one_pieces_verdict configuration records (Yes count) (No pos piece cause) placed (is, (final, all)) is_shown =
+    absurd (no_yes configuration records (record { pos = pos; piece = piece; cause = cause }) final all is_shown)
+one_pieces_verdict configuration records (No pos piece cause) (Yes count) placed is_shown (is, (final, all)) =
+    absurd (no_yes configuration records (record { pos = pos; piece = piece; cause = cause }) final all is_shown)
+one_pieces_verdict configuration records (No pos piece cause) (No pos' piece' cause') placed is_shown also =
+    one_no configuration (cold_parts configuration) 0 records pos piece cause pos' piece' cause' placed is_shown also
 one_pieces_verdict configuration records (Broken pos rule) other placed is also = absurd is
 one_pieces_verdict configuration records (Yes count) (Broken pos rule) placed is also = absurd also
 one_pieces_verdict configuration records (No place piece cause) (Broken pos rule) placed is also = absurd also
@@ -134,7 +134,7 @@ one_pieces_verdict configuration records (No place piece cause) (Broken pos rule
 
 contains_later : (number : ℕ) (found : Option Refusal) (later : List Refused) (one : Refused) → Contains later one → Contains (findings_of number found ++ later) one
 contains_later number None later one there = there
-contains_later number (Some refusal) later one there = contains_behind (record { pos = refusal.pos; piece = number; cause = refusal.cause }) one later there
+contains_later number (Some refusal) later one there = contains_after (record { pos = refusal.pos; piece = number; cause = refusal.cause }) one later there
 
 -- the finding of a piece's refusal
 abbrev as_finding : ℕ → Refusal → Refused
@@ -169,15 +169,15 @@ FoundBy configuration number others records one =
     (index : ℕ) × (index < length others) × (one.piece ≡ number + index)
     × Finds configuration (slice_index_or others index Module) (part (slice_index_or others index Module) (cold_state configuration)) records (Some (record { pos = one.pos; cause = one.cause }))
 
-found_behind : (configuration : Configuration) (number : ℕ) (piece : Piece) (others : List Piece) (records : List Ordered) (one : Refused)
+found_after : (configuration : Configuration) (number : ℕ) (piece : Piece) (others : List Piece) (records : List Ordered) (one : Refused)
     → FoundBy configuration (suc number) others records one → FoundBy configuration number (piece ∷ others) records one
-found_behind configuration number piece others records one (index, within, at, finds) = (suc index, omega (arith, within), omega (arith, at), finds)
+found_after configuration number piece others records one (index, within, at, finds) = (suc index, omega (arith, within), omega (arith, at), finds)
 
 found_by : (configuration : Configuration) (number : ℕ) (others : List Piece) (records : List Ordered) (findings : List Refused) → AllFind configuration number others records findings
     → (one : Refused) → Contains findings one → FoundBy configuration number others records one
 found_by configuration number [] records findings all one there = absurd (contains_none one (subst (λ list. Contains list one) all there))
 found_by configuration number (piece ∷ others) records findings (None, later, finds, rest, is) one there =
-    found_behind configuration number piece others records one (found_by configuration (suc number) others records later rest one (subst (λ list. Contains list one) is there))
+    found_after configuration number piece others records one (found_by configuration (suc number) others records later rest one (subst (λ list. Contains list one) is there))
 found_by configuration number (piece ∷ others) records findings (Some refusal, later, finds, rest, is) one there =
     elim (contains_cases (as_finding number refusal) one later (subst (λ list. Contains list one) is there)) [
       | inl same ↦ (
@@ -186,7 +186,7 @@ found_by configuration number (piece ∷ others) records findings (Some refusal,
         (ap (λ found. found.piece) same ∙ omega arith),
         subst (λ found. Finds configuration piece (part piece (cold_state configuration)) records (Some (record { pos = found.pos; cause = found.cause }))) (sym same) finds,
       )
-      | inr more ↦ found_behind configuration number piece others records one (found_by configuration (suc number) others records later rest one more)
+      | inr more ↦ found_after configuration number piece others records one (found_by configuration (suc number) others records later rest one more)
     ]
 
 -- the least of a list
@@ -216,7 +216,7 @@ least_of front (next ∷ others) least is =
 
 -- the verdict of the findings
 
--- a part for each number, with a fact where a piece has it
+-- a part for each number, with a fact if a piece has it
 part_where : (count : ℕ) (Fact : ℕ → Part → Type 0) → ((number : ℕ) → number < count → (final : Part) × Fact number final)
     → (number : ℕ) → (final : Part) × (number < count → Fact number final)
 part_where count Fact found number = elim (cases_lt number count) [

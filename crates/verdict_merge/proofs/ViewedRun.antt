@@ -21,12 +21,12 @@ use Rattle.apex_laws.proofs.Stays.{step_tied}
 use Rattle.apex_laws.proofs.Viewed.{view_is_of_the_run}
 use Rattle.piece_check.specs.Parts.{piece_at}
 use Rattle.verdict_merge.specs.Rounds.{AllRun, cold_parts}
-use Rattle.verdict_merge.specs.Views.{AreViewsBehind, IsViewOf}
+use Rattle.verdict_merge.specs.Views.{AreViewsAfter, IsViewOf}
 use Rattle.verdict_merge.proofs.Seeing.{one_end}
 
 -- views after runs of all pieces
 pub views_on : (configuration : Configuration) (old next : ℕ → Part) (front before records : List Ordered) (views : List View)
-    → AllRun configuration old front next → AreViewsBehind configuration next before records views → AreViewsBehind configuration old (front ++ before) records views
+    → AllRun configuration old front next → AreViewsAfter configuration next before records views → AreViewsAfter configuration old (front ++ before) records views
 views_on configuration old next front before [] views all none = none
 views_on configuration old next front before (ordered ∷ others) views all (view, more, is, here, rest) = (
   view,
@@ -40,24 +40,24 @@ views_on configuration old next front before (ordered ∷ others) views all (vie
     run = (runs_join configuration (piece_at configuration here.number) (old here.number) front before here.reached).1 (next here.number, all here.number here.within, here.run);
     seen = here.seen;
   },
-  subst (λ list. AreViewsBehind configuration old list others more) (sym (append_assoc front before (ordered ∷ [])))
+  subst (λ list. AreViewsAfter configuration old list others more) (sym (append_assoc front before (ordered ∷ [])))
       (views_on configuration old next front (before ++ ordered ∷ []) others more all rest),
 )
 
 -- views of records, and of those after them
 pub views_join : (configuration : Configuration) (parts : ℕ → Part) (before first second : List Ordered) (views more : List View)
-    → AreViewsBehind configuration parts before first views → AreViewsBehind configuration parts (before ++ first) second more
-    → AreViewsBehind configuration parts before (first ++ second) (views ++ more)
+    → AreViewsAfter configuration parts before first views → AreViewsAfter configuration parts (before ++ first) second more
+    → AreViewsAfter configuration parts before (first ++ second) (views ++ more)
 views_join configuration parts before [] second views more none rest =
-    subst (λ list. AreViewsBehind configuration parts before second (list ++ more)) (sym none)
-    (subst (λ list. AreViewsBehind configuration parts list second more) (append-nil before) rest)
+    subst (λ list. AreViewsAfter configuration parts before second (list ++ more)) (sym none)
+    (subst (λ list. AreViewsAfter configuration parts list second more) (append-nil before) rest)
 views_join configuration parts before (ordered ∷ first) second views more (view, later, is, here, holds_before) rest = (
   view,
   later ++ more,
   ap (λ list. list ++ more) is,
   here,
   views_join configuration parts (before ++ ordered ∷ []) first second later more holds_before
-      (subst (λ list. AreViewsBehind configuration parts list second more) (sym (append_assoc before (ordered ∷ []) first)) rest),
+      (subst (λ list. AreViewsAfter configuration parts list second more) (sym (append_assoc before (ordered ∷ []) first)) rest),
 )
 
 -- the view of a record after these, from the cold state
@@ -73,7 +73,7 @@ one_view configuration before ordered one other here also =
 
 -- records have one list of views
 pub one_list_of_views : (configuration : Configuration) (before records : List Ordered) (one other : List View)
-    → AreViewsBehind configuration (cold_parts configuration) before records one → AreViewsBehind configuration (cold_parts configuration) before records other → one ≡ other
+    → AreViewsAfter configuration (cold_parts configuration) before records one → AreViewsAfter configuration (cold_parts configuration) before records other → one ≡ other
 one_list_of_views configuration before [] one other none also = none ∙ sym also
 one_list_of_views configuration before (ordered ∷ others) one other (view, more, is, here, rest) (view', more', is', here', rest') =
     is ∙ ap (λ first. first ∷ more) (one_view configuration before ordered view view' here here')
@@ -91,7 +91,7 @@ judge_configured configuration state ordered (Tick woken) law = refl
 pub views_are_of_the_run : (configuration : Configuration) (state : State) (before records : List Ordered) (final : State) (views : List View)
     → EndsAreApart configuration → AreTied configuration state
     → ((piece : Piece) → IsTrue (is_configured configuration piece) → PieceRun configuration piece (part piece (cold_state configuration)) before (part piece state))
-    → AreViewsBehind configuration (cold_parts configuration) before records views
+    → AreViewsAfter configuration (cold_parts configuration) before records views
     → (run : Run configuration state records final) → views ≡ run_views configuration state records final run
 views_are_of_the_run configuration state before [] final views ends tied runs none run = none
 views_are_of_the_run configuration state before (ordered ∷ others) final views ends tied runs (view, more, is, here, rest) (next, step, run) =

@@ -14,11 +14,11 @@ use Rattle.piece_check.specs.Parts.{piece_at}
 use Rattle.verdict_merge.specs.declared.finding.Refused.{Refused}
 use Rattle.verdict_merge.specs.declared.breach.Seen.{Seen}
 use Rattle.verdict_merge.specs.Rounds.{HasRunOver, Runs}
-use Rattle.verdict_merge.specs.Views.{AreSeen, AreViewsBehind, IsViewOf, before_place, up_to}
+use Rattle.verdict_merge.specs.Views.{AreSeen, AreViewsAfter, IsViewOf, before_place, up_to}
 use Rattle.verdict_merge.proofs.Rounds.{runs_front}
 use Rattle.verdict_merge.proofs.Seeing.{is_seen, seen_is}
 use Rattle.verdict_merge.proofs.Slotted.{HaveSlots, put_in, put_in_from, put_in_stays, put_in_there, slot_at}
-use Rattle.verdict_merge.proofs.Splits.{begins, begins_with, place_behind}
+use Rattle.verdict_merge.proofs.Splits.{begins, begins_with, place_after}
 use Rattle.verdict_merge.proofs.Verdicts.{runs_and_refuses}
 
 -- records before a place
@@ -29,12 +29,12 @@ not_before place other e = grind (arith, nat_tests)
 pub is_before : (place other : ℕ) → other < place → nat_lt other place ≡ true
 is_before place other less = grind (arith, nat_tests)
 
--- those before the place of a record are those that stand before it
+-- those before the place of a record are those that come before it
 pub before_of : (first : ℕ) (before : List Ordered) (ordered : Ordered) (after : List Ordered) (place : ℕ) → ArePlaced first (before ++ ordered ∷ after) → place ≡ ordered.pos
     → before_place place (before ++ ordered ∷ after) ≡ before
 before_of first [] ordered after place placed is = rw (not_before place ordered.pos (sym is)) refl
 before_of first (one ∷ before) ordered after place placed is =
-    let there : ordered.pos ≡ suc first + length before = place_behind (suc first) before ordered after placed.1 in
+    let there : ordered.pos ≡ suc first + length before = place_after (suc first) before ordered after placed.1 in
     let less : one.pos < place = omega (arith, placed.0, there, is) in
     let rest = before_of (suc first) before ordered after place placed.1 is in
     rw (is_before place one.pos less) (ap (λ list. one ∷ list) rest)
@@ -101,26 +101,26 @@ seen_have_slots configuration parts number records found seen slots whole are = 
       length-append at.before (at.ordered ∷ at.after),
     )
 
--- what a piece has seen is the view of the record that stands there
+-- what a piece has seen is the view of the record there
 pub view_there : (configuration : Configuration) (parts : ℕ → Part) (number : ℕ) (records : List Ordered) (found : Option Refused) (seen : List Seen) (one : Seen)
     → number < length (pieces configuration) → Gives configuration parts number
     → AreSeen configuration (piece_at configuration number) (parts number) 0 (up_to found records) seen → Contains seen one
     → (before : List Ordered) (ordered : Ordered) (after : List Ordered) → records ≡ before ++ ordered ∷ after → one.index ≡ length before
     → IsViewOf configuration parts before ordered one.view
 view_there configuration parts number records found seen one within gives are among before ordered after split at =
-    let stands = seen_is configuration (piece_at configuration number) (parts number) 0 (up_to found records) seen are one among in
+    let is_shown = seen_is configuration (piece_at configuration number) (parts number) 0 (up_to found records) seen are one among in
     let front = up_to_front records found in
-    let also : records ≡ stands.before ++ stands.ordered ∷ (stands.after ++ front.0) =
-    front.1 ∙ ap (λ list. list ++ front.0) stands.split ∙ append_assoc stands.before (stands.ordered ∷ stands.after) front.0 in
-    let alike = one_split stands.before stands.ordered (stands.after ++ front.0) before ordered after (sym also ∙ split) (omega (arith, at, stands.at)) in
-    let seen_here : view_in stands.reached ordered ≡ Some one.view = ap (view_in stands.reached) (sym alike.1) ∙ stands.view in
-    let run_here : PieceRun configuration (piece_at configuration number) (parts number) before stands.reached =
-    subst (λ list. PieceRun configuration (piece_at configuration number) (parts number) list stands.reached) alike.0 stands.run in
+    let also : records ≡ is_shown.before ++ is_shown.ordered ∷ (is_shown.after ++ front.0) =
+    front.1 ∙ ap (λ list. list ++ front.0) is_shown.split ∙ append_assoc is_shown.before (is_shown.ordered ∷ is_shown.after) front.0 in
+    let alike = one_split is_shown.before is_shown.ordered (is_shown.after ++ front.0) before ordered after (sym also ∙ split) (omega (arith, at, is_shown.at)) in
+    let seen_here : view_in is_shown.reached ordered ≡ Some one.view = ap (view_in is_shown.reached) (sym alike.1) ∙ is_shown.view in
+    let run_here : PieceRun configuration (piece_at configuration number) (parts number) before is_shown.reached =
+    subst (λ list. PieceRun configuration (piece_at configuration number) (parts number) list is_shown.reached) alike.0 is_shown.run in
     record {
       number = number;
       within = within;
-      judges = gives.only before ordered stands.reached one.view run_here seen_here;
-      reached = stands.reached;
+      judges = gives.only before ordered is_shown.reached one.view run_here seen_here;
+      reached = is_shown.reached;
       run = run_here;
       seen = seen_here;
     }
@@ -144,13 +144,13 @@ filled_stays configuration parts records seen slots number have filled before or
     let there = filled before ordered after split judges runs in
     put_in_stays seen slots (length before) there.0 have there.1
 
--- a record through which a piece runs stands before its refusal
-pub stands_before : (configuration : Configuration) (parts : ℕ → Part) (number first : ℕ) (records : List Ordered) (found : Option Refused) (final : Part)
+-- a record through which a piece runs comes before its refusal
+pub reached_before : (configuration : Configuration) (parts : ℕ → Part) (number first : ℕ) (records : List Ordered) (found : Option Refused) (final : Part)
     → ArePlaced first records → HasRunOver configuration number (parts number) records found final
     → (before : List Ordered) (ordered : Ordered) (after : List Ordered) → records ≡ before ++ ordered ∷ after → Runs configuration parts number (before ++ ordered ∷ [])
     → (more : List Ordered) × (up_to found records ≡ before ++ ordered ∷ more)
-stands_before configuration parts number first records None final placed outcome before ordered after split runs = (after, split)
-stands_before configuration parts number first records (Some found) final placed (of, (before', ordered', after', split', place, ran, rejects)) before ordered after split runs =
+reached_before configuration parts number first records None final placed outcome before ordered after split runs = (after, split)
+reached_before configuration parts number first records (Some found) final placed (of, (before', ordered', after', split', place, ran, rejects)) before ordered after split runs =
     elim (cases_lt (length before) (length before')) [
       | inl less ↦
           let middle = begins_with before ordered after before' (ordered' ∷ after') (sym split ∙ split') less in
@@ -178,18 +178,18 @@ pub filled_more : (configuration : Configuration) (parts : ℕ → Part) (number
     → AreSeen configuration (piece_at configuration number) (parts number) 0 (up_to found records) seen
     → HasFilled configuration parts records (put_in seen slots) number
 filled_more configuration parts number first records found final seen slots placed gives whole outcome are before ordered after split judges runs =
-    let more = stands_before configuration parts number first records found final placed outcome before ordered after split runs in
+    let more = reached_before configuration parts number first records found final placed outcome before ordered after split runs in
     let there = is_seen configuration (piece_at configuration number) (parts number) 0 (up_to found records) seen are before ordered more.0 more.1 in
     let view = gives.always before ordered there.0 there.1 judges in
     subst (λ index. (view : View) × (slot_at (put_in seen slots) index ≡ Some view)) (let e : 0 + length before ≡ length before = omega arith in e)
     (put_in_there seen slots (record { index = 0 + length before; view = view.0 }) (seen_have_slots configuration parts number records found seen slots whole are)
     (there.2 view.0 view.1))
 
--- views that stand in the slots of the next records are theirs
+-- views in the slots of the next records are theirs
 pub views_of_slots : (configuration : Configuration) (parts : ℕ → Part) (records : List Ordered) (slots : List (Option View)) → AreSound configuration parts records slots
     → (before others rest : List Ordered) (views : List View) → records ≡ before ++ (others ++ rest) → length views ≡ length others
     → ((index : ℕ) (view : View) → slice_get views index ≡ Some view → slot_at slots (length before + index) ≡ Some view)
-    → AreViewsBehind configuration parts before others views
+    → AreViewsAfter configuration parts before others views
 views_of_slots configuration parts records slots sound before [] rest [] split whole held = refl
 views_of_slots configuration parts records slots sound before [] rest (view ∷ views) split whole held = absurd (omega (arith, whole))
 views_of_slots configuration parts records slots sound before (ordered ∷ others) rest [] split whole held = absurd (omega (arith, whole))

@@ -16,7 +16,7 @@ use Rattle.verdict_merge.specs.Views.{AreViews, count_before, up_to}
 use Rattle.verdict_merge.proofs.Giving.{HaveRun, all_filled, up_to_no}
 use Rattle.verdict_merge.proofs.Rounds.{HasBeen, IsFound, least_is_no, none_ran}
 use Rattle.verdict_merge.proofs.Slotted.{slot_at}
-use Rattle.verdict_merge.proofs.Splits.{place_behind}
+use Rattle.verdict_merge.proofs.Splits.{place_after}
 use Rattle.verdict_merge.proofs.Verdicts.{no_at}
 use Rattle.verdict_merge.proofs.Viewing.{AreSound, HasFilled, up_to_front, views_of_slots}
 
@@ -25,17 +25,17 @@ pub refused_within : (configuration : Configuration) (old new : ℕ → Part) (r
     → IsFound configuration old new records count least → IfSome least (λ refused. (first ≤ refused.pos) × (refused.pos - first ≤ length records))
 refused_within configuration old new records first count None placed found = tt
 refused_within configuration old new records first count (Some least) placed (within, (of, (before, ordered, after, split, place, run, rejects))) =
-    let at = place_behind first before ordered after (subst (ArePlaced first) split placed) in
+    let at = place_after first before ordered after (subst (ArePlaced first) split placed) in
     let whole : length records ≡ length before + suc (length after) = ap length split ∙ length-append before (ordered ∷ after) in
     (omega (arith, place, at), omega (arith, place, at, whole))
 
--- so many records come before the one that is refused
+-- this many records come before the one that is rejected
 counted_are : (configuration : Configuration) (parts : ℕ → Part) (first : ℕ) (records : List Ordered) (found : Option Refused) → ArePlaced first records → HaveRun configuration parts records found
     → count_before first records found ≡ length (up_to found records)
 counted_are configuration parts first records None placed outcome = refl
-counted_are configuration parts first records (Some found) placed stands =
-    let same = up_to_no configuration parts first records found placed stands in
-    omega (arith, ap length same, no_at configuration parts first records found placed stands)
+counted_are configuration parts first records (Some found) placed is_shown =
+    let same = up_to_no configuration parts first records found placed is_shown in
+    omega (arith, ap length same, no_at configuration parts first records found placed is_shown)
 
 up_to_most : (records : List Ordered) (found : Option Refused) → length (up_to found records) ≤ length records
 up_to_most records found = let front = up_to_front records found in omega (arith, ap length front.1, length-append (up_to found records) front.0)
@@ -53,7 +53,7 @@ wanted_filled configuration parts first records found slots placed whose some ou
     all_filled configuration parts first records found slots placed whose some outcome filled (up_to_most records found) index
     (omega (arith, within, counted_are configuration parts first records found placed outcome))
 
--- a view of those that stand in the first slots stands in its slot
+-- a view of those in the first slots is in its slot
 pub held_at : (views : List View) (count : ℕ) (slots : List (Option View)) → map Some views ≡ take count slots → (index : ℕ) (view : View) → slice_get views index ≡ Some view
     → slot_at slots index ≡ Some view
 held_at views count slots same index view is =
@@ -65,7 +65,7 @@ held_at views count slots same index view is =
 pub length_held : (views : List View) (count : ℕ) (slots : List (Option View)) → map Some views ≡ take count slots → count ≤ length slots → length views ≡ count
 length_held views count slots same within = sym (length-map views Some) ∙ ap length same ∙ length-take-le count slots within
 
--- the views that stand in the first slots are those of the records before the one that is refused
+-- the views in the first slots are those of the records before the one that is rejected
 pub views_are_wanted : (configuration : Configuration) (parts : ℕ → Part) (first : ℕ) (records : List Ordered) (found : Option Refused) (slots : List (Option View)) (views : List View)
     → ArePlaced first records → HaveRun configuration parts records found → length slots ≡ length records
     → AreSound configuration parts records slots → map Some views ≡ take (count_before first records found) slots

@@ -52,7 +52,7 @@ abbrev pub IsVerdictFrom : Configuration → List Relation → (ℕ → Part) �
 IsVerdictFrom configuration relations parts count records (Yes all) =
     (all ≡ length records + count) × ((final : ℕ → Part) × AllRun configuration parts records final) × ViewsMeet configuration relations parts records
 IsVerdictFrom configuration relations parts count records (No pos piece cause) =
-    (stands : IsNo configuration parts records (record { pos = pos; piece = piece; cause = cause })) × ViewsMeet configuration relations parts stands.before
+    (is_shown : IsNo configuration parts records (record { pos = pos; piece = piece; cause = cause })) × ViewsMeet configuration relations parts is_shown.before
 IsVerdictFrom configuration relations parts count records (Broken pos rule) = IsBroken configuration relations parts count records pos rule
 
 -- the verdict over one order of records, from the cold state on
@@ -73,7 +73,7 @@ against first found (Some broken) = Some (Broken (first + broken.view) broken.ru
 against first (Some refused) None = Some (no_of refused)
 against first None None = None
 
--- the verdict where there is no rule, by what each piece finds in all the records
+-- the verdict without rules, from what each piece finds in all the records
 
 -- a refusal of the piece of this number, as a list of refusals
 abbrev pub findings_of : ℕ → Option Refusal → List Refused

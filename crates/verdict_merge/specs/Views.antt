@@ -75,7 +75,7 @@ earlier None other = other
 earlier (Some one) None = Some one
 earlier (Some one) (Some other) = if nat_lt other.seen.index one.seen.index then Some other else Some one
 
--- the breach, if its record is among so many of the first records
+-- the breach, if its record is among this many of the first records
 abbrev pub breach_before : ℕ → Option Breach → Option Breach
 breach_before count None = None
 breach_before count (Some breach) = if nat_lt breach.seen.index count then Some breach else None
@@ -96,12 +96,12 @@ pub record IsViewOf (configuration : Configuration) (parts : ℕ → Part) (befo
   pub seen : view_in reached ordered ≡ Some view
 
 -- these are the views of these records, one for each in their order, after these other records
-abbrev pub AreViewsBehind : Configuration → (ℕ → Part) → List Ordered → List Ordered → List View → Type 0
-AreViewsBehind configuration parts before [] views = views ≡ []
-AreViewsBehind configuration parts before (ordered ∷ others) views =
+abbrev pub AreViewsAfter : Configuration → (ℕ → Part) → List Ordered → List Ordered → List View → Type 0
+AreViewsAfter configuration parts before [] views = views ≡ []
+AreViewsAfter configuration parts before (ordered ∷ others) views =
     (view : View) × (more : List View) × (views ≡ view ∷ more) × IsViewOf configuration parts before ordered view
-    × AreViewsBehind configuration parts (before ++ ordered ∷ []) others more
+    × AreViewsAfter configuration parts (before ++ ordered ∷ []) others more
 
 -- these are the views of the next records, one for each in their order
 abbrev pub AreViews : Configuration → (ℕ → Part) → List Ordered → List View → Type 0
-AreViews configuration parts records views = AreViewsBehind configuration parts [] records views
+AreViews configuration parts records views = AreViewsAfter configuration parts [] records views

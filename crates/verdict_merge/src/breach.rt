@@ -33,7 +33,7 @@ pub(crate) fn earlier(one: Option<Breach>, other: Option<Breach>) -> Option<Brea
     }
 }
 
-// The breach, if its record is among so many of the first records.
+// The breach, if its record is among this many of the first records.
 pub(crate) fn breach_before(breach: Option<Breach>, count: usize) -> Option<Breach>
     ensures { result ≡ breach_before count breach }
 {

@@ -9,7 +9,7 @@ use Rattle.apex_machine.specs.declared.state.WaitingSet.{WaitingSet}
 use Rattle.apex_machine.specs.State.{is_named}
 use Rattle.apex_machine.specs.Waiting.{ends_wait, enters, entry_of, is_no_error, is_target, is_waiting, message_of, restart_of, set_after, stop_of, without}
 use Rattle.wait_set.specs.Actors.{joined_by, left_by}
-use Rattle.wait_set.specs.Laws.{StandBefore}
+use Rattle.wait_set.specs.Laws.{AreBeforePlace}
 use Rattle.wait_set.specs.Sets.{entered, has_place}
 use Rattle.wait_set.proofs.Last.{enters_last}
 
@@ -31,7 +31,7 @@ same_without leaves goes (entry ∷ entries) alike =
     let rest : without leaves entries ≡ without goes entries = same_without leaves goes entries alike in
     rw (alike entry.who, rest) refl
 
--- a call that stops nobody and restarts no partition ends the waits of those that it names
+-- a call that stops no process and restarts no partition ends the waits of those that it names
 names_alone : (call : CallRecord) → stop_of call.request ≡ None → restart_of call ≡ None → (who : Who)
     → ends_wait call who ≡ is_named who call.claim.woken
 names_alone call none stays who =
@@ -39,7 +39,7 @@ names_alone call none stays who =
     rw (stays, nobody, and_false (nat_eq who.part call.who.part), and_false (is_no_error call.claim.out), or_false (is_named who call.claim.woken))
     refl
 
--- those stay whom it does not name
+-- processes that it does not name stay
 pub only_named_leave : (call : CallRecord) → stop_of call.request ≡ None → restart_of call ≡ None → (entries : List Entry)
     → without (ends_wait call) entries ≡ left_by call.claim entries
 only_named_leave call none stays entries = same_without (ends_wait call) (λ who. is_named who call.claim.woken) entries (names_alone call none stays)
@@ -47,24 +47,24 @@ only_named_leave call none stays entries = same_without (ends_wait call) (λ who
 -- who enters
 
 -- below a place no entry has it
-pub no_place : (place : ℕ) (entries : List Entry) → StandBefore place entries → has_place place entries ≡ false
+pub no_place : (place : ℕ) (entries : List Entry) → AreBeforePlace place entries → has_place place entries ≡ false
 no_place place [] before = refl
 no_place place (entry ∷ entries) before =
     let apart : nat_eq place entry.place ≡ false = grind (arith, nat_tests, before.0) in
     rw (apart, no_place place entries before.1) refl
 
 -- who leaves keeps the others before a place
-before-without : (leaves : Who → Bool) (place : ℕ) (entries : List Entry) → StandBefore place entries → StandBefore place (without leaves entries)
+before-without : (leaves : Who → Bool) (place : ℕ) (entries : List Entry) → AreBeforePlace place entries → AreBeforePlace place (without leaves entries)
 before-without leaves place [] before = tt
 before-without leaves place (entry ∷ entries) before = by (before-without leaves place entries before.1) (leaves entry.who)
   where
-    by : StandBefore place (without leaves entries) → (b : Bool) → StandBefore place (cond b (without leaves entries) (entry ∷ without leaves entries))
+    by : AreBeforePlace place (without leaves entries) → (b : Bool) → AreBeforePlace place (cond b (without leaves entries) (entry ∷ without leaves entries))
     by rest true = rest
     by rest false = (before.0, rest)
 
 -- a set in which its caller may wait: those leave that it names, and a caller that waits enters it
 pub set_joined : (place : ℕ) (call : CallRecord) (wanted : WaitingSet) (entries : List Entry) → stop_of call.request ≡ None → restart_of call ≡ None
-    → StandBefore place entries → enters call wanted ≡ is_waiting call.claim.out
+    → AreBeforePlace place entries → enters call wanted ≡ is_waiting call.claim.out
     → set_after place (Call call) wanted entries
     ≡ joined_by (record { who = call.who; priority = call.claim.prio; place = place }) call.claim (message_of call.request) entries
 set_joined place call wanted entries none stays before can = rw (can, only_named_leave call none stays entries) (by (is_waiting call.claim.out))

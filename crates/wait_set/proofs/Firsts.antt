@@ -14,11 +14,11 @@ use Rattle.wait_set.specs.declared.rank.Rank.{Rank}
 use Rattle.wait_set.specs.contracts.rank.RankOrd.TheImpl as rank_order
 use Rattle.wait_set.specs.Kept.{IsKept, by_place, has_rank, is_rank}
 use Rattle.wait_set.specs.Ranks.{rank_of}
-use Rattle.wait_set.specs.Sets.{NobodyTwice, PlacesRise, StandBehind, entry_of}
-use Rattle.wait_set.proofs.Leaving.{entry_of-stands}
-use Rattle.wait_set.proofs.WaitersOf.{same_is, same_itself, stands-named}
+use Rattle.wait_set.specs.Sets.{NobodyTwice, PlacesRise, AreAfterPlace, entry_of}
+use Rattle.wait_set.proofs.Leaving.{entry_of-is_member}
+use Rattle.wait_set.proofs.WaitersOf.{same_is, same_itself, is_member-named}
 use Rattle.apex_machine.specs.Answer.{waiters_of}
-use Rattle.apex_machine.specs.Demands.{stands_in}
+use Rattle.apex_machine.specs.Demands.{has_entry_in}
 use Rattle.apex_machine.specs.State.{is_named, is_same}
 use Rattle.std.specs.Option.{is_some}
 use Rattle.wait_set.proofs.Maps.{any-same}
@@ -50,7 +50,7 @@ NoneBefore : Discipline → Rank → List Entry → Type 0
 NoneBefore discipline rank [] = Unit {0}
 NoneBefore discipline rank (entry ∷ entries) = (rank_precedes (rank_of discipline entry) rank ≡ false) × NoneBefore discipline rank entries
 
--- where no rank of a set precedes this one, no entry does
+-- if no rank of a set precedes this one, no entry does
 none_before : (discipline : Discipline) (rank : Rank) (entries : List Entry)
     → ((other : Rank) → has_rank discipline other entries ≡ true → rank_precedes other rank ≡ false) → NoneBefore discipline rank entries
 unfolding NoneBefore
@@ -91,17 +91,17 @@ first-before discipline rank (entry ∷ entries) first none is =
         ]
 
 -- a rank of those after a place has a greater place
-behind-rank : (discipline : Discipline) (rank : Rank) (place : ℕ) (entries : List Entry) → StandBehind place entries
+those_after-rank : (discipline : Discipline) (rank : Rank) (place : ℕ) (entries : List Entry) → AreAfterPlace place entries
     → has_rank discipline rank entries ≡ true → place < rank.place
-behind-rank discipline rank place [] behind has = absurd (true≢false (sym has))
-behind-rank discipline rank place (entry ∷ entries) behind has =
+those_after-rank discipline rank place [] those_after has = absurd (true≢false (sym has))
+those_after-rank discipline rank place (entry ∷ entries) those_after has =
     elim (cases_Bool (is_rank rank (rank_of discipline entry))) [
       | inl here ↦
           let parts = and_parts (nat_eq rank.urgency.0 (rank_of discipline entry).urgency.0) (nat_eq rank.place entry.place) here in
           let same : rank.place ≡ entry.place = eqb-true rank.place entry.place parts.1 in
-          let above : place < entry.place = behind.0 in
+          let above : place < entry.place = those_after.0 in
           rw same above
-      | inr elsewhere ↦ behind-rank discipline rank place entries behind.1 (rw elsewhere at has)
+      | inr elsewhere ↦ those_after-rank discipline rank place entries those_after.1 (rw elsewhere at has)
     ]
 
 -- the entry at the place of a rank of the set has that rank
@@ -124,7 +124,7 @@ ranked_at discipline rank (entry ∷ entries) rising has =
           }
       | inr elsewhere ↦
           let later : has_rank discipline rank entries ≡ true = rw elsewhere at has in
-          let above : entry.place < rank.place = behind-rank discipline rank entry.place entries rising.0 later in
+          let above : entry.place < rank.place = those_after-rank discipline rank entry.place entries rising.0 later in
           let apart : nat_eq rank.place entry.place ≡ false = grind (arith, nat_tests) in
           let rest : RankedAt discipline rank entries = ranked_at discipline rank entries rising.1 later in
           record { entry = rest.entry; found = rw (number_is rank.place entry.place, apart) rest.found; same = rest.same }
@@ -142,7 +142,7 @@ first_at discipline rank (entry ∷ entries) rising has none =
           rw (number_is rank.place entry.place, parts.1) (sym (head here (first_waiter discipline entries) refl))
       | inr elsewhere ↦
           let later : has_rank discipline rank entries ≡ true = rw elsewhere at has in
-          let above : entry.place < rank.place = behind-rank discipline rank entry.place entries rising.0 later in
+          let above : entry.place < rank.place = those_after-rank discipline rank entry.place entries rising.0 later in
           let apart : nat_eq rank.place entry.place ≡ false = grind (arith, nat_tests) in
           let at : RankedAt discipline rank entries = ranked_at discipline rank entries rising.1 later in
           let first = first_at discipline rank entries rising.1 later none.1 in
@@ -184,7 +184,7 @@ empty : (ranks : List Rank) → (0 < length ranks → false ≡ true) → ranks 
 empty [] none = refl
 empty (rank ∷ ranks) none = absurd (true≢false (sym (none (omega arith))))
 
--- where no rank is kept nobody is the first
+-- if no rank is kept, no process is the first
 pub first_of_none : (discipline : Discipline) (stored : List (ℕ × Entry)) (places : List (Who × ℕ)) (ranks : List Rank)
     → IsKept discipline stored places ranks → (0 < length ranks → false ≡ true) → first_waiter discipline (values_of stored) ≡ None
 first_of_none discipline stored places ranks kept none =
@@ -226,9 +226,9 @@ first_is_its_own discipline (entry ∷ entries) first once is =
         apart later =
             elim (cases_Bool (is_same first.who entry.who)) [
               | inl same ↦
-                  let stands : stands_in first.who entries ≡ true = sym (entry_of-stands first.who entries) ∙ ap is_some later in
+                  let is_member : has_entry_in first.who entries ≡ true = sym (entry_of-is_member first.who entries) ∙ ap is_some later in
                   let named : is_named entry.who (waiters_of entries) ≡ true =
-                  ap (λ who. is_named who (waiters_of entries)) (sym (same_is first.who entry.who same)) ∙ stands-named first.who entries ∙ stands in
+                  ap (λ who. is_named who (waiters_of entries)) (sym (same_is first.who entry.who same)) ∙ is_member-named first.who entries ∙ is_member in
                   absurd (true≢false (sym named ∙ once.0))
               | inr differs ↦ differs
             ]

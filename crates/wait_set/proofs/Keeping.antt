@@ -12,14 +12,14 @@ use Rattle.apex_types.specs.declared.discipline.Discipline.{Discipline}
 use Rattle.apex_types.specs.declared.record.Who.{Who}
 use Rattle.apex_types.specs.contracts.record.WhoOrd.TheImpl as who_order
 use Rattle.apex_machine.specs.declared.state.Entry.{Entry}
-use Rattle.apex_machine.specs.Demands.{stands_in}
+use Rattle.apex_machine.specs.Demands.{has_entry_in}
 use Rattle.apex_machine.specs.State.{is_same}
 use Rattle.wait_set.specs.declared.rank.Rank.{Rank}
 use Rattle.wait_set.specs.contracts.rank.RankOrd.TheImpl as rank_order
 use Rattle.wait_set.specs.Kept.{IsKept, by_place, has_rank, is_rank, place_of}
 use Rattle.wait_set.specs.Ranks.{rank_of}
 use Rattle.wait_set.specs.Sets.{IsNew, entered, entry_of, has_place, without_one}
-use Rattle.wait_set.proofs.Entries.{found-stands, has_rank-entered, once-entered, place_of-entered, rising-entered}
+use Rattle.wait_set.proofs.Entries.{found-is_member, has_rank-entered, once-entered, place_of-entered, rising-entered}
 use Rattle.wait_set.proofs.Leaving.{has_rank-without, once-without, place_of-without, rank_swap, rising-without}
 use Rattle.wait_set.proofs.Maps.{insert-by_place, lookup-by_place, lookup-same, place-updated, rank-updated, remove-by_place, values-by_place}
 use Rattle.wait_set.proofs.Orders.{who_is}
@@ -75,7 +75,7 @@ pub record Left (discipline : Discipline) (who : Who) (stored after : List (ℕ 
   pub values : values_of after ≡ without_one who (values_of stored)
   pub kept : IsKept discipline after places ranks
 
--- each map changed at a process that stands in the set
+-- each map changed at a process that has an entry in the set
 pub left-kept : (discipline : Discipline) (who : Who) (place : ℕ) (entry : Entry) (stored after : List (ℕ × Entry))
     (places places_after : BTreeMap Who ℕ) (ranks ranks_after : BTreeSet Rank) → IsKept discipline stored places.entries ranks.keys
     → place_of who (values_of stored) ≡ Some place → entry_of who (values_of stored) ≡ Some entry
@@ -122,7 +122,7 @@ unranked discipline rank other (entry ∷ entries) new same =
 
 -- a place that is put in for a process that does not wait, and taken out again
 pub place-restored : (old between new : BTreeMap Who ℕ) (who : Who) (place : ℕ) (entries : List Entry)
-    → ((other : Who) → lookup (is_same other) old.entries ≡ place_of other entries) → stands_in who entries ≡ false
+    → ((other : Who) → lookup (is_same other) old.entries ≡ place_of other entries) → has_entry_in who entries ≡ false
     → UpdatesBy who_order.cmp-value.it (who_order.cmp-value.it who) old between (Some place)
     → UpdatesBy who_order.cmp-value.it (who_order.cmp-value.it who) between new None
     → (other : Who) → lookup (is_same other) new.entries ≡ place_of other entries
@@ -136,7 +136,7 @@ place-restored old between new who place entries found none put taken other =
     by : (b : Bool) → is_same who other ≡ b → (if b then None else lookup (is_same other) between.entries) ≡ place_of other entries
     by true same =
         let no : is_some (place_of other entries) ≡ false =
-        found-stands other entries ∙ ap (λ w. stands_in w entries) (sym (same_is who other same)) ∙ none in
+        found-is_member other entries ∙ ap (λ w. has_entry_in w entries) (sym (same_is who other same)) ∙ none in
         sym (absent (place_of other entries) refl no)
     by false differs = place-updated old between who (Some place) put other ∙ rw differs (found other)
 

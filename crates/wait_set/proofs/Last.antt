@@ -2,12 +2,12 @@
 use Rattle.std.proofs.Common.{◌≡◌, ◌<◌, List, [], ◌∷◌, ◌++◌, true, nat_lt, refl, ap, arith}
 use Rattle.std.proofs.lemmas.Bool.Decides.{nat_tests}
 use Rattle.apex_machine.specs.declared.state.Entry.{Entry}
-use Rattle.wait_set.specs.Laws.{EntersLast, RisingIsListOfWaiters, StandBefore}
+use Rattle.wait_set.specs.Laws.{EntersLast, RisingIsListOfWaiters, AreBeforePlace}
 use Rattle.wait_set.specs.Sets.{entered}
 use Rattle.wait_set.proofs.WaiterLists.{once-rising}
 
 -- an entry after all others enters as the last
-pub last : (entry : Entry) (entries : List Entry) → StandBefore entry.place entries → entered entry entries ≡ entries ++ entry ∷ []
+pub last : (entry : Entry) (entries : List Entry) → AreBeforePlace entry.place entries → entered entry entries ≡ entries ++ entry ∷ []
 last entry [] before = refl
 last entry (other ∷ others) before =
     let below : other.place < entry.place = before.0 in

@@ -7,7 +7,7 @@ use Rattle.apex_types.specs.declared.discipline.Discipline.{Discipline}
 use Rattle.apex_types.specs.declared.record.Who.{Who}
 use Rattle.apex_machine.specs.declared.state.Entry.{Entry}
 use Rattle.apex_machine.specs.Answer.{NamesExactly, waiters_of}
-use Rattle.apex_machine.specs.Demands.{stands_in}
+use Rattle.apex_machine.specs.Demands.{has_entry_in}
 use Rattle.apex_machine.specs.State.{is_named, is_same}
 use Rattle.apex_machine.specs.Waiting.{without}
 use Rattle.wait_set.specs.declared.rank.Rank.{Rank}
@@ -17,10 +17,10 @@ use Rattle.wait_set.specs.declared.object.Actor.{Actor}
 use Rattle.wait_set.specs.Actors.{entry_with, joined_by}
 use Rattle.wait_set.specs.Kept.{has_rank, is_rank, place_of}
 use Rattle.wait_set.specs.Ranks.{rank_of}
-use Rattle.wait_set.specs.Sets.{NobodyTwice, PlacesRise, StandBehind, entered, entry_of, waiter_of, without_found, without_named, without_one}
+use Rattle.wait_set.specs.Sets.{NobodyTwice, PlacesRise, AreAfterPlace, entered, entry_of, waiter_of, without_found, without_named, without_one}
 use Rattle.wait_set.proofs.Orders.{number_swap}
 use Rattle.wait_set.proofs.Tests.{neither, neither_first, neither_later}
-use Rattle.wait_set.proofs.WaitersOf.{same_is, same_itself, same_swap, stands-named}
+use Rattle.wait_set.proofs.WaitersOf.{same_is, same_itself, same_swap, is_member-named}
 
 -- the place of a process, once those who leave have left
 pub place_of-without : (leaves : Who → Bool) (who : Who) (entries : List Entry)
@@ -57,7 +57,7 @@ unnamed-without leaves who (entry ∷ entries) none =
       | inr stays ↦ rw stays (neither _ _ (neither_first _ _ none) (unnamed-without leaves who entries (neither_later _ _ none)))
     ]
 
--- who leaves makes nobody stand twice
+-- leaving gives no process a second entry
 pub once-without : (leaves : Who → Bool) (entries : List Entry) → NobodyTwice (waiters_of entries) → NobodyTwice (waiters_of (without leaves entries))
 once-without leaves [] once = tt
 once-without leaves (entry ∷ entries) once =
@@ -67,13 +67,13 @@ once-without leaves (entry ∷ entries) once =
     ]
 
 -- who leaves keeps the others after
-pub behind-without : (leaves : Who → Bool) (place : ℕ) (entries : List Entry) → StandBehind place entries
-    → StandBehind place (without leaves entries)
-behind-without leaves place [] behind = tt
-behind-without leaves place (entry ∷ entries) behind =
+pub those_after-without : (leaves : Who → Bool) (place : ℕ) (entries : List Entry) → AreAfterPlace place entries
+    → AreAfterPlace place (without leaves entries)
+those_after-without leaves place [] those_after = tt
+those_after-without leaves place (entry ∷ entries) those_after =
     elim (cases_Bool (leaves entry.who)) [
-      | inl departed ↦ rw departed (behind-without leaves place entries behind.1)
-      | inr stays ↦ rw stays (behind.0, behind-without leaves place entries behind.1)
+      | inl departed ↦ rw departed (those_after-without leaves place entries those_after.1)
+      | inr stays ↦ rw stays (those_after.0, those_after-without leaves place entries those_after.1)
     ]
 
 -- who leaves keeps the places rising
@@ -82,11 +82,11 @@ rising-without leaves [] rising = tt
 rising-without leaves (entry ∷ entries) rising =
     elim (cases_Bool (leaves entry.who)) [
       | inl departed ↦ rw departed (rising-without leaves entries rising.1)
-      | inr stays ↦ rw stays (behind-without leaves entry.place entries rising.0, rising-without leaves entries rising.1)
+      | inr stays ↦ rw stays (those_after-without leaves entry.place entries rising.0, rising-without leaves entries rising.1)
     ]
 
 -- one that does not wait leaves nothing changed
-pub without-absent : (who : Who) (entries : List Entry) → stands_in who entries ≡ false → without_one who entries ≡ entries
+pub without-absent : (who : Who) (entries : List Entry) → has_entry_in who entries ≡ false → without_one who entries ≡ entries
 without-absent who [] none = refl
 without-absent who (entry ∷ entries) none =
     rw (same_swap entry.who who ∙ neither_first _ _ none) (ap (λ rest. entry ∷ rest) (without-absent who entries (neither_later _ _ none)))
@@ -111,23 +111,23 @@ entry_of-absent who (entry ∷ entries) none =
     ]
 
 -- whether there is an entry of a process
-pub entry_of-stands : (who : Who) (entries : List Entry) → is_some (entry_of who entries) ≡ stands_in who entries
-entry_of-stands who [] = refl
-entry_of-stands who (entry ∷ entries) =
-    elim (cases_Bool (is_same who entry.who)) [ inl e ↦ rw e refl | inr e ↦ rw e (entry_of-stands who entries) ]
+pub entry_of-is_member : (who : Who) (entries : List Entry) → is_some (entry_of who entries) ≡ has_entry_in who entries
+entry_of-is_member who [] = refl
+entry_of-is_member who (entry ∷ entries) =
+    elim (cases_Bool (is_same who entry.who)) [ inl e ↦ rw e refl | inr e ↦ rw e (entry_of-is_member who entries) ]
 
 -- an entry after a place has a greater place
-pub found-behind : (who : Who) (place : ℕ) (entries : List Entry) (entry : Entry) → StandBehind place entries
+pub found-those_after : (who : Who) (place : ℕ) (entries : List Entry) (entry : Entry) → AreAfterPlace place entries
     → entry_of who entries ≡ Some entry → place < entry.place
-found-behind who place [] entry behind found = cc
-found-behind who place (other ∷ others) entry behind found =
+found-those_after who place [] entry those_after found = cc
+found-those_after who place (other ∷ others) entry those_after found =
     elim (cases_Bool (is_same who other.who)) [
       | inl same ↦
           let here : Some other ≡ Some entry = rw same at found in
           let is : other ≡ entry = cc in
-          let above : place < other.place = behind.0 in
+          let above : place < other.place = those_after.0 in
           rw (← is) above
-      | inr differs ↦ found-behind who place others entry behind.1 (rw differs at found)
+      | inr differs ↦ found-those_after who place others entry those_after.1 (rw differs at found)
     ]
 
 -- ranks of two places are two
@@ -142,11 +142,11 @@ differ one other below =
     ]
 
 -- a rank of a smaller place is none of those after it
-pub unranked-behind : (discipline : Discipline) (rank : Rank) (place : ℕ) (entries : List Entry) → StandBehind place entries
+pub unranked-those_after : (discipline : Discipline) (rank : Rank) (place : ℕ) (entries : List Entry) → AreAfterPlace place entries
     → rank.place ≡ place → has_rank discipline rank entries ≡ false
-unranked-behind discipline rank place [] behind is = refl
-unranked-behind discipline rank place (entry ∷ entries) behind is =
-    neither _ _ (differ rank (rank_of discipline entry) (omega arith)) (unranked-behind discipline rank place entries behind.1 is)
+unranked-those_after discipline rank place [] those_after is = refl
+unranked-those_after discipline rank place (entry ∷ entries) those_after is =
+    neither _ _ (differ rank (rank_of discipline entry) (omega arith)) (unranked-those_after discipline rank place entries those_after.1 is)
 
 -- sameness of ranks goes both ways
 pub rank_swap : (one other : Rank) → is_rank one other ≡ is_rank other one
@@ -164,12 +164,12 @@ has_rank-without discipline rank who entry (other ∷ others) rising once found 
           let here : Some other ≡ Some entry = rw same at found in
           let is : other ≡ entry = cc in
           let named : is_named who (waiters_of others) ≡ false = ap (λ w. is_named w (waiters_of others)) (same_is who other.who same) ∙ once.0 in
-          let absent : stands_in who others ≡ false = sym (stands-named who others) ∙ named in
+          let absent : has_entry_in who others ≡ false = sym (is_member-named who others) ∙ named in
           rw (same_swap other.who who ∙ same, without-absent who others absent, ← is) (first (is_rank (rank_of discipline other) rank) refl)
       | inr differs ↦
           let later : entry_of who others ≡ Some entry = rw differs at found in
           rw (same_swap other.who who ∙ differs)
-          (later_one (is_rank (rank_of discipline entry) rank) refl (found-behind who other.place others entry rising.0 later)
+          (later_one (is_rank (rank_of discipline entry) rank) refl (found-those_after who other.place others entry rising.0 later)
           (has_rank-without discipline rank who entry others rising.1 once.1 later))
     ]
   where
@@ -178,7 +178,7 @@ has_rank-without discipline rank who entry (other ∷ others) rising once found 
     first true e =
         let parts = and_parts (nat_eq (rank_of discipline other).urgency.0 rank.urgency.0) (nat_eq other.place rank.place) e in
         let place : other.place ≡ rank.place = eqb-true other.place rank.place parts.1 in
-        unranked-behind discipline rank other.place others rising.0 (sym place)
+        unranked-those_after discipline rank other.place others rising.0 (sym place)
     first false e = rw (rank_swap rank (rank_of discipline other) ∙ e) refl
 
     later_one : (b : Bool) → is_rank (rank_of discipline entry) rank ≡ b → other.place < entry.place
@@ -190,17 +190,17 @@ has_rank-without discipline rank who entry (other ∷ others) rising once found 
         neither _ _ (rank_swap rank (rank_of discipline other) ∙ differ (rank_of discipline other) rank (omega arith)) rest
     later_one false e above rest = ap (λ more. is_rank rank (rank_of discipline other) || more) rest
 
--- a list that names nobody lets nobody go
+-- a list that names no process takes none out
 pub without-unnamed : (named : List Who) (entries : List Entry) → NamesExactly [] named → without_named named entries ≡ entries
 without-unnamed named [] exact = refl
 without-unnamed named (entry ∷ entries) exact = rw (exact entry.who) (ap (λ rest. entry ∷ rest) (without-unnamed named entries exact))
 
--- who is named by nobody stays
+-- a process that is not named stays
 pub without-nobody : (entries : List Entry) → without_named [] entries ≡ entries
 without-nobody [] = refl
 without-nobody (entry ∷ entries) = ap (λ rest. entry ∷ rest) (without-nobody entries)
 
--- those whom a list names leave one after the other
+-- the processes that a list names leave one after the other
 pub without-next : (who : Who) (others : List Who) (entries : List Entry)
     → without_named (who ∷ others) entries ≡ without_named others (without_one who entries)
 without-next who others [] = refl
@@ -223,9 +223,9 @@ pub without-at : (who : Who) (index : ℕ) (named : List Who) (entries : List En
 without-at who index named entries within is =
     rw (drop-cons named index who within, ← is, add-one) (without-next who (drop (suc index) named) entries)
 
--- after the last nobody is named
+-- after the last, no process is named
 pub without-end : (index : ℕ) (named : List Who) (entries : List Entry) → length named ≤ index → without_named (drop index named) entries ≡ entries
-without-end index named entries behind = rw (drop_of_length-le named behind) (without-nobody entries)
+without-end index named entries those_after = rw (drop_of_length-le named those_after) (without-nobody entries)
 
 -- a caller that waits, and ends no wait, enters
 pub joined-waiting : (actor : Actor) (claim : Claim) (message : List ℕ) (entries : List Entry) → claim.out ≡ out.Waits → NamesExactly [] claim.woken
@@ -250,7 +250,7 @@ without-named_one who named (entry ∷ entries) is =
     by true e rest = rest
     by false e rest = ap (λ more. entry ∷ more) rest
 
--- once the first has left, whom a list names and no other, those who are named leave what they leave otherwise
+-- if a list names only the first, taking out the processes named leaves the same entries, whether or not the first has left before
 pub without-named_first : (found : Option Entry) (named : List Who) (entries : List Entry) → NamesExactly (waiter_of found) named
     → without_named named (without_found found entries) ≡ without_named named entries
 without-named_first None named entries exact = refl

@@ -13,16 +13,16 @@ use Rattle.apex_types.specs.declared.record.Who.{Who}
 use Rattle.apex_types.specs.contracts.record.WhoOrd.TheImpl as who_order
 use Rattle.apex_machine.specs.declared.state.Entry.{Entry}
 use Rattle.apex_machine.specs.Answer.{waiters_of}
-use Rattle.apex_machine.specs.Demands.{stands_in}
+use Rattle.apex_machine.specs.Demands.{has_entry_in}
 use Rattle.apex_machine.specs.State.{is_named, is_same}
 use Rattle.wait_set.specs.declared.rank.Rank.{Rank}
 use Rattle.wait_set.specs.contracts.rank.RankOrd.TheImpl as rank_order
 use Rattle.wait_set.specs.Kept.{by_place, is_rank, place_of}
 use Rattle.wait_set.specs.Sets.{NobodyTwice, PlacesRise, entered, entry_of, has_place, without_one}
-use Rattle.wait_set.proofs.Leaving.{found-behind, found-entry, without-absent}
+use Rattle.wait_set.proofs.Leaving.{found-those_after, found-entry, without-absent}
 use Rattle.wait_set.proofs.Orders.{number_is, rank_is, who_is}
 use Rattle.wait_set.proofs.Tests.{neither_first, neither_later}
-use Rattle.wait_set.proofs.WaitersOf.{same_is, same_swap, stands-named}
+use Rattle.wait_set.proofs.WaitersOf.{same_is, same_swap, is_member-named}
 
 -- a search by either of two tests that agree
 
@@ -69,12 +69,12 @@ pub insert-by_place : (entry : Entry) (entries : List Entry) → has_place entry
 insert-by_place entry [] new = refl
 insert-by_place entry (other ∷ others) new =
     elim (cases_Bool (nat_lt other.place entry.place)) [
-      | inl before ↦ rw (before, behind before) (ap (λ rest. (other.place, other) ∷ rest) (insert-by_place entry others (neither_later _ _ new)))
+      | inl before ↦ rw (before, those_after before) (ap (λ rest. (other.place, other) ∷ rest) (insert-by_place entry others (neither_later _ _ new)))
       | inr not_before ↦ rw (not_before, ahead not_before (neither_first _ _ new)) refl
     ]
   where
-    behind : nat_lt other.place entry.place ≡ true → nat_cmp entry.place other.place ≡ Greater
-    behind before = grind (arith, nat_tests)
+    those_after : nat_lt other.place entry.place ≡ true → nat_cmp entry.place other.place ≡ Greater
+    those_after before = grind (arith, nat_tests)
 
     ahead : nat_lt other.place entry.place ≡ false → nat_eq entry.place other.place ≡ false → nat_cmp entry.place other.place ≡ Less
     ahead not_before apart = grind (arith, nat_tests)
@@ -97,7 +97,7 @@ lookup-by_place who place (entry ∷ entries) rising found =
     above : place_of who entries ≡ Some place → nat_eq place entry.place ≡ false
     above later =
         let has = found-entry who entries place later in
-        let below : entry.place < has.0.place = found-behind who entry.place entries has.0 rising.0 has.1 in
+        let below : entry.place < has.0.place = found-those_after who entry.place entries has.0 rising.0 has.1 in
         let is : has.0.place ≡ place = has.2 in
         grind (arith, nat_tests)
 
@@ -111,7 +111,7 @@ remove-by_place who place (entry ∷ entries) rising once found =
           let here : Some entry.place ≡ Some place = rw same at found in
           let is : place ≡ entry.place = cc in
           let named : is_named who (waiters_of entries) ≡ false = ap (λ w. is_named w (waiters_of entries)) (same_is who entry.who same) ∙ once.0 in
-          let absent : stands_in who entries ≡ false = sym (stands-named who entries) ∙ named in
+          let absent : has_entry_in who entries ≡ false = sym (is_member-named who entries) ∙ named in
           rw (same_swap entry.who who ∙ same, number_is place entry.place, eq-eqb place entry.place is, without-absent who entries absent) refl
       | inr differs ↦
           let later : place_of who entries ≡ Some place = rw differs at found in
@@ -122,6 +122,6 @@ remove-by_place who place (entry ∷ entries) rising once found =
     above : place_of who entries ≡ Some place → nat_eq place entry.place ≡ false
     above later =
         let has = found-entry who entries place later in
-        let below : entry.place < has.0.place = found-behind who entry.place entries has.0 rising.0 has.1 in
+        let below : entry.place < has.0.place = found-those_after who entry.place entries has.0 rising.0 has.1 in
         let is : has.0.place ≡ place = has.2 in
         grind (arith, nat_tests)

@@ -24,7 +24,7 @@ number_is one other = grind (arith, nat_tests)
 pub number_swap : (one other : ℕ) → nat_eq one other ≡ nat_eq other one
 number_swap one other = grind (arith, nat_tests)
 
--- a number is above another in their order where the other is below it
+-- a number is above another in their order if the other is below it
 pub number_above : (one other : ℕ) → is_gt (nat_cmp one other) ≡ nat_lt other one
 number_above one other = grind (arith, nat_tests)
 
@@ -46,11 +46,11 @@ abbrev pub rank_precedes : Rank → Rank → Bool
 rank_precedes one other =
     nat_lt other.urgency.0 one.urgency.0 || (nat_eq one.urgency.0 other.urgency.0 && nat_lt one.place other.place)
 
--- a rank stands above another in their order where the other goes on before
+-- a rank is above another in their order if the other comes first
 pub rank_above : (one other : Rank) → is_gt (rank_order.cmp-value.it other one) ≡ rank_precedes one other
 rank_above one other = pair_above one.urgency.0 other.urgency.0 one.place other.place
 
--- one entry precedes another where its rank does
+-- one entry precedes another if its rank does
 pub precedes-rank : (discipline : Discipline) (one other : Entry)
     → precedes discipline one other ≡ rank_precedes (rank_of discipline one) (rank_of discipline other)
 precedes-rank Fifo one other = refl

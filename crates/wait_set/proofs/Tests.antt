@@ -1,12 +1,12 @@
 -- Plain facts about tests.
 use Rattle.std.proofs.Common.{◌≡◌, Bool, true, false, ◌||◌, if◌then◌else◌, refl, true≢false}
 
--- where neither test holds the first doesn't
+-- if neither test holds, the first does not
 pub neither_first : (one other : Bool) → (one || other) ≡ false → one ≡ false
 neither_first true other neither = neither
 neither_first false other neither = refl
 
--- where neither test holds the second doesn't
+-- if neither test holds, the second does not
 pub neither_later : (one other : Bool) → (one || other) ≡ false → other ≡ false
 neither_later true other neither = absurd (true≢false neither)
 neither_later false other neither = neither
@@ -18,7 +18,7 @@ either_swap true false rest = refl
 either_swap false true rest = refl
 either_swap false false rest = refl
 
--- where neither of two tests holds, none does
+-- if neither of two tests holds, none does
 pub neither : (one other : Bool) → one ≡ false → other ≡ false → (one || other) ≡ false
 neither one other first second = rw first second
 

@@ -5,7 +5,7 @@ use Rattle.std.specs.List.{list_any}
 use Rattle.apex_types.specs.declared.record.Who.{Who}
 use Rattle.apex_machine.specs.declared.state.Entry.{Entry}
 use Rattle.apex_machine.specs.Answer.{waiters_of}
-use Rattle.apex_machine.specs.Demands.{stands_in}
+use Rattle.apex_machine.specs.Demands.{has_entry_in}
 use Rattle.apex_machine.specs.State.{is_named, is_same}
 use Rattle.wait_set.proofs.Orders.{number_swap}
 
@@ -25,7 +25,7 @@ same_itself who = and_from _ _ (eq-eqb who.part who.part refl) (eq-eqb who.proc 
 pub same_swap : (one other : Who) → is_same one other ≡ is_same other one
 same_swap one other = rw (number_swap one.part other.part, number_swap one.proc other.proc) refl
 
--- who is another than this one, and the same as a third, is not this one where the third is not
+-- a process that is different from this one, and the same as a third, is not this one if the third is not
 pub same_apart : (who one other : Who) → is_same one other ≡ false → is_same who other ≡ true → is_same who one ≡ false
 same_apart who one other differs same =
     elim (cases_Bool (is_same who one)) [
@@ -33,10 +33,10 @@ same_apart who one other differs same =
       | inr apart ↦ apart
     ]
 
--- who stands in a set is named by the list of those who wait
-pub stands-named : (who : Who) (entries : List Entry) → is_named who (waiters_of entries) ≡ stands_in who entries
-stands-named who [] = refl
-stands-named who (entry ∷ entries) = ap (λ rest. is_same who entry.who || rest) (stands-named who entries)
+-- a process with an entry in a set is named by the list of those that wait
+pub is_member-named : (who : Who) (entries : List Entry) → is_named who (waiters_of entries) ≡ has_entry_in who entries
+is_member-named who [] = refl
+is_member-named who (entry ∷ entries) = ap (λ rest. is_same who entry.who || rest) (is_member-named who entries)
 
 -- whether a list names a process, as a search
 pub is_named-any : (who : Who) (named : List Who) → is_named who named ≡ list_any (is_same who) named

@@ -1,4 +1,4 @@
--- Who makes a call on an object, and the object's waiting sets after it.
+-- The process that makes a call on an object, and the object's waiting sets after the call.
 use Rattle.std.specs.Prelude.{◌≡◌, ℕ, List, [], ◌∷◌, Option, Some, None, ℤ, if◌then◌else◌, IsTrue}
 use Rattle.apex_types.specs.declared.cause.Cause.TheVariants as cause
 use Rattle.apex_types.specs.declared.record.Claim.{Claim}
@@ -16,15 +16,15 @@ use Rattle.wait_set.specs.Sets.{entered, without_named}
 abbrev pub entry_with : Actor → List ℕ → Entry
 entry_with actor message = record { who = actor.who; priority = actor.priority; place = actor.place; message = message }
 
--- an operation asks nothing of its caller and the object
+-- an operation requires nothing of its caller and the object
 abbrev pub OwesNothing : {Operation Object : Type 0} → Actor → Operation → Object → Type 0
 OwesNothing actor operation found = Unit {0}
 
--- a waiting set after a claim: whose wait ends leaves it
+-- a waiting set after a claim: each process whose wait ends leaves it
 abbrev pub left_by : Claim → List Entry → List Entry
 left_by claim entries = without_named claim.woken entries
 
--- a waiting set after a claim: whose wait ends leaves it, and a caller that waits enters it with this message
+-- a waiting set after a claim: each process whose wait ends leaves it, and a caller that waits enters it with this message
 abbrev pub joined_by : Actor → Claim → List ℕ → List Entry → List Entry
 joined_by actor claim message entries =
     if is_waiting claim.out then entered (entry_with actor message) (left_by claim entries) else left_by claim entries
@@ -33,7 +33,7 @@ joined_by actor claim message entries =
 abbrev pub WaitsAlone : Claim → Type 0
 WaitsAlone claim = IsTrue (is_waiting claim.out) → NamesExactly [] claim.woken
 
--- a refusal over demands: the cause of the first that fails; memory is wanted only where all of them hold
+-- a refusal over demands: the cause of the first that fails; memory can be lacking only if all of them hold
 abbrev pub Refuses : List {1} Demand → ObjFault → Type 0
 Refuses demands (Unlawful cause) = FirstFails demands cause
 Refuses demands Memory = AllHold demands

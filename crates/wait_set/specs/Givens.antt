@@ -8,7 +8,7 @@ use Rattle.wait_set.specs.declared.given.Given.{Given}
 use Rattle.wait_set.specs.Actors.{value_of}
 use Rattle.wait_set.specs.Sets.{Waiters}
 
--- those whose waits end: of one process, if it is one, or of all in a set
+-- the processes whose waits end: this one, if there is one, or all in a set
 abbrev pub listed : Option Who → Option (Bor Waiters) → List Who
 listed one None = option_to_list one
 listed one (Some set) = waiters_of set.now.entries

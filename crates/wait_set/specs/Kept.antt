@@ -1,4 +1,4 @@
--- What a waiting set keeps of its maps: they speak of the same entries.
+-- What the maps of a waiting set keep: they describe the same entries.
 use Rattle.std.specs.Prelude.{◌≡◌, ◌||◌, ◌&&◌, ℕ, List, [], ◌∷◌, Option, Some, None, Bool, false, nat_eq, if◌then◌else◌}
 use Rattle.std.specs.List.{list_any}
 use Rattle.std.specs.Map.{values_of, lookup}
@@ -30,8 +30,8 @@ abbrev pub has_rank : Discipline → Rank → List Entry → Bool
 has_rank discipline rank [] = false
 has_rank discipline rank (entry ∷ entries) = is_rank rank (rank_of discipline entry) || has_rank discipline rank entries
 
--- each entry stands under its place, and the places rise; exactly those who wait are found, each with its place; exactly the
--- ranks of the entries are kept; and no process stands twice
+-- each entry is kept under its place, and the places rise; exactly the processes that wait are found, each with its place; exactly the
+-- ranks of the entries are kept; and no process has two entries
 pub record IsKept (discipline : Discipline) (stored : List (ℕ × Entry)) (places : List (Who × ℕ)) (ranks : List Rank) : Type 0 where
   pub under_places : stored ≡ by_place (values_of stored)
   pub rising : PlacesRise (values_of stored)

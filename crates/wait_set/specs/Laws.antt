@@ -7,14 +7,14 @@ use Rattle.apex_machine.specs.Answer.{NamesExactly, waiters_of}
 use Rattle.wait_set.specs.Sets.{IsListOfWaiters, entered}
 
 -- all entries have places below this one
-abbrev pub StandBefore : ℕ → List Entry → Type 0
-StandBefore place [] = Unit {0}
-StandBefore place (entry ∷ entries) = (entry.place < place) × StandBefore place entries
+abbrev pub AreBeforePlace : ℕ → List Entry → Type 0
+AreBeforePlace place [] = Unit {0}
+AreBeforePlace place (entry ∷ entries) = (entry.place < place) × AreBeforePlace place entries
 
--- an entry after all others enters as the last
+-- an entry whose place is after all others enters last
 abbrev pub EntersLast : Type 0
-EntersLast = (entry : Entry) (entries : List Entry) → StandBefore entry.place entries → entered entry entries ≡ entries ++ entry ∷ []
+EntersLast = (entry : Entry) (entries : List Entry) → AreBeforePlace entry.place entries → entered entry entries ≡ entries ++ entry ∷ []
 
--- a list in rising order that names exactly those who wait names each once
+-- a list in rising order that names exactly the processes that wait names each of them once
 abbrev pub RisingIsListOfWaiters : Type 0
 RisingIsListOfWaiters = (entries : List Entry) (named : List Who) → IsRising named → NamesExactly (waiters_of entries) named → IsListOfWaiters entries named

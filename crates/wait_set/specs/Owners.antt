@@ -1,9 +1,9 @@
--- Who owns an object before an operation, and who owns it after.
+-- The owner of an object before and after an operation.
 use Rattle.std.specs.Prelude.{None}
 use Rattle.wait_set.specs.declared.object.Actor.{Actor}
 use Rattle.wait_set.specs.declared.object.Owners.{Owners}
 
--- nobody owns the object
+-- no process owns the object
 abbrev pub nobody : Owners
 nobody = record { before = None; after = None; priority = 0 }
 

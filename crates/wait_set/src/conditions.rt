@@ -8,8 +8,8 @@ use apex_machine::Condition;
 use apex_types::{Code, Out};
 use std::marker::Model;
 
-/// The error conditions that hold for a call, in the order in which they are judged. A contract sees the list of them.
-/// It takes no memory, and has room for the conditions of any service.
+/// The error conditions that hold for a call, in the order in which they are judged. A contract sees them as a list. They take no memory,
+/// and there is room for the conditions of any service.
 #[derive(Drop)]
 pub struct Conditions {
     conditions: [Condition; Conditions::LIMIT],
@@ -28,7 +28,7 @@ impl Model for Conditions {
 }
 
 impl Conditions {
-    /// How many error conditions a service has at most.
+    /// The most error conditions that a service has.
     pub const LIMIT: usize = 6;
 
     /// No condition.
@@ -36,13 +36,13 @@ impl Conditions {
         ensures { result ≡ [] }
     {
         Conditions {
-            // Places from the count on are not read.
+            // Places from the count on are never read.
             conditions: [Condition::NotCreated; Conditions::LIMIT],
             count: 0,
         }
     }
 
-    /// These conditions, and after them this one where it holds. The caller sees to it that there is room.
+    /// These conditions, followed by this one if it holds. The caller must ensure that there is room.
     pub fn with(mut self, holds: bool, condition: Condition) -> Conditions
         requires { length self < Self.LIMIT }
         ensures value { result ≡ self ++ when holds condition }

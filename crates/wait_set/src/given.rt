@@ -15,7 +15,7 @@ use crate::set::WaitSet;
 use apex_machine::Status;
 use apex_types::{Cause, Claim, Code, Out, Who};
 
-/// What an operation gives its caller: the outcome, up to three values, the message that goes with it, and whose waits end.
+/// What an operation gives its caller: the outcome, up to three values, the message that goes with it, and the processes whose waits end.
 #[derive(Clone, Copy)]
 pub struct Given<'a> {
     pub out: Out,
@@ -23,9 +23,9 @@ pub struct Given<'a> {
     pub val2: Option<u64>,
     pub val3: Option<u64>,
     pub bytes: &'a [u8],
-    /// The process whose wait ends, if one's does.
+    /// The process whose wait ends, if there is one.
     pub woken: Option<Who>,
-    /// The set in which the waits of all end, if the operation ends them.
+    /// The set in which all waits end, if the operation ends them.
     pub woken_all: Option<&'a WaitSet>,
     /// A caller that waits ends no wait.
     pub ghost alone: { IsTrue (is_waiting out) → (woken ≡ None) × (woken_all ≡ None) },
@@ -34,7 +34,7 @@ pub struct Given<'a> {
 impl<'a> Given<'a> {
     ghost use Rattle.wait_set.specs.Givens.{answer_given, listed};
 
-    // This outcome without a value or a message, and nobody's wait ends.
+    // This outcome without a value or a message; no process's wait ends.
     fn leaving(out: Out) -> Given<'a>
         ensures { answer_given result ≡ record { out = out; val = Nothing; val2 = None; val3 = None; bytes = []; woken = [] } }
     {
@@ -70,7 +70,7 @@ impl<'a> Given<'a> {
         Given::leaving(Out::Never)
     }
 
-    /// Where what is waited for has come, the operation is done at once; else the caller waits.
+    /// If what is waited for has come, the operation is done at once; else the caller waits.
     pub fn done_if(has_come: bool) -> Given<'a>
         ensures { answer_given result ≡ (if has_come then answer.done else answer.waiting) }
     {
@@ -80,7 +80,7 @@ impl<'a> Given<'a> {
         Given::leaving(Out::Waits)
     }
 
-    /// What cannot be had at once: with a time-out of 0 the code is NOT_AVAILABLE, else the caller waits.
+    /// The operation cannot have at once what it needs: with a time-out of 0 the code is NOT_AVAILABLE, else the caller waits.
     pub fn unmet(time_out: i64) -> Given<'a>
         ensures { answer_given result ≡ answer.unmet time_out }
     {
@@ -90,14 +90,14 @@ impl<'a> Given<'a> {
         Given::leaving(Out::Waits)
     }
 
-    /// The operation is done at once, and the wait of this process ends, if it is one.
+    /// The operation is done at once, and the wait of this process ends, if there is one.
     pub fn waking(woken: Option<Who>) -> Given<'a>
         ensures { answer_given result ≡ answer.waking (option_to_list woken) }
     {
         Given::giving(&[], woken)
     }
 
-    /// The operation is done at once, and the waits of all in a set end.
+    /// The operation is done at once, and all waits in a set end.
     pub fn waking_all(set: &'a WaitSet) -> Given<'a>
         ensures { answer_given result ≡ answer.waking (answer.waiters_of set.now.entries) }
     {
@@ -112,7 +112,7 @@ impl<'a> Given<'a> {
         }
     }
 
-    /// The operation gives a message at once, and the wait of this process ends, if it is one.
+    /// The operation gives a message at once, and the wait of this process ends, if there is one.
     pub fn giving(bytes: &'a [u8], woken: Option<Who>) -> Given<'a>
         ensures { answer_given result ≡ answer.giving bytes.now (option_to_list woken) }
     {
@@ -138,7 +138,7 @@ impl<'a> Given<'a> {
         }))
     }
 
-    /// The service reports this status at once, if it is one.
+    /// The service reports this status at once, if there is one.
     pub fn reporting(status: Option<Status>) -> Given<'a>
         ensures { answer_given result ≡ telling status }
     {
@@ -171,9 +171,9 @@ impl<'a> Given<'a> {
         }
     }
 
-    /// Judges a claim: it must be what the operation gives. The cause is that of the first demand that fails.
+    /// Judges a claim, which must be what the operation gives. The cause is that of the first demand that fails.
     ///
-    /// A claim that passes names nobody where its caller waits.
+    /// A claim that passes names no process if its caller waits.
     pub fn judge(&self, claim: &Claim) -> Result<(), Cause>
         ensures judged { Judges (answer_demands (answer_given self.now) claim.now) result }
         ensures alone { OnOk result (WaitsAlone claim.now) }
@@ -193,7 +193,7 @@ impl<'a> Given<'a> {
         Ok(())
     }
 
-    // Whether a claim has just these values.
+    // Whether a claim has exactly these values.
     fn has_values(&self, claim: &Claim) -> bool
         ensures { IsTrue result ↔ HasValues (value_of (option_map pos self.now.val)) (option_map pos self.now.val2) (option_map pos self.now.val3) claim.now }
     {
@@ -202,7 +202,7 @@ impl<'a> Given<'a> {
             && is_number(self.val3, claim.val3)
     }
 
-    // Whether a claim names exactly those whose waits end.
+    // Whether a claim names exactly the processes whose waits end.
     fn is_named_by(&self, claim: &Claim) -> bool
         ensures { IsTrue result ↔ NamesExactly (listed self.now.woken self.now.woken_all) claim.now.woken }
     {
@@ -213,7 +213,7 @@ impl<'a> Given<'a> {
     }
 }
 
-// Whether a claimed value is this number, if it is one, and else none.
+// Whether a claimed value is this number; if there is none, whether no value is claimed.
 fn is_number(number: Option<u64>, claimed: Option<i64>) -> bool
     ensures { IsTrue result ↔ (claimed ≡ option_map pos number) }
 {
@@ -231,16 +231,16 @@ pub fn judge_outcome(out: Out, claim: &Claim) -> Result<(), Cause>
     judge_alone(out, claim.val.is_none(), claim)
 }
 
-/// Judges the claim of an operation that is done at once, ends no wait, and gives a value: `has_value` says whether it is the one
-/// that is claimed. The cause is that of the first demand that fails.
+/// Judges the claim of an operation that is done at once, ends no wait, and gives a value: `has_value` says whether the claimed value is
+/// that one. The cause is that of the first demand that fails.
 pub fn judge_value(has_value: bool, claim: &Claim) -> Result<(), Cause>
     ensures { (value : Value) → (IsTrue has_value ↔ HasValue value claim.now.val) → Judges (answer_demands (answer.done_with value) claim.now) result }
 {
     judge_alone(Out::Answer(Code::NoError), has_value, claim)
 }
 
-// Judges the claim of an operation that has this outcome, gives one value at most and ends no wait: `has_value` says whether the
-// value is the one that is claimed.
+// Judges the claim of an operation that has this outcome, gives at most one value and ends no wait: `has_value` says whether the claimed
+// value is that one.
 fn judge_alone(out: Out, has_value: bool, claim: &Claim) -> Result<(), Cause>
     ensures { (value : Value) → (IsTrue has_value ↔ HasValue value claim.now.val) → Judges (answer_demands (record { out = out; val = value; val2 = None; val3 = None; bytes = []; woken = [] }) claim.now) result }
 {
@@ -266,7 +266,7 @@ pub fn has_no_values(claim: &Claim) -> bool
     claim.val.is_none() && claim.val2.is_none() && claim.val3.is_none()
 }
 
-// Whether a claim names exactly those who wait in a set.
+// Whether a claim names exactly the processes that wait in a set.
 fn names_all(set: &WaitSet, claim: &Claim) -> bool
     ensures { IsTrue result ↔ NamesExactly (answer.waiters_of set.now.entries) claim.now.woken }
 {

@@ -1,11 +1,23 @@
 //! The waiting sets of a partition's objects, and what all objects share.
 //!
-//! Promises: a waiting set is seen as its discipline and its entries in the order of their places. Nobody stands in it
-//! twice, and its first is the one that the definitions choose. Entering, leaving and finding the first cost the logarithm of its size; only
-//! entering takes memory, and where that is refused the entry comes back whole and nothing has changed.
-//! An operation on an object is accepted exactly where the claim is what the operation gives its caller; else the cause is that of
-//! the first demand that fails, and nothing has changed. Which error conditions hold is judged before, and `Conditions` keeps
-//! them in order.
+//! Promises: contracts see a waiting set as its discipline and its entries in the order of their places. No process has two entries in it,
+//! and its first is the one that the definitions choose. The cost of entering, of leaving and of finding the first is logarithmic in the
+//! size of the set. Only entering takes memory; if that is refused, the entry comes back whole and nothing has changed. An operation on an
+//! object is accepted exactly if the claim is what the operation gives its caller; else the cause is that of the first demand that fails,
+//! and nothing has changed. The error conditions that hold are judged before that, and `Conditions` keeps them in order.
+//!
+//! - A `WaitSet` keeps its entries by place, by process and by rank. In the order by process, the entries of one partition are together, so
+//!   a partition leaves at a logarithmic cost for each of its own processes (`leave_all`).
+//! - The operations of an `ApexObject` are the requests for it. `apply` judges what a call claims against what the operation gives, and
+//!   carries the operation out if the two agree. The ghost member `owes` says what an operation requires of its caller and of the object;
+//!   only ACQUIRE_MUTEX requires something.
+//! - An accepted operation gives an `Effect`: whether its caller waits, and who owns the object before and after (`Owners`). The ghost
+//!   member `owners` fixes these owners; only a mutex has an owner.
+//! - `Given` is what an operation gives its caller: the outcome, up to three values, the message, and whose waits end (one process's, or
+//!   those of all in a set). It judges a claim, and the explanation prints it. Services of processes and services that report a status have
+//!   one too. `judge_value` judges the claim of a creation, which may give any new number; `judge_outcome` judges a claim that must give
+//!   nothing beside its outcome.
+//! - `Conditions` serves ports, pieces and the explanation.
 #![tactic(auto)]
 
 mod conditions;

@@ -10,7 +10,7 @@ ghost use Rattle.wait_set.specs.Sets.{NobodyTwice};
 
 use apex_types::Who;
 
-/// Whether a list names this process alone, or where there is none nobody.
+/// Whether a list names only this process; if there is none, whether it names no process.
 pub(crate) fn names_only(woken: Option<Who>, named: &[Who]) -> bool
     requires { IsRising named.now }
     ensures { IsTrue result ↔ NamesExactly (option_to_list woken) named.now }
@@ -24,21 +24,21 @@ pub(crate) fn names_only(woken: Option<Who>, named: &[Who]) -> bool
     }
 }
 
-/// Whether no process stands twice in a list: known at once where it rises, else by a search for each.
+/// Whether no process occurs twice in a list. This is known at once if the list rises; else each process is looked up.
 pub(crate) fn names_nobody_twice(named: &[Who]) -> bool
     ensures { IsTrue result ↔ NobodyTwice named.now }
 {
     rises(named) || differ(named)
 }
 
-// Whether each process of a list comes after the one before.
+// Whether each process of a list comes after the one before it.
 fn rises(named: &[Who]) -> bool
     ensures { IsTrue result ↔ IsRising named.now }
 {
     let mut left = named;
     'pairs: while let [last, rest @ ..] = left {
         if let [next, ..] = rest {
-            if !is_behind(*last, *next) {
+            if !is_listed_before(*last, *next) {
                 return false;
             }
         }
@@ -62,8 +62,8 @@ fn differ(named: &[Who]) -> bool
 }
 
 // Whether a process comes after another: by its partition, and in one partition by its number.
-fn is_behind(last: Who, who: Who) -> bool
-    ensures { result ≡ rising.is_behind last who }
+fn is_listed_before(last: Who, who: Who) -> bool
+    ensures { result ≡ rising.is_listed_before last who }
 {
     last.part < who.part || (last.part == who.part && last.proc < who.proc)
 }

@@ -1,4 +1,4 @@
-// What all objects share: who makes a call, what an operation says, and the operations themselves.
+// What all objects share: the process that makes a call, the result of an operation, and the operations themselves.
 
 ghost use Rattle.std.specs.Prelude.{◌≡◌, ◌↔◌, List, [], IfErr, IfOk, IsTrue, OnErr, OnOk};
 ghost use Rattle.apex_types.specs.declared.record.Claim.{Claim as ClaimValue};
@@ -12,14 +12,14 @@ ghost use Rattle.wait_set.specs.declared.object.Owners.{Owners as OwnersValue};
 ghost use Rattle.wait_set.specs.Actors.{OwesNothing, Refuses, WaitsAlone, entry_with};
 ghost use Rattle.wait_set.specs.Givens.{answer_given};
 ghost use Rattle.wait_set.specs.Owners.{nobody, owned_by_nobody};
-ghost use Rattle.wait_set.specs.Sets.{IsNewInEach, stands_in_one};
+ghost use Rattle.wait_set.specs.Sets.{IsNewInEach, has_entry_in_one};
 
 use crate::given::Given;
 use apex_types::{Cause, Claim, Name, Out, Place, ProcId, Who};
 use std::alloc::AllocError;
 use thiserror::Error;
 
-/// Who makes a call: the process, its current priority, and the place of the call.
+/// The process that makes a call, with its current priority and the place of the call.
 #[derive(Clone, Copy, Debug, PartialEq, Eq)]
 pub struct Actor {
     pub who: Who,
@@ -27,7 +27,7 @@ pub struct Actor {
     pub place: Place,
 }
 
-/// Who owns an object before an operation, who owns it after, and the priority with which an owner runs.
+/// The owner of an object before an operation, the owner after it, and the priority with which an owner runs.
 #[derive(Clone, Copy, Debug, PartialEq, Eq)]
 pub struct Owners {
     pub before: Option<ProcId>,
@@ -36,7 +36,7 @@ pub struct Owners {
 }
 
 impl Owners {
-    /// Nobody owns the object.
+    /// No process owns the object.
     pub fn nobody() -> Owners
         ensures { result ≡ nobody }
     {
@@ -48,7 +48,7 @@ impl Owners {
     }
 }
 
-/// What an operation that was accepted says: whether its caller waits, and what became of the object's owner.
+/// The result of an accepted operation: whether its caller waits, and what became of the object's owner.
 #[derive(Clone, Copy, Debug, PartialEq, Eq)]
 pub struct Effect {
     pub waits: bool,
@@ -78,36 +78,36 @@ pub trait Named {
         ensures { result.now ≡ name_of self.now };
 }
 
-/// An object of a partition. That no error condition holds is judged before an operation on it.
+/// An object of a partition. Before an operation on it, it is judged that no error condition holds.
 pub trait ApexObject {
-    /// What is asked of it.
+    /// What a caller requests of it.
     type Operation;
 
-    // What an operation asks of its caller and the object: nothing, where an object says no more.
+    // What an operation requires of its caller and the object: nothing by default.
     ghost owes: { ActorValue → Self.Operation → Self → Type 0 } = { OwesNothing };
 
     // What an operation gives its caller. It has no value.
     ghost answer: { ActorValue → Self.Operation → Self → Answer };
 
-    // The object after an operation that was accepted, its waiting sets too.
+    // The object after an accepted operation, including its waiting sets.
     ghost after: { ActorValue → Self.Operation → ClaimValue → Self → Self };
 
-    // Who owns the object before an operation that was accepted, and who owns it after: nobody, where an object says no more.
+    // The owner of the object before an accepted operation, and the owner after it: none by default.
     ghost owners: { ActorValue → Self.Operation → Self → OwnersValue } = { owned_by_nobody };
 
     // Its waiting sets.
     ghost sets: { Self → List (List Entry) };
 
-    // The object with all but this process in its waiting sets.
+    // The object without this process in its waiting sets.
     ghost without_one: { WhoValue → Self → Self };
 
     /// What an operation gives its caller. Takes no memory.
     fn answer(&self, actor: &Actor, operation: &Self::Operation) -> Given<'_>
         ensures { answer_given result ≡ answer actor.now operation.now self.now };
 
-    /// Carries out an operation whose claim is what it gives its caller, and says who owned the object and who owns it now.
+    /// Carries out an operation whose claim is what it gives its caller. Returns the owner of the object before it and the owner after it.
     ///
-    /// AllocError where memory is refused; nothing is changed then.
+    /// AllocError if memory is refused; nothing is changed then.
     fn carry_out(
         &mut self,
         actor: Actor,
@@ -122,9 +122,9 @@ pub trait ApexObject {
         ensures owners { IfOk result (λ found. found ≡ owners actor operation.now self.old) }
         ensures unchanged { OnErr result (self.new ≡ self.old) };
 
-    /// Carries out an operation, where the claim is what it gives its caller.
+    /// Carries out an operation, if the claim is what it gives its caller.
     ///
-    /// Refused, with nothing changed, where the claim is another, or where memory is refused.
+    /// Refused, with nothing changed, if the claim is another, or if memory is refused.
     fn apply(
         &mut self,
         actor: Actor,
@@ -152,8 +152,8 @@ pub trait ApexObject {
         })
     }
 
-    /// Takes a process out of the waiting sets, and says whether it stood in one. Takes no memory.
+    /// Takes a process out of the waiting sets. Returns whether it was in one. Takes no memory.
     fn leave(&mut self, who: Who) -> bool
-        ensures stood { result ≡ stands_in_one who (sets self.old) }
+        ensures stood { result ≡ has_entry_in_one who (sets self.old) }
         ensures left { self.new ≡ without_one who self.old };
 }

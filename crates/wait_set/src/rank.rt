@@ -1,4 +1,4 @@
-// In which order those who wait go on.
+// The order of the processes that wait.
 
 ghost use Rattle.std.specs.Prelude.{◌≡◌};
 ghost use Rattle.wait_set.specs.Ranks.{rank_of};
@@ -7,10 +7,10 @@ use apex_machine::Entry;
 use apex_types::{Discipline, Place};
 use std::cmp::Reverse;
 
-/// The rank of an entry in its set: of two entries, that of the smaller rank goes on before.
+/// The rank of an entry in its set: of two entries, the one with the smaller rank comes first.
 #[derive(Clone, Copy, Debug, PartialEq, Eq, PartialOrd, Ord)]
 pub(crate) struct Rank {
-    /// The priority, the greater first; 0 for all in a set that is first in, first out.
+    /// The priority, the greater first; 0 for all entries of a set that is first in, first out.
     pub(crate) urgency: Reverse<u8>,
     pub(crate) place: Place,
 }

@@ -4,7 +4,7 @@ ghost use Rattle.std.specs.Prelude.{◌≡◌, ◌↔◌, ◌<◌, ◌^◌, [], 
 ghost use Rattle.std.specs.List.{list_all};
 ghost use Rattle.std.specs.Option.{option_copied};
 ghost use Rattle.apex_machine.specs.Answer.{NamesExactly, waiters_of};
-ghost use Rattle.apex_machine.specs.Demands.{stands_in};
+ghost use Rattle.apex_machine.specs.Demands.{has_entry_in};
 ghost use Rattle.apex_machine.specs.Waiting.{first_waiter, is_waiting};
 ghost use Rattle.wait_set.specs.Actors.{WaitsAlone, entry_with, joined_by};
 ghost use Rattle.wait_set.specs.Sets as sets;
@@ -20,14 +20,14 @@ use std::collections::{BTreeMap, BTreeSet};
 use std::marker::Model;
 use thiserror::Error;
 
-/// An entry that could not be taken in, since memory was refused.
+/// An entry that could not enter, since memory was refused.
 #[derive(Debug, Drop, Error)]
 #[error("out of memory")]
 pub struct Refused {
     pub entry: Entry,
 }
 
-/// A waiting set: its discipline, and who waits in it.
+/// A waiting set: its discipline, and the processes that wait in it.
 #[derive(Drop)]
 pub struct WaitSet {
     alloc: Global,
@@ -63,9 +63,9 @@ impl WaitSet {
         }
     }
 
-    /// The set with one entry more, which is new in it.
+    /// Adds an entry, which is new in the set.
     ///
-    /// Refused where memory is: the entry comes back, and nothing is changed.
+    /// Refused if memory is refused: the entry comes back, and nothing is changed.
     pub fn enter(&mut self, entry: Entry) -> Result<(), Refused>
         requires new { IsNew entry self.old.entries }
         ensures ok { OnOk result (self.new ≡ record self.old { entries = entered entry self.old.entries }) }
@@ -95,12 +95,12 @@ impl WaitSet {
 
     /// Whether a process waits in the set. Takes no memory.
     pub fn has(&self, who: Who) -> bool
-        ensures { result ≡ stands_in who self.now.entries }
+        ensures { result ≡ has_entry_in who self.now.entries }
     {
         self.places.contains_key(&who)
     }
 
-    /// The entry that goes on first, or None where nobody waits. Its process has no other. Takes no memory.
+    /// The first entry, or None if no process waits. Its process has no other entry. Takes no memory.
     pub fn first(&self) -> Option<&Entry>
         ensures first { option_copied result ≡ first_waiter self.now.discipline self.now.entries }
         ensures own { IfSome result (λ entry. sets.entry_of entry.now.who self.now.entries ≡ Some entry.now) }
@@ -109,7 +109,7 @@ impl WaitSet {
         self.entries.get(&rank.place)
     }
 
-    /// Takes out the entry that goes on first, or None where nobody waits. Takes no memory.
+    /// Takes out the first entry, or answers None if no process waits. Takes no memory.
     pub fn take_first(&mut self) -> Option<Entry>
         ensures first { result ≡ first_waiter self.old.discipline self.old.entries }
         ensures taken { self.new ≡ record self.old { entries = without_first self.old.discipline self.old.entries } }
@@ -118,15 +118,15 @@ impl WaitSet {
         self.take(who)
     }
 
-    /// Takes a process out of the set, and says whether it stood there. Takes no memory.
+    /// Takes a process out of the set. Returns whether it was in it. Takes no memory.
     pub fn leave(&mut self, who: Who) -> bool
-        ensures stood { result ≡ stands_in who self.old.entries }
+        ensures stood { result ≡ has_entry_in who self.old.entries }
         ensures left { self.new ≡ record self.old { entries = without_one who self.old.entries } }
     {
         self.take(who).is_some()
     }
 
-    // Takes out the entry of a process, or None where it does not wait here.
+    // Takes out the entry of a process, or answers None if it does not wait here.
     fn take(&mut self, who: Who) -> Option<Entry>
         ensures taken { result ≡ sets.entry_of who self.old.entries }
         ensures left { self.new ≡ record self.old { entries = without_one who self.old.entries } }
@@ -140,7 +140,7 @@ impl WaitSet {
         Some(entry)
     }
 
-    /// Takes out all whom a list names. Takes no memory.
+    /// Takes out all processes that a list names. Takes no memory.
     pub fn release(&mut self, named: &[Who])
         ensures { self.new ≡ record self.old { entries = without_named named.now self.old.entries } }
     {
@@ -149,8 +149,8 @@ impl WaitSet {
         }
     }
 
-    /// Takes out the entry that goes on first, where a list names its process and nobody else, or None where the list names
-    /// nobody and nobody waits. Takes no memory.
+    /// Takes out the first entry, whose process the list must name, and no other. None if no process waits; the list must then name none.
+    /// Takes no memory.
     pub fn release_first(&mut self, named: &[Who]) -> Option<Entry>
         requires { NamesExactly (waiter_of (first_waiter self.old.discipline self.old.entries)) named.now }
         ensures first { result ≡ first_waiter self.old.discipline self.old.entries }
@@ -161,7 +161,7 @@ impl WaitSet {
         first
     }
 
-    /// Takes out all processes of a partition. It costs the logarithm of the set's size for each that leaves, and takes no memory.
+    /// Takes out all processes of a partition. The cost is logarithmic in the set's size for each process that leaves. Takes no memory.
     pub fn leave_all(&mut self, part: PartId)
         ensures { self.new ≡ record self.old { entries = without_part part self.old.entries } }
     {
@@ -170,9 +170,9 @@ impl WaitSet {
         }
     }
 
-    // A process of a partition that waits here, or None where none does.
+    // A process of a partition that waits here, or None if none does.
     fn member(&self, part: PartId) -> Option<Who>
-        ensures stands { IfSome result (λ who. (who.part ≡ part) × IsTrue (stands_in who self.now.entries)) }
+        ensures is_member { IfSome result (λ who. (who.part ≡ part) × IsTrue (has_entry_in who self.now.entries)) }
         ensures none { result ≡ None → without_part part self.now.entries ≡ self.now.entries }
     {
         let least = Who {
@@ -183,24 +183,24 @@ impl WaitSet {
         if who.part == part { Some(*who) } else { None }
     }
 
-    /// Whether a list names exactly those who wait here, each once. Takes no memory.
+    /// Whether a list names exactly the processes that wait here, each once. Takes no memory.
     pub fn is_exactly(&self, named: &[Who]) -> bool
         ensures { IsTrue result ↔ IsListOfWaiters self.now.entries named.now }
     {
         if named.len() != self.entries.len() {
             return false;
         }
-        names_nobody_twice(named) && self.all_stand(named)
+        names_nobody_twice(named) && self.all_have_entries(named)
     }
 
-    // Whether all whom a list names wait here.
-    fn all_stand(&self, named: &[Who]) -> bool
-        ensures { result ≡ list_all (λ who. stands_in who self.now.entries) named.now }
+    // Whether all processes that a list names wait here.
+    fn all_have_entries(&self, named: &[Who]) -> bool
+        ensures { result ≡ list_all (λ who. has_entry_in who self.now.entries) named.now }
     {
         named.iter().all(|who| self.has(*who))
     }
 
-    /// Takes out all. Takes no memory.
+    /// Takes out all processes. Takes no memory.
     pub fn clear(&mut self)
         ensures { self.new ≡ record self.old { entries = [] } }
     {
@@ -216,7 +216,7 @@ impl WaitSet {
         self.discipline
     }
 
-    /// How many wait here. The places of the entries rise, and no process stands twice.
+    /// How many processes wait here. The places of the entries rise, and no process has two entries.
     pub fn len(&self) -> usize
         ensures len { result ≡ length self.now.entries }
         ensures small { result < 2 ^ 63 }
@@ -226,17 +226,17 @@ impl WaitSet {
         self.entries.len()
     }
 
-    /// Whether nobody waits here.
+    /// Whether no process waits here.
     pub fn is_empty(&self) -> bool
         ensures { IsTrue result ↔ (self.now.entries ≡ []) }
     {
         self.entries.is_empty()
     }
 
-    /// The set after a call that may wait here: whose wait the claim ends leaves, and a caller that waits enters with this
-    /// message. A caller that waits ends no wait.
+    /// Changes the set by a call that may wait here: each process whose wait the claim ends leaves, and a caller that waits enters with
+    /// this message. A caller that waits ends no wait.
     ///
-    /// AllocError where memory is refused to a caller that waits; nothing is changed then.
+    /// AllocError if memory is refused to a caller that waits; nothing is changed then.
     pub fn settle(&mut self, actor: Actor, claim: &Claim, message: &[u8]) -> Result<(), AllocError>
         requires new { IsNew (entry_with actor message.now) self.old.entries }
         requires alone { WaitsAlone claim.now }
@@ -253,7 +253,7 @@ impl WaitSet {
         }
     }
 
-    // The set with the caller of a call, which waits with a copy of this message.
+    // Adds the caller of a call, which waits with a copy of this message.
     fn join(&mut self, actor: Actor, message: &[u8]) -> Result<(), AllocError>
         requires { IsNew (entry_with actor message.now) self.old.entries }
         ensures ok { OnOk result (self.new ≡ record self.old { entries = entered (entry_with actor message.now) self.old.entries }) }

@@ -1,8 +1,11 @@
-//! How things are put in words, for the person who reads an answer: texts that grow up to a bound, the names of what a module has,
+//! How things are put into words, for the person who reads an answer: texts that grow up to a bound, the names of what a module has,
 //! records and requests, and the place in the specification of a service's rule.
 //!
-//! Promises nothing but that its functions end and take no memory beyond their texts. A text has about 16 KiB at most. Where memory
-//! is refused, or the text is long, nothing more is added.
+//! Promises only that its functions end and take no memory except for their texts. A text has at most about 16 KiB. If memory is refused,
+//! or the text is too long, nothing more is added.
+//!
+//! `Words` is such a text. The crate depends on the plain types and the definitions alone. It decides nothing: the check has its answer
+//! before words are made, and no clause speaks of them. Its functions have no contracts, and are proved only to end and to meet no fault.
 #![tactic(auto)]
 
 mod naming;

@@ -1,4 +1,4 @@
-// How things are named: processes, names, messages, outcomes and waiting sets.
+// How things are named: processes, texts, messages, outcomes and waiting sets.
 
 use apex_machine::WaitingSet;
 use apex_types::{Code, ObjectKind, Out, Who};
@@ -22,7 +22,7 @@ impl fmt::Display for Numbered {
     }
 }
 
-/// The occupant of a core: a process, or nobody.
+/// The occupant of a core: a process, or none.
 #[derive(Clone, Copy)]
 pub struct Occupant(pub Option<Who>);
 
@@ -35,7 +35,7 @@ impl fmt::Display for Occupant {
     }
 }
 
-/// A text of printable ASCII, as the names of services and objects are.
+/// A text of printable ASCII, such as the name of a service or an object.
 #[derive(Clone, Copy)]
 pub struct Ascii<'a>(pub &'a [u8]);
 
@@ -45,7 +45,7 @@ impl fmt::Display for Ascii<'_> {
     }
 }
 
-/// A text from outside in quotes: its first bytes, with `?` for those that are not printable.
+/// A text from outside in quotes: its first bytes, with `?` for each that is not printable.
 #[derive(Clone, Copy)]
 pub struct Found<'a>(pub &'a [u8]);
 
@@ -83,11 +83,11 @@ impl fmt::Display for Bytes<'_> {
         if count > MOST_BYTES {
             write!(f, "..")?;
         }
-        write!(f, " of {}", Count(count, "byte"))
+        write!(f, " ({})", Count(count, "byte"))
     }
 }
 
-/// So many of something, whose plural has an `s`.
+/// A number of things, whose plural ends in `s`.
 #[derive(Clone, Copy)]
 pub struct Count(pub usize, pub &'static str);
 
@@ -123,7 +123,7 @@ pub fn out_name(out: Out) -> &'static str {
     }
 }
 
-/// One of a kind of objects or ports.
+/// The name of a kind of objects or ports.
 pub fn kind_name(kind: ObjectKind) -> &'static str {
     match kind {
         ObjectKind::Buffer => "buffer",

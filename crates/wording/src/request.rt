@@ -1,4 +1,4 @@
-// A request in words: the service with what it takes.
+// A request in words: the service with its arguments.
 
 use crate::naming::{Ascii, Bytes, kind_name};
 use crate::words::Words;
@@ -7,7 +7,7 @@ use apex_types::{
     NewObject, ProcessOperation, QueuingOperation, Request, SamplingOperation, SemaphoreOperation,
 };
 
-/// Tells a service and what its caller gave it.
+/// Reports a service and the arguments that its caller gave.
 pub fn tell_request(words: &mut Words, request: &Request) {
     words.say(Ascii(request.service().name()));
     match request {
@@ -16,17 +16,17 @@ pub fn tell_request(words: &mut Words, request: &Request) {
             priority,
             period,
         } => words.say(format_args!(
-            " \"{}\" of priority {priority} and period {period}",
+            " for \"{}\" with priority {priority} and period {period}",
             Ascii(name.as_bytes())
         )),
         Request::Process(process, operation) => {
-            words.say(format_args!(" of process {process}"));
+            words.say(format_args!(" for process {process}"));
             tell_process(words, operation);
         }
         Request::Caller(operation) => tell_caller(words, operation),
-        Request::SetPartitionMode(mode) => words.say(format_args!(" to mode {mode}")),
+        Request::SetPartitionMode(mode) => words.say(format_args!(" with mode {mode}")),
         Request::Create(name, object) => {
-            words.say(format_args!(" \"{}\"", Ascii(name.as_bytes())));
+            words.say(format_args!(" for \"{}\"", Ascii(name.as_bytes())));
             tell_creation(words, object);
         }
         Request::Buffer(buffer, operation) => tell_buffer(words, *buffer, operation),
@@ -41,21 +41,23 @@ pub fn tell_request(words: &mut Words, request: &Request) {
         Request::SamplingPort(port, operation) => tell_sampling(words, *port, operation),
         Request::QueuingPort(port, operation) => tell_queuing(words, *port, operation),
         Request::GetId(_, name) => {
-            words.say(format_args!(" of \"{}\"", Ascii(name.as_bytes())));
+            words.say(format_args!(" for \"{}\"", Ascii(name.as_bytes())));
         }
         Request::GetStatus(kind, object) => {
-            words.say(format_args!(" of {} {object}", kind_name(*kind)));
+            words.say(format_args!(" for {} {object}", kind_name(*kind)));
         }
     }
 }
 
-// Tells what a process is to get.
+// Reports what a process is to get.
 fn tell_process(words: &mut Words, operation: &ProcessOperation) {
     match operation {
         ProcessOperation::InitializeCoreAffinity { core } => {
-            words.say(format_args!(" to core {core}"));
+            words.say(format_args!(" with core {core}"));
         }
-        ProcessOperation::SetPriority { priority } => words.say(format_args!(" to {priority}")),
+        ProcessOperation::SetPriority { priority } => words.say(format_args!(
+            " with priority {priority}"
+        )),
         ProcessOperation::Start
         | ProcessOperation::Stop
         | ProcessOperation::Suspend
@@ -63,7 +65,7 @@ fn tell_process(words: &mut Words, operation: &ProcessOperation) {
     }
 }
 
-// Tells how long the caller is to wait.
+// Reports how long the caller is to wait.
 fn tell_caller(words: &mut Words, operation: &CallerOperation) {
     match operation {
         CallerOperation::SuspendSelf { time_out } => {
@@ -77,7 +79,7 @@ fn tell_caller(words: &mut Words, operation: &CallerOperation) {
     }
 }
 
-// Tells what an object or a port is to be like.
+// Reports what an object or a port is to be like.
 fn tell_creation(words: &mut Words, object: &NewObject) {
     match object {
         NewObject::Buffer {
@@ -85,29 +87,29 @@ fn tell_creation(words: &mut Words, object: &NewObject) {
             capacity,
             discipline,
         } => words.say(format_args!(
-            " of size {size}, capacity {capacity} and discipline {discipline}"
+            " with size {size}, capacity {capacity} and discipline {discipline}"
         )),
-        NewObject::Blackboard { size } => words.say(format_args!(" of size {size}")),
+        NewObject::Blackboard { size } => words.say(format_args!(" with size {size}")),
         NewObject::Semaphore {
             value,
             maximum,
             discipline,
         } => words.say(format_args!(
-            " of value {value}, maximum {maximum} and discipline {discipline}"
+            " with value {value}, maximum {maximum} and discipline {discipline}"
         )),
         NewObject::Event => {}
         NewObject::Mutex {
             priority,
             discipline,
         } => {
-            words.say(format_args!(" of priority {priority} and discipline {discipline}"));
+            words.say(format_args!(" with priority {priority} and discipline {discipline}"));
         }
         NewObject::SamplingPort {
             size,
             direction,
             refresh,
         } => words.say(format_args!(
-            " of size {size}, direction {direction} and refresh period {refresh}"
+            " with size {size}, direction {direction} and refresh period {refresh}"
         )),
         NewObject::QueuingPort {
             size,
@@ -115,7 +117,7 @@ fn tell_creation(words: &mut Words, object: &NewObject) {
             direction,
             discipline,
         } => words.say(format_args!(
-            " of size {size}, capacity {capacity}, direction {direction}, discipline {discipline}"
+            " with size {size}, capacity {capacity}, direction {direction} and discipline {discipline}"
         )),
     }
 }
@@ -127,7 +129,7 @@ fn tell_buffer(words: &mut Words, buffer: i64, operation: &BufferOperation) {
             time_out,
             message,
         } => words.say(format_args!(
-            " to buffer {buffer}, of {} in length {length}, with time-out {time_out}",
+            " to buffer {buffer} with {}, length {length} and time-out {time_out}",
             Bytes(message.as_bytes())
         )),
         BufferOperation::Receive { time_out } => {
@@ -139,13 +141,13 @@ fn tell_buffer(words: &mut Words, buffer: i64, operation: &BufferOperation) {
 fn tell_blackboard(words: &mut Words, blackboard: i64, operation: &BlackboardOperation) {
     match operation {
         BlackboardOperation::Display { length, message } => words.say(format_args!(
-            " on blackboard {blackboard}, of {} in length {length}",
+            " on blackboard {blackboard} with {} and length {length}",
             Bytes(message.as_bytes())
         )),
         BlackboardOperation::Read { time_out } => {
-            words.say(format_args!(" of blackboard {blackboard} with time-out {time_out}"));
+            words.say(format_args!(" for blackboard {blackboard} with time-out {time_out}"));
         }
-        BlackboardOperation::Clear => words.say(format_args!(" of blackboard {blackboard}")),
+        BlackboardOperation::Clear => words.say(format_args!(" for blackboard {blackboard}")),
     }
 }
 
@@ -154,13 +156,15 @@ fn tell_semaphore(words: &mut Words, semaphore: i64, operation: &SemaphoreOperat
         SemaphoreOperation::Wait { time_out } => {
             words.say(format_args!(" for semaphore {semaphore} with time-out {time_out}"));
         }
-        SemaphoreOperation::Signal => words.say(format_args!(" of semaphore {semaphore}")),
+        SemaphoreOperation::Signal => words.say(format_args!(" for semaphore {semaphore}")),
     }
 }
 
 fn tell_event(words: &mut Words, event: i64, operation: &EventOperation) {
     match operation {
-        EventOperation::Set | EventOperation::Reset => words.say(format_args!(" of event {event}")),
+        EventOperation::Set | EventOperation::Reset => words.say(format_args!(
+            " for event {event}"
+        )),
         EventOperation::Wait { time_out } => {
             words.say(format_args!(" for event {event} with time-out {time_out}"));
         }
@@ -170,16 +174,16 @@ fn tell_event(words: &mut Words, event: i64, operation: &EventOperation) {
 fn tell_mutex(words: &mut Words, mutex: i64, operation: &MutexOperation) {
     match operation {
         MutexOperation::Acquire { time_out } => {
-            words.say(format_args!(" of mutex {mutex} with time-out {time_out}"));
+            words.say(format_args!(" for mutex {mutex} with time-out {time_out}"));
         }
-        MutexOperation::Release => words.say(format_args!(" of mutex {mutex}")),
+        MutexOperation::Release => words.say(format_args!(" for mutex {mutex}")),
     }
 }
 
 fn tell_sampling(words: &mut Words, port: i64, operation: &SamplingOperation) {
     match operation {
         SamplingOperation::Write { length, message } => words.say(format_args!(
-            " at sampling port {port}, of {} in length {length}",
+            " at sampling port {port} with {} and length {length}",
             Bytes(message.as_bytes())
         )),
         SamplingOperation::Read => words.say(format_args!(" at sampling port {port}")),
@@ -193,7 +197,7 @@ fn tell_queuing(words: &mut Words, port: i64, operation: &QueuingOperation) {
             time_out,
             message,
         } => words.say(format_args!(
-            " at queuing port {port}, of {} in length {length}, with time-out {time_out}",
+            " at queuing port {port} with {}, length {length} and time-out {time_out}",
             Bytes(message.as_bytes())
         )),
         QueuingOperation::Receive { time_out } => {

@@ -8,7 +8,7 @@ use apex_types::{Body, Call, Claim, Ordered, Out, Return, Who};
 /// How many processes of a list are shown.
 const MOST_NAMED: usize = 8;
 
-/// Tells what a record says.
+/// Reports what a record says.
 pub fn tell_record(words: &mut Words, ordered: &Ordered) {
     let core = ordered.core.number();
     match &ordered.rec.body {
@@ -28,11 +28,11 @@ pub fn tell_record(words: &mut Words, ordered: &Ordered) {
 fn tell_call(words: &mut Words, call: &Call) {
     words.say(format_args!("{} calls ", Numbered(call.who)));
     tell_request(words, &call.request);
-    words.say(format_args!(", with priority {}", call.claim.prio));
+    words.say(format_args!(", at priority {}", call.claim.prio));
     tell_claim(words, &call.claim);
 }
 
-// Tells the outcome that a call claims, and what goes with it.
+// Reports the outcome that a call claims, and what goes with it.
 fn tell_claim(words: &mut Words, claim: &Claim) {
     match claim.out {
         Out::Waits => words.say(", and waits"),
@@ -57,14 +57,14 @@ fn tell_return(words: &mut Words, ret: &Return) {
     tell_message(words, ret.bytes.as_bytes());
 }
 
-/// Tells a value, where there is one.
+/// Reports a value, if there is one.
 pub fn tell_value(words: &mut Words, val: Option<i64>) {
     if let Some(val) = val {
         words.say(format_args!(", the value {val}"));
     }
 }
 
-/// Tells a second and a third value, where there are such.
+/// Reports a second and a third value, if there are such.
 pub fn tell_further(words: &mut Words, val2: Option<i64>, val3: Option<i64>) {
     if let Some(val) = val2 {
         words.say(format_args!(", the second value {val}"));
@@ -74,14 +74,14 @@ pub fn tell_further(words: &mut Words, val2: Option<i64>, val3: Option<i64>) {
     }
 }
 
-/// Tells a message, where there is one.
+/// Reports a message, if there is one.
 pub fn tell_message(words: &mut Words, bytes: &[u8]) {
     if !bytes.is_empty() {
         words.say(format_args!(", {}", Bytes(bytes)));
     }
 }
 
-// Tells whose waits a record ends.
+// Reports whose waits a record ends.
 fn tell_woken(words: &mut Words, woken: &[Who]) {
     if woken.is_empty() {
         words.say(", and ends no wait");
@@ -91,7 +91,7 @@ fn tell_woken(words: &mut Words, woken: &[Who]) {
     tell_processes(words, woken);
 }
 
-/// Tells the processes of a list.
+/// Reports the processes of a list.
 pub fn tell_processes(words: &mut Words, named: &[Who]) {
     let mut first = true;
     for who in named.iter().take(MOST_NAMED) {

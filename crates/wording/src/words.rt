@@ -1,4 +1,4 @@
-// Text in words, which grows up to a bound.
+// A text in words, which grows up to a bound.
 
 use std::alloc::Global;
 use std::fmt;
@@ -10,7 +10,7 @@ const LONGEST: usize = 16_384;
 /// How many places are kept.
 const MOST_PLACES: usize = 8;
 
-/// What begins the mark of a part in a text, and what ends the mark. No word has the first of them, since it is a control character.
+/// The characters that begin and end the mark of a part in a text. No word contains the first of them, since it is a control character.
 const MARK: char = '\u{1b}';
 
 const MARK_END: char = 'm';
@@ -30,7 +30,7 @@ pub enum Part {
 }
 
 impl Part {
-    // The mark at its beginning, as a terminal takes it.
+    // The mark at the beginning of the part, as a terminal takes it.
     fn mark(self) -> &'static str {
         match self {
             Part::Record => "\u{1b}[1m",
@@ -42,8 +42,8 @@ impl Part {
 
 /// A text in words. Once memory is refused to it, or it is too long, nothing more is added to it.
 ///
-/// What is said may come from a file or a command line: its control characters are written as `\n` or `\u{1b}`, so that a
-/// terminal shows them and does not obey them. Parts of a text are marked, and `shown` has them in colours or as the other words.
+/// What is said may come from a file or a command line: its control characters are written as `\n` or `\u{1b}`, so that a terminal shows
+/// them and does not obey them. Parts of a text are marked, and `shown` shows them in colours or as plain words.
 #[derive(Drop)]
 pub struct Words {
     alloc: Global,
@@ -82,7 +82,7 @@ impl Words {
     pub fn say_place(&mut self, place: u64) {
         self.say(format_args!("place {place}"));
         if self.places.len() < MOST_PLACES && !self.places.contains(&place) {
-            // If memory is refused, the words have the place alone.
+            // If memory is refused, the words still have the place.
             let _ = self.places.push(place);
         }
     }
@@ -92,7 +92,7 @@ impl Words {
         self.places.as_slice()
     }
 
-    /// Begins a part, which goes on up to `end_part`.
+    /// Begins a part, which continues up to `end_part`.
     pub fn begin_part(&mut self, part: Part) {
         self.add(part.mark());
     }
@@ -114,12 +114,12 @@ impl Words {
         self.add(other.text.as_str());
     }
 
-    /// Begins a further line, which is set in.
+    /// Begins another line, which is indented.
     pub fn next_line(&mut self) {
         self.add("\n    ");
     }
 
-    /// Tells the rule that is not kept, by its place in the specification.
+    /// Reports the rule that is broken, by its place in the specification.
     pub fn rule(&mut self, place: &str) {
         self.next_line();
         self.say(format_args!("rule: docs/SPECIFICATION.md, {place}"));
@@ -138,7 +138,7 @@ impl Words {
         }
     }
 
-    // Adds a text as it is.
+    // Adds a text unchanged.
     fn add(&mut self, text: impl Display + Drop) {
         self.ended |= self.text.len() >= LONGEST;
         if !self.ended && write!(self.text, "{text}").is_err() {
@@ -157,7 +157,7 @@ pub struct Shown<'a> {
 impl Display for Shown<'_> {
     fn fmt<W: fmt::Write>(&self, f: &mut fmt::Formatter<W>) -> fmt::Result {
         if self.in_colour {
-            // A text that is cut ends in no colour either.
+            // A text that is cut off does not end in a colour either.
             return write!(f, "{}{PLAIN}", self.text);
         }
         let mut is_mark = false;

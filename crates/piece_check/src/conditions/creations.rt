@@ -1,4 +1,4 @@
-// The error conditions of CREATE_BUFFER and its like.
+// The error conditions of CREATE_BUFFER and its counterparts.
 
 ghost use Rattle.std.specs.Prelude.{◌≡◌, ◌≤◌, ◌++◌, length, option_map};
 ghost use Rattle.apex_machine.specs.CreationConditions as creations;
@@ -16,7 +16,7 @@ use module_config::{Config, QueuingPort, SamplingPort};
 use partition_state::PartitionState;
 use wait_set::Conditions;
 
-/// CREATE_BUFFER and its like: as each creation, and what it is given.
+/// CREATE_BUFFER and its counterparts: the conditions of every creation, and those on its parameters.
 pub(super) fn create_conditions(
     config: &Config,
     number: PartId,
@@ -38,7 +38,7 @@ pub(super) fn create_conditions(
     )
 }
 
-// Whether as many objects of a kind are created as are configured; of ports those that are configured may be, each once.
+// Whether as many objects of a kind are created as are configured. Ports have no such limit: each configured port may be created once.
 fn is_full(config: &Config, number: PartId, state: &PartitionState, kind: ObjectKind) -> bool
     ensures { result ≡ creations.is_full config.now number state.now kind }
 {
@@ -57,9 +57,9 @@ fn is_full(config: &Config, number: PartId, state: &PartitionState, kind: Object
     }
 }
 
-// These conditions, and those of what a creation is given: of a buffer a size, a capacity and a discipline in range; of a
-// blackboard a size; of a semaphore a maximum and a discipline, and a value that suits the maximum; of a mutex a priority and a
-// discipline; of a port what is configured.
+// These conditions, and those on the parameters of a creation: for a buffer a size, a capacity and a discipline in range; for a blackboard
+// a size; for a semaphore a maximum and a discipline, and a value that suits the maximum; for a mutex a priority and a discipline; for a
+// port what is configured.
 fn with_parameters(
     conditions: Conditions,
     config: &Config,
@@ -120,7 +120,7 @@ fn with_parameters(
     }
 }
 
-// Whether a sampling port is created as it is configured; the refresh period counts at a destination only.
+// Whether a sampling port is created as it is configured. The refresh period counts only at a destination.
 fn is_sampling_port(port: Option<SamplingPort>, size: i64, direction: i64, refresh: i64) -> bool
     ensures { result ≡ configured.is_sampling_port (option_map configured_sampling port) size direction refresh }
 {

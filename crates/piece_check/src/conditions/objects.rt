@@ -23,8 +23,8 @@ use mutex_ceiling::Mutex653;
 use partition_state::PartitionState;
 use wait_set::Conditions;
 
-/// SEND_BUFFER and RECEIVE_BUFFER: a created buffer, to send of a size for the message; a time-out that there is; a caller that
-/// may wait.
+/// SEND_BUFFER and RECEIVE_BUFFER: a created buffer; to send, a message that is not empty and fits; a time-out in range; a caller that may
+/// wait.
 pub(super) fn buffer_conditions(
     state: &PartitionState,
     who: Who,
@@ -44,8 +44,8 @@ pub(super) fn buffer_conditions(
     }
 }
 
-/// DISPLAY_BLACKBOARD, READ_BLACKBOARD and CLEAR_BLACKBOARD: a created blackboard, to display of a size for the message; to read,
-/// a time-out that there is and a caller that may wait.
+/// DISPLAY_BLACKBOARD, READ_BLACKBOARD and CLEAR_BLACKBOARD: a created blackboard; to display, a message that is not empty and fits; to
+/// read, a time-out in range and a caller that may wait.
 pub(super) fn blackboard_conditions(
     state: &PartitionState,
     who: Who,
@@ -62,7 +62,7 @@ pub(super) fn blackboard_conditions(
     }
 }
 
-/// WAIT_SEMAPHORE and SIGNAL_SEMAPHORE: a created semaphore; to wait, a time-out that there is and a caller that may wait.
+/// WAIT_SEMAPHORE and SIGNAL_SEMAPHORE: a created semaphore; to wait, a time-out in range and a caller that may wait.
 pub(super) fn semaphore_conditions(
     state: &PartitionState,
     who: Who,
@@ -78,7 +78,7 @@ pub(super) fn semaphore_conditions(
     }
 }
 
-/// SET_EVENT, RESET_EVENT and WAIT_EVENT: a created event; to wait, a time-out that there is and a caller that may wait.
+/// SET_EVENT, RESET_EVENT and WAIT_EVENT: a created event; to wait, a time-out in range and a caller that may wait.
 pub(super) fn event_conditions(
     state: &PartitionState,
     who: Who,
@@ -109,14 +109,14 @@ pub(super) fn mutex_conditions(
     }
 }
 
-/// A use of an object: a created one.
+/// A use of an object: the object must be created.
 pub(super) fn use_of<Object>(object: Option<&Object>) -> Conditions
     ensures { result ≡ conditions_for (option_copied object.entry) (λ found. []) }
 {
     Conditions::none().with(object.is_none(), Condition::NotCreated)
 }
 
-// A wait for an object: a created one; a time-out that there is; a caller that may wait.
+// A wait for an object: a created object; a time-out in range; a caller that may wait.
 fn wait_for<Object>(
     who: Who,
     state: &PartitionState,
@@ -128,21 +128,21 @@ fn wait_for<Object>(
     with_wait(use_of(object), who, state, time_out)
 }
 
-// The size of the messages of a buffer, where there is one.
+// The size of the messages of a buffer, if there is one.
 fn buffer_size(buffer: Option<&Buffer>) -> Option<u16>
     ensures { result ≡ option_map (λ (found : parts.Buffer). found.size) (option_copied buffer.entry) }
 {
     Some(buffer?.size())
 }
 
-// The size of the messages of a blackboard, where there is one.
+// The size of the messages of a blackboard, if there is one.
 fn blackboard_size(blackboard: Option<&Blackboard>) -> Option<u16>
     ensures { result ≡ option_map (λ (found : parts.Blackboard). found.size) (option_copied blackboard.entry) }
 {
     Some(blackboard?.size())
 }
 
-// A message into an object of this size: a created one, of a size for the message; one byte at least.
+// A message into an object of this size: the object is created, and the message is not empty and not longer than the size.
 fn message(size: Option<u16>, length: i64) -> Conditions
     ensures value { result ≡ objects.message_conditions size length }
     ensures few { count_of result ≤ 2 }
@@ -156,8 +156,8 @@ fn message(size: Option<u16>, length: i64) -> Conditions
     of_object.with(!is_length(length), Condition::EmptyMessage)
 }
 
-// ACQUIRE_MUTEX: a created mutex, of a priority not below the caller's current one; a time-out that there is; not the
-// initialising process, and no owner of another mutex.
+// ACQUIRE_MUTEX: a created mutex whose priority is not below the caller's current one; a time-out in range; a caller that is neither the
+// initialising process nor the owner of another mutex.
 fn acquire_mutex(who: Who, state: &PartitionState, mutex: i64, time_out: i64) -> Conditions
     ensures { result ≡ objects.acquire_conditions who state.now mutex time_out }
 {
@@ -177,7 +177,7 @@ fn acquire_mutex(who: Who, state: &PartitionState, mutex: i64, time_out: i64) ->
         .with(state.owns_another(mutex, who.proc), Condition::OwnsAnother)
 }
 
-// RELEASE_MUTEX: a created mutex, by its owner.
+// RELEASE_MUTEX: a created mutex, which the caller owns.
 fn release_mutex(who: Who, mutex: Option<&Mutex653>) -> Conditions
     ensures { result ≡ objects.release_conditions who (option_copied mutex.entry) }
 {

@@ -16,8 +16,8 @@ use partition_state::PartitionState;
 use ports::{Guard, PortTable};
 use wait_set::Conditions;
 
-/// WRITE_SAMPLING_MESSAGE and READ_SAMPLING_MESSAGE: a created port, to write a source of a size for the message, to read a
-/// destination.
+/// WRITE_SAMPLING_MESSAGE and READ_SAMPLING_MESSAGE: a created port; to write, a source port whose size is enough for the message; to read,
+/// a destination port.
 pub(super) fn sampling_conditions(
     state: &PartitionState,
     port: i64,
@@ -31,8 +31,8 @@ pub(super) fn sampling_conditions(
     }
 }
 
-/// SEND_QUEUING_MESSAGE and RECEIVE_QUEUING_MESSAGE: a created port, to send a source of a size for the message, to receive a
-/// destination; a time-out that there is; a caller that may wait.
+/// SEND_QUEUING_MESSAGE and RECEIVE_QUEUING_MESSAGE: a created port; to send, a source port whose size is enough for the message; to
+/// receive, a destination port; a time-out in range; a caller that may wait.
 pub(super) fn queuing_conditions(
     state: &PartitionState,
     who: Who,
@@ -61,7 +61,7 @@ pub(super) fn queuing_conditions(
     }
 }
 
-// A message into a port: a created source of a size for the message.
+// A message into a port: a created source port whose size is enough for the message.
 fn put_in(ports: &PortTable, port: i64, length: i64) -> Conditions
     ensures value { result ≡ meets.source_conditions (given_object ports.now port) length }
     ensures few { count_of result ≤ 3 }
@@ -69,7 +69,7 @@ fn put_in(ports: &PortTable, port: i64, length: i64) -> Conditions
     conditions_in(ports.guard_source(port, length))
 }
 
-// A message from a port: a created destination.
+// A message from a port: a created destination port.
 fn taken_from(ports: &PortTable, port: i64) -> Conditions
     ensures value { result ≡ meets.destination_conditions (given_object ports.now port) }
     ensures few { count_of result ≤ 3 }
@@ -77,7 +77,7 @@ fn taken_from(ports: &PortTable, port: i64) -> Conditions
     conditions_in(ports.guard_destination(port))
 }
 
-// The error conditions that a guard tells: none where it tells a channel.
+// The error conditions that a guard reports; none if it gives a channel.
 fn conditions_in(guard: Guard) -> Conditions
     ensures { (conditions : List Condition) (channel : Option ℕ) → IsGuard conditions channel guard → result ≡ conditions }
 {

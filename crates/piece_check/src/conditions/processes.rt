@@ -1,4 +1,4 @@
-// The error conditions of processes, their waits and the partition's mode.
+// The error conditions of the services on processes, on the caller's waits and on the partition's mode.
 
 ghost use Rattle.std.specs.Prelude.{◌≡◌, ◌≤◌, length};
 ghost use Rattle.std.specs.Option.{option_copied};
@@ -43,7 +43,7 @@ pub(super) fn process_conditions(
     }
 }
 
-/// STOP_SELF and all other services that a process asks for itself; STOP_SELF and GET_TIME have no error condition.
+/// STOP_SELF and all other services that a process requests for itself. STOP_SELF and GET_TIME have no error condition.
 pub(super) fn caller_conditions(
     state: &PartitionState,
     who: Who,
@@ -60,7 +60,7 @@ pub(super) fn caller_conditions(
     }
 }
 
-/// CREATE_PROCESS: as each creation; a priority and a period in range, and a period that suits the partition's.
+/// CREATE_PROCESS: the conditions of every creation; a priority and a period in range, and a period that suits the partition's.
 pub(super) fn create_process(
     config: &Config,
     number: PartId,
@@ -80,7 +80,7 @@ pub(super) fn create_process(
         .with(!suits, Condition::PeriodNotMultiple)
 }
 
-// INITIALIZE_PROCESS_CORE_AFFINITY: a created process; not in NORMAL; one of the partition's cores.
+// INITIALIZE_PROCESS_CORE_AFFINITY: a created process; a mode other than NORMAL; one of the partition's cores.
 fn initialize_affinity(
     config: &Config,
     number: PartId,
@@ -100,7 +100,7 @@ fn initialize_affinity(
         )
 }
 
-// START: a created process, and a dormant one.
+// START: a created process that is dormant.
 fn start(target: Option<&Process>) -> Conditions
     ensures { result ≡ processes.start_conditions (option_copied target.entry) }
 {
@@ -110,7 +110,7 @@ fn start(target: Option<&Process>) -> Conditions
     }
 }
 
-// STOP: a created process, not the caller, and not a dormant one.
+// STOP: a created process, other than the caller, that is not dormant.
 fn stop(who: Who, target: Option<&Process>, process: i64) -> Conditions
     ensures { result ≡ processes.stop_conditions who (option_copied target.entry) process }
 {
@@ -131,7 +131,7 @@ fn suspension(process: &Process) -> Conditions
         .with(is_periodic(process), Condition::Periodic)
 }
 
-// SUSPEND: a created process, not the caller, neither dormant nor periodic, and not yet suspended.
+// SUSPEND: a created process, other than the caller, that is neither dormant nor periodic and not yet suspended.
 fn suspend(who: Who, target: Option<&Process>, process: i64) -> Conditions
     ensures { result ≡ processes.suspend_conditions who (option_copied target.entry) process }
 {
@@ -142,7 +142,7 @@ fn suspend(who: Who, target: Option<&Process>, process: i64) -> Conditions
     of_target.with(is_process(process, who.proc), Condition::NamesItself)
 }
 
-// RESUME: a created process, not the caller, neither dormant nor periodic, and a suspended one.
+// RESUME: a created process, other than the caller, that is neither dormant nor periodic and is suspended.
 fn resume(who: Who, target: Option<&Process>, process: i64) -> Conditions
     ensures { result ≡ processes.resume_conditions who (option_copied target.entry) process }
 {
@@ -155,7 +155,7 @@ fn resume(who: Who, target: Option<&Process>, process: i64) -> Conditions
     of_target.with(is_process(process, who.proc), Condition::NamesItself)
 }
 
-// SET_PRIORITY: a created process, and not a dormant one; a priority in range.
+// SET_PRIORITY: a created process that is not dormant; a priority in range.
 fn set_priority(target: Option<&Process>, priority: i64) -> Conditions
     ensures { result ≡ processes.set_priority_conditions (option_copied target.entry) priority }
 {
@@ -166,14 +166,14 @@ fn set_priority(target: Option<&Process>, priority: i64) -> Conditions
     of_target.with(!is_priority(priority), Condition::PriorityOutOfRange)
 }
 
-// GET_MY_ID: not the initialising process.
+// GET_MY_ID: a caller other than the initialising process.
 fn get_my_id(who: Who) -> Conditions
     ensures { result ≡ processes.get_my_id_conditions who }
 {
     Conditions::none().with(who.proc.number() == 0, Condition::InitialisingCaller)
 }
 
-// SUSPEND_SELF: a time-out that there is; an aperiodic process that may wait.
+// SUSPEND_SELF: a time-out in range; an aperiodic process that may wait.
 fn suspend_self(who: Who, state: &PartitionState, time_out: i64) -> Conditions
     ensures { result ≡ processes.suspend_self_conditions who state.now time_out }
 {
@@ -207,7 +207,7 @@ fn periodic_wait(who: Who, state: &PartitionState) -> Conditions
         .with(may_not_wait(state, who), Condition::MayNotWait)
 }
 
-/// SET_PARTITION_MODE: a mode that there is; not NORMAL in NORMAL, and not WARM_START in COLD_START.
+/// SET_PARTITION_MODE: a mode in range; not NORMAL in NORMAL, and not WARM_START in COLD_START.
 pub(super) fn set_mode(current: Mode, mode: i64) -> Conditions
     ensures { result ≡ processes.set_mode_conditions current mode }
 {
@@ -245,7 +245,7 @@ fn has_period(process: Option<&Process>) -> bool
     }
 }
 
-// Whether another suspended the process, or it suspended itself.
+// Whether another process suspended the process, or it suspended itself.
 fn is_suspended(process: &Process) -> bool
     ensures { result ≡ processes.is_suspended process.now }
 {

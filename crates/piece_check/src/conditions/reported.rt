@@ -1,4 +1,4 @@
-// The error conditions of the services that tell the number of what has a name, or the state of an object.
+// The error conditions of the services that report the number of what has a name, or the status of an object.
 
 ghost use Rattle.std.specs.Prelude.{◌≡◌};
 ghost use Rattle.apex_machine.specs.Names.{get_id_conditions, number_of};
@@ -10,14 +10,14 @@ use apex_types::{Name, ObjectKind};
 use partition_state::PartitionState;
 use wait_set::Conditions;
 
-/// GET_BUFFER_ID and its like: one of the kind has the name.
+/// GET_BUFFER_ID and its counterparts: an object or port of the kind has the name.
 pub(super) fn id_conditions(state: &PartitionState, kind: ObjectKind, name: &Name) -> Conditions
     ensures { result ≡ get_id_conditions (number_of state.now kind name.now) }
 {
     Conditions::none().with(state.number_of(kind, name).is_none(), Condition::NoSuchName)
 }
 
-/// GET_BUFFER_STATUS and its like: a created object or port of the kind.
+/// GET_BUFFER_STATUS and its counterparts: a created object or port of the kind.
 pub(super) fn status_conditions(state: &PartitionState, kind: ObjectKind, object: i64) -> Conditions
     ensures { result ≡ get_status_conditions state.now kind object }
 {

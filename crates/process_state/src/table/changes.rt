@@ -24,10 +24,10 @@ use apex_types::{CoreId, Message, Name, Place, ProcId};
 use std::alloc::AllocError;
 
 impl ProcTable {
-    /// Adds a new process after the others: dormant, on the partition's first core; aperiodic where the period is below 0.
-    /// The caller sees to it that no process has its number.
+    /// Adds a new process after the others: dormant, on the partition's first core; aperiodic if the period is below 0. The caller must
+    /// ensure that no process has its number.
     ///
-    /// AllocError where memory is refused; nothing has changed then.
+    /// AllocError if memory is refused; nothing has changed then.
     pub fn create(
         &mut self,
         first_core: CoreId,
@@ -49,8 +49,8 @@ impl ProcTable {
         Ok(())
     }
 
-    /// SET_PARTITION_MODE to NORMAL at this moment: each process that waits for NORMAL enters it. The period is the
-    /// partition's, in ticks. Takes no memory.
+    /// SET_PARTITION_MODE to NORMAL at this moment: each process that waits for NORMAL enters it. The period is the partition's, in ticks.
+    /// Takes no memory.
     pub fn normal(&mut self, period: u64, moment: &Moment<'_>)
         requires { IsTimely period moment.now.cores.now }
         ensures { self.new ≡ record self.old {
@@ -71,8 +71,8 @@ impl ProcTable {
         }
     }
 
-    /// SET_PARTITION_MODE to another mode than NORMAL, at this place: all processes vanish, with their names, waits and outcomes,
-    /// and the partition has this mode. But for IDLE the initialising process is ready again, on the first core. Takes no memory.
+    /// SET_PARTITION_MODE to a mode other than NORMAL, at this place: all processes vanish, with their names, waits and outcomes, and the
+    /// partition has this mode. Unless that is IDLE, the initialising process is ready again, on the first core. Takes no memory.
     pub fn restart(&mut self, mode: Mode, first_core: CoreId, place: Place)
         ensures { self.new ≡ processes_in mode (first_processes mode first_core place) }
     {
@@ -85,7 +85,7 @@ impl ProcTable {
         }
     }
 
-    // The initialising process, alone and ready since this place on this core. There is room for it.
+    // The initialising process alone, ready from this place on, on this core. There is room for it.
     fn begin(&mut self, core: CoreId, place: Place)
         requires { self.old.table ≡ [] }
         ensures { self.new ≡ record self.old { table = (0, initialising_process core place) ∷ [] } }
@@ -98,22 +98,22 @@ impl ProcTable {
         }
     }
 
-    /// STOP_SELF of the caller, when its core's time is `now`: it is dormant. Takes no memory.
+    /// STOP_SELF of the caller, when its core's time is `now`: the caller is dormant. Takes no memory.
     pub fn stop_self(&mut self, caller: ProcId, now: u64)
         ensures { self.new ≡ with_each (only caller (stopped_self now)) self.old }
     {
         self.change(caller, |process| process::stop_self(process, now));
     }
 
-    /// The caller waits from now on, its core's time. Takes no memory.
+    /// The caller waits from `now` on, its core's time. Takes no memory.
     pub fn wait(&mut self, caller: ProcId, now: u64, wait: Wait)
         ensures { self.new ≡ with_each (only caller (waiting_for now wait)) self.old }
     {
         self.change(caller, |process| process::begin_wait(process, now, wait));
     }
 
-    /// The outcome is due to the caller from now on, its core's time; where its ready position is renewed, it is that
-    /// place, and where a release is reached, that is its last, in ticks. Takes no memory.
+    /// The outcome is due to the caller from `now` on, its core's time. If its ready position is renewed, it is the given place; if a
+    /// release is reached, that becomes its last one, in ticks. Takes no memory.
     pub fn answer(
         &mut self,
         caller: ProcId,
@@ -129,7 +129,7 @@ impl ProcTable {
         });
     }
 
-    /// The wait of this process ends at a tick, at this place. Takes no memory.
+    /// A tick ends the wait of this process, at this place. Takes no memory.
     pub fn release(&mut self, process: ProcId, place: Place)
         ensures { self.new ≡ with_each (only process (released place)) self.old }
     {
@@ -137,7 +137,7 @@ impl ProcTable {
         self.change(process, |process| process::release(process, alloc, place));
     }
 
-    /// The wait of this process ends by a call, at this place, which hands over this message. Takes no memory.
+    /// A call at this place, which hands over this message, ends the wait of this process. Takes no memory.
     pub fn wake(&mut self, process: ProcId, place: Place, message: Message)
         ensures { self.new ≡ with_each (only process (woken_by place message)) self.old }
     {
@@ -151,29 +151,29 @@ impl ProcTable {
         self.change(returner, |process| process::give_back(process));
     }
 
-    /// STOP of the process that a caller names by this number: of none, where there is none. Takes no memory.
+    /// STOP of the process that a caller names by this number; if there is none, nothing changes. Takes no memory.
     pub fn stop_named(&mut self, given: i64)
         ensures { self.new ≡ with_each (named given stopped) self.old }
     {
         self.change_named(given, |process| process::stop(process));
     }
 
-    /// This process owns a mutex of this priority from now on, and keeps its own. Takes no memory.
+    /// This process becomes the owner of a mutex of this priority, and retains its own priority. Takes no memory.
     pub fn grant(&mut self, owner: ProcId, priority: u8)
         ensures { self.new ≡ with_each (only owner (granted priority)) self.old }
     {
         self.change(owner, |process| process::grant(process, priority));
     }
 
-    /// This process no longer owns a mutex, and has its own priority again. Takes no memory.
+    /// This process stops being the owner of a mutex, and has its own priority again. Takes no memory.
     pub fn ungrant(&mut self, owner: ProcId)
         ensures { self.new ≡ with_each (only owner restored) self.old }
     {
         self.change(owner, |process| process::ungrant(process));
     }
 
-    /// A mutex has another owner: who no longer owns it has its own priority again, and who owns it now has the mutex's.
-    /// Takes no memory.
+    /// A mutex changes its owner: the process that stops being the owner has its own priority again, and the process that becomes the owner
+    /// has the mutex's. Takes no memory.
     pub fn transfer(&mut self, transfer: Transfer)
         ensures { self.new ≡ with_each (transferred transfer) self.old }
     {
@@ -185,19 +185,19 @@ impl ProcTable {
         }
     }
 
-    // Changes the process that a caller names by this number in place: none, where there is none. Takes no memory.
+    // Changes the process that a caller names by this number in place; if there is none, nothing changes. Takes no memory.
     pub(super) fn change_named<F: FnOnce(&mut Process)>(&mut self, given: i64, change: F)
         requires { F.IsAlwaysCallable change }
         ensures { (becomes : ProcessValue → ProcessValue) → ((old new : ProcessValue) → FnOnceReturnsAtMut F.FnOnce change old tt new → new ≡ becomes old) → self.new ≡ with_each (named given becomes) self.old }
     {
-        // What is known of each table, that its numbers fit 32 bits, is known where one of its fields is used.
+        // A fact of every table, that its numbers fit 32 bits, is known when one of its fields is used.
         let _ = &self.processes;
         if let Some(number) = process_number(given) {
             self.change(number, change);
         }
     }
 
-    // Changes the process of this number in place, where there is one. Takes no memory.
+    // Changes the process of this number in place, if there is one. Takes no memory.
     fn change<F: FnOnce(&mut Process)>(&mut self, number: ProcId, change: F)
         requires { F.IsAlwaysCallable change }
         ensures { (becomes : ProcessValue → ProcessValue) → ((old new : ProcessValue) → FnOnceReturnsAtMut F.FnOnce change old tt new → new ≡ becomes old) → self.new ≡ with_each (only number becomes) self.old }
@@ -212,7 +212,7 @@ impl ProcTable {
     }
 }
 
-// The time of a core, in ticks, or 0 where there is no such core.
+// The time of a core, in ticks, or 0 if there is no such core.
 pub(super) fn time_at(cores: &[CoreState], core: CoreId) -> u64
     requires { TimesFit cores.now }
     ensures value { result ≡ time_of cores.now core }

@@ -37,22 +37,22 @@ use apex_types::{
 use std::alloc::AllocError;
 
 impl ProcTable {
-    /// What a call of one of the partition's processes wants memory for: had before the call changes anything.
+    /// What a call of one of the partition's processes needs memory for, reserved before the call changes anything.
     ///
-    /// AllocError where memory is refused; where the call names nobody and claims no message, it takes none.
+    /// AllocError if memory is refused. A call that names no process and claims no message takes none.
     pub fn prepare(&self, call: &Call) -> Result<Prepared, AllocError>
         ensures { IfOk result (λ prepared. IsPreparedFor call.now prepared) }
     {
         prepared_for(*self.processes.allocator(), call)
     }
 
-    /// A call of one of the partition's processes at this moment: what it sets in the partition, what becomes of its
-    /// caller, which process it stops, and whose waits it ends. The period is the partition's, in ticks. A process that it
-    /// creates runs on the first core. The transfer is what the call makes of the owners of its mutex; a call of another
-    /// service than ACQUIRE_MUTEX and RELEASE_MUTEX makes nothing of owners, and its transfer is not looked at.
+    /// A call of one of the partition's processes at this moment: what it sets in the partition, what becomes of its caller, which process
+    /// it stops, and whose waits it ends. The period is the partition's, in ticks. A process that it creates runs on the first core. The
+    /// transfer is what the call makes of the owners of its mutex. A call of a service other than ACQUIRE_MUTEX and RELEASE_MUTEX changes
+    /// no owner, and its transfer is not used.
     ///
-    /// AllocError where memory for a process that it creates is refused; nothing has changed then. No other call takes memory,
-    /// beside what was prepared.
+    /// AllocError if memory for a process that it creates is refused; nothing has changed then. No other call takes memory, apart from what
+    /// was prepared.
     pub fn call(
         &mut self,
         first_core: CoreId,
@@ -73,12 +73,12 @@ impl ProcTable {
         let now = time_at(moment.cores, moment.core);
         let next = self.next_release(call);
         let settling = settling_of(moment.place, now, next, call, outcome);
-        // Looked up before the call creates a process, which a caller that is not there may name as itself.
-        let stands = self.proc(call.who.proc).is_some();
+        // Looked up before the call creates a process: a caller that does not exist may claim its own number for that process.
+        let is_member = self.proc(call.who.proc).is_some();
         if is_done(call.claim.out) {
             self.carry_out(first_core, period, moment, transfer, call)?;
         }
-        if stands {
+        if is_member {
             self.settle(call.who.proc, now, settling);
         }
         self.stop_peer(call);
@@ -86,10 +86,10 @@ impl ProcTable {
         Ok(())
     }
 
-    /// A call of another partition, at this place, that ends the waits of those that it names of this one: each gets the
+    /// A call of another partition, at this place, that ends the waits of the processes of this partition that it names: each gets the
     /// message that the call hands over.
     ///
-    /// AllocError where memory for the messages is refused; nothing has changed then.
+    /// AllocError if memory for the messages is refused; nothing has changed then.
     pub fn wake_named(&mut self, part: PartId, place: Place, call: &Call) -> Result<(), AllocError>
         ensures ok { OnOk result (self.new ≡ with_each (λ number process. after.woken_if_named place call.now (record { part = part; proc = number }) process) self.old) }
         ensures unchanged { OnErr result (self.new ≡ self.old) }
@@ -107,7 +107,7 @@ impl ProcTable {
         Ok(())
     }
 
-    /// A tick that ends the waits of these processes, at this place; those of other partitions stay out. Takes no memory.
+    /// A tick that ends the waits of these processes, at this place; those of other partitions are skipped. Takes no memory.
     pub fn tick(&mut self, part: PartId, place: Place, woken: &Woken)
         ensures { self.new ≡ with_each (after.ticked place part woken.now) self.old }
     {
@@ -119,8 +119,8 @@ impl ProcTable {
         }
     }
 
-    // What a call that is carried out sets in its partition, beside the waits that it ends, the process that it stops, and
-    // what becomes of its caller.
+    // What a call that is carried out sets in its partition, apart from the waits that it ends, the process that it stops, and what becomes
+    // of its caller.
     fn carry_out(
         &mut self,
         first_core: CoreId,
@@ -159,8 +159,7 @@ impl ProcTable {
         Ok(())
     }
 
-    // What a service sets in the process that it names: in none, where there is none. STOP sets nothing here: `stop_peer`
-    // serves it.
+    // What a service sets in the process that it names; if there is none, nothing changes. STOP sets nothing here: `stop_peer` does.
     fn serve_target(
         &mut self,
         given: i64,
@@ -181,7 +180,7 @@ impl ProcTable {
         });
     }
 
-    // STOP of another process than the caller.
+    // STOP of a process other than the caller.
     fn stop_peer(&mut self, call: &Call)
         ensures { self.new ≡ with_each (stopped_by call.now) self.old }
     {
@@ -192,7 +191,7 @@ impl ProcTable {
         }
     }
 
-    // The waits of the caller's peers end that the call names and does not stop: each gets one of these messages.
+    // Ends the waits of the caller's peers that the call names and does not stop: each gets one of these messages.
     fn wake_peers(&mut self, place: Place, call: &Call, messages: Vec<Message>)
         requires enough { length call.now.claim.woken ≤ vec_len messages }
         requires alike { AreCopies (message_handed_over call.now.request) messages.items }
@@ -209,14 +208,13 @@ impl ProcTable {
         }
     }
 
-    // The next release of a caller of PERIODIC_WAIT, in ticks; 0 where a call is of another service, or its caller is not
-    // there.
+    // The next release of a caller of PERIODIC_WAIT, in ticks; 0 if the call is of another service, or its caller does not exist.
     fn next_release(&self, call: &Call) -> u64
         requires { ReleasesSoundly self.now.table call.now.who.proc call.now.request }
         ensures value { is_periodic_wait call.now.request ≡ true → (process : ProcessValue) → item_at self.now.table call.now.who.proc ≡ Some process → result ≡ due_times.next_release process }
         ensures distinct { IsDistinct nat_eq (keys_of self.now.table) }
     {
-        // That no number stands twice in the map is known where the map is used.
+        // That no number occurs twice in the map is known when the map is used.
         let _ = self.processes.len();
         match &call.request {
             Request::Caller(CallerOperation::PeriodicWait) => match self.proc(call.who.proc) {

@@ -7,7 +7,7 @@ use Rattle.clap.specs.declared.builder.arg.Arg.{Arg}
 use Rattle.apexcheck.specs.CommandLine.{no_words, option_of, wanted, without_help}
 use Rattle.apexcheck.proofs.usage.command.Goals as goal
 
--- an argument that has to be given is of its own command alone where it was so before
+-- a required argument is of its own command alone if it was so before
 local : (argument given : Arg) → given ≡ record argument { required = true } → argument.global ≡ false → given.global ≡ false
 local argument given is was = ap (λ (given : Arg). given.global) is ∙ was
 

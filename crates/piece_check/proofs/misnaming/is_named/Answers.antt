@@ -1,4 +1,4 @@
--- The test passes at one process exactly where the list names this one.
+-- The test passes at one process exactly if the list names this one.
 use Rattle.std.proofs.Common.{rules, tests, sym, ◌∙◌}
 use Rattle.std.proofs.lemmas.Iterator.{YieldsList-from_slice}
 use Rattle.std.proofs.lemmas.Iterator.Search.{any_from_yields_List}

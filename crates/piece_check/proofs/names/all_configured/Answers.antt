@@ -1,4 +1,4 @@
--- The test passes at each process exactly where all are configured.
+-- The test passes at each process exactly if all are configured.
 use Rattle.std.proofs.Common.{rules, tests}
 use Rattle.std.proofs.lemmas.Iterator.{YieldsList-from_slice}
 use Rattle.std.proofs.lemmas.Iterator.Search.{all_from_yields_List}

@@ -1,4 +1,4 @@
-use Rattle.placement.proofs.Standing.{is_asked}
+use Rattle.placement.proofs.LeftOver.{is_asked}
 use Rattle.placement.proofs.placer.next_of.Goals as goal
 
 pub returns : goal.returns

@@ -9,7 +9,7 @@ use Rattle.user_rules.specs.Rules.{relations_of}
 use Rattle.report.specs.Last.{item_of, most_last}
 use Rattle.report.specs.Rounds.{IsDecided, LeavesItsPiece}
 use Rattle.report.specs.Shown.{StillRejects}
-use Rattle.report.proofs.Going.{behind_on, decided_on, filled_on, last_on}
+use Rattle.report.proofs.Going.{after_on, decided_on, filled_on, last_on}
 use Rattle.report.proofs.LastOnes.{kept_on}
 use Rattle.report.proofs.Rejecting.{still_rejects}
 use Rattle.report.proofs.rounds.judge_all.Goals as goal
@@ -42,7 +42,7 @@ returns-in-Ended g c = λ honest.
     let can_fail : CanFail = record { recordings = g.R.TextSource.can_fail; certificate = g.C.TextSource.can_fail } in
     let outcome = c.rounds.invariant.outcome in
     let round : List Ordered = c.rounds.round.items in
-    rw (rw (c.deref-in-Ended.ensures.value, c.count-first.ensures, outcome.3) at c.keep_behind.ensures)
+    rw (rw (c.deref-in-Ended.ensures.value, c.count-first.ensures, outcome.3) at c.keep_after_answer.ensures)
     (last_on can_fail c.args.config.now (relations_of c.args.rules.now) c.args.placer.now c.rounds.placer c.rounds.judge outcome.0 round c.in-Ended.end c.judge_last-answer.result
     (subst (λ filled. IsFilled can_fail c.args.placer.now (outcome.0 ++ round) filled c.rounds.placer) c.in-Ended.is (outcome.1 honest)) outcome.2 c.rounds.invariant.may.placed
     (rw c.deref.ensures.value at c.judge_last-answer.ensures.answer))
@@ -59,7 +59,7 @@ returns-in-Ok-Some g c =
     λ honest. subst (λ filled. IsFilled can_fail c.args.placer.now (outcome.0 ++ round) filled c.rounds.placer) c.in-Full.is (outcome.1 honest) in
     let decided : IsDecided config relations c.rounds.judge round (Some verdict) c.judge_and_fill-decided.new.judge =
     rw c.in-Ok-Some.field-0-is at (rw c.in-Ok-Some.is at (rw c.deref-in-rounds.ensures.value at c.judge_and_fill-decided.ensures.decided)) in λ honest.
-    rw (rw (c.deref-in-Ok-Some.ensures.value, c.count-first.ensures, outcome.3) at c.keep_behind-in-Ok-Some.ensures)
+    rw (rw (c.deref-in-Ok-Some.ensures.value, c.count-first.ensures, outcome.3) at c.keep_after_answer-in-Ok-Some.ensures)
     (decided_on can_fail config relations c.args.placer.now c.rounds.placer c.rounds.judge c.judge_and_fill-decided.new.judge outcome.0 round verdict
     (lead (c.judge_and_fill-decided.ensures.placed.honest honest)) outcome.2 c.rounds.invariant.may.placed decided)
 
@@ -91,7 +91,7 @@ rounds-preserved g c =
       outcome = (
         outcome.0 ++ round,
         (λ honest. filled_on can_fail c.args.placer.now c.rounds.placer c.judge_and_fill-decided.new.placer (outcome.0 ++ round) next c.judge_and_fill-decided.result.1 (lead (placed.honest honest)) (placed.known honest)),
-        behind_on config relations c.rounds.judge c.judge_and_fill-decided.new.judge outcome.0 round outcome.2 decided,
+        after_on config relations c.rounds.judge c.judge_and_fill-decided.new.judge outcome.0 round outcome.2 decided,
         kept,
       );
       going = placed.going;

@@ -2,13 +2,13 @@ use Rattle.std.proofs.Common.{rules, arith}
 use Rattle.toml.specs.View.{view, table_view, items_view}
 use Rattle.rules_file.specs.Joins.{joins}
 use Rattle.rules_file.specs.Relations.{joined, relation_in}
-use Rattle.rules_file.proofs.Relations.{a_level_down, behind_refused, both_built, joined-more}
+use Rattle.rules_file.proofs.Relations.{a_level_down, after_refused, both_built, joined-more}
 use Rattle.rules_file.proofs.relation.+relation.Goals as goal
 
 pub joined-returns-in_err-others : goal.joined-returns-in_err-others
 joined-returns-in_err-others t c =
     rw (joined-more (joins c.args.join) (relation_in c.args.levels) c.args.items.now c.in-Some.item.now c.in-Some.rest.now c.in-Some.ensures.cases (search rules))
-    (behind_refused (joins c.args.join) (relation_in c.args.levels (view c.in-Some.item.now)) (joined (joins c.args.join) (relation_in c.args.levels) (items_view c.in-Some.rest.now))
+    (after_refused (joins c.args.join) (relation_in c.args.levels (view c.in-Some.item.now)) (joined (joins c.args.join) (relation_in c.args.levels) (items_view c.in-Some.rest.now))
     c.in_ok-first.first c.in_err-others.field-0.0 c.in_ok-first.ensures c.in_err-others.ensures c.from_residual-in_err-others.result c.from_residual-in_err-others.ensures.1)
 
 pub joined-returns : goal.joined-returns

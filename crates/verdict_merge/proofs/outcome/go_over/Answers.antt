@@ -14,7 +14,7 @@ use Rattle.verdict_merge.specs.Views.{IsFirstBreach, seen_of}
 use Rattle.verdict_merge.proofs.Among.{contains_none}
 use Rattle.verdict_merge.proofs.Between.{holds_at_first, holds_at_next}
 use Rattle.verdict_merge.proofs.Breaking.{breach_on}
-use Rattle.verdict_merge.proofs.Coming.{HasCome, come_nowhere, come_over, come_past, goes_through, next_within, refuses_there, stands}
+use Rattle.verdict_merge.proofs.Coming.{HasCome, come_nowhere, come_over, come_past, goes_through, next_within, refuses_there, is_shown}
 use Rattle.verdict_merge.proofs.Seeing.{seen_less}
 use Rattle.verdict_merge.proofs.outcome.go_over.Goals as goal
 
@@ -47,13 +47,13 @@ offset_bounds-records-index g c = let within = bounds-records-index g c in searc
 pub judge_one-requires-clause-core : goal.judge_one-requires-clause-core
 judge_one-requires-clause-core g c =
     let lent = c.args.lent.now in
-    let at = stands lent.config.now c.args.number lent.first lent.records.now c.loop-index.invariant.1 c.loop-index.invariant.2 c.in-Some.ensures.steps c.index-records-index.is c.requires.placed c.requires.cores in
+    let at = is_shown lent.config.now c.args.number lent.first lent.records.now c.loop-index.invariant.1 c.loop-index.invariant.2 c.in-Some.ensures.steps c.index-records-index.is c.requires.placed c.requires.cores in
     at.core
 
 pub judge_one-requires-clause-holds_before : goal.judge_one-requires-clause-holds_before
 judge_one-requires-clause-holds_before g c =
     let lent = c.args.lent.now in
-    let at = stands lent.config.now c.args.number lent.first lent.records.now c.loop-index.invariant.1 c.loop-index.invariant.2 c.in-Some.ensures.steps c.index-records-index.is c.requires.placed c.requires.cores in
+    let at = is_shown lent.config.now c.args.number lent.first lent.records.now c.loop-index.invariant.1 c.loop-index.invariant.2 c.in-Some.ensures.steps c.index-records-index.is c.requires.placed c.requires.cores in
     subst (λ place. HoldsBefore place c.loop-index.piece.part) (sym at.place) (c.loop-index.invariant.3.holds_before lent.first c.requires.placed c.requires.going.holds_before)
 
 pub returns-in-Ok-Some-clause-outcome : goal.returns-in-Ok-Some-clause-outcome
@@ -61,7 +61,7 @@ returns-in-Ok-Some-clause-outcome g c =
     let lent = c.args.lent.now in
     let relations = relations_of c.args.rules.now in
     let seen = c.loop-index.invariant.0 in
-    let at = stands lent.config.now c.args.number lent.first lent.records.now c.loop-index.invariant.1 c.loop-index.invariant.2 c.in-Some.ensures.steps c.index-records-index.is c.requires.placed c.requires.cores in
+    let at = is_shown lent.config.now c.args.number lent.first lent.records.now c.loop-index.invariant.1 c.loop-index.invariant.2 c.in-Some.ensures.steps c.index-records-index.is c.requires.placed c.requires.cores in
     let index = reached lent.config.now (piece_at lent.config.now c.args.number) lent.records.now (length c.loop-index.invariant.1) in
     refuses_there lent.config.now c.args.number lent.first lent.records.now relations c.args.piece.now c.loop-index.piece c.judge_one.new.piece _ seen c.in-Ok-Some.refused index c.index-records-index.result
     refl c.loop-index.invariant.3 (subst (IsFirstBreach relations seen) (sym (rw c.in-Ok-Some.field-0-is at c.in-Ok-Some.ensures.tested)) c.loop-index.invariant.4) c.requires.placed c.requires.going.holds_before at.within at.is at.touched (rw c.in-Ok-Some.field-0-is at c.in-Ok-Some.ensures.judged) c.in-Ok-Some.ensures.of_module
@@ -76,7 +76,7 @@ loop-index-preserved g c =
     let ordered = c.index-records-index.result in
     let outcome = c.loop-index.invariant.1 in
     let come = c.loop-index.invariant.3 in
-    let at = stands lent.config.now c.args.number lent.first lent.records.now c.loop-index.invariant.1 c.loop-index.invariant.2 c.in-Some.ensures.steps c.index-records-index.is c.requires.placed c.requires.cores in
+    let at = is_shown lent.config.now c.args.number lent.first lent.records.now c.loop-index.invariant.1 c.loop-index.invariant.2 c.in-Some.ensures.steps c.index-records-index.is c.requires.placed c.requires.cores in
     let index = reached config piece records (length outcome) in
     let judged = rw c.in-Ok-None.field-0-is at c.in-Ok-None.ensures.judged in
     let old = c.args.piece.now in

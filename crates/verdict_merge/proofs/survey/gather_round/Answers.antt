@@ -83,12 +83,12 @@ returns-in-Ok c = λ relations start going over.
     let found = subst (λ count. IsFound config (parts_in start) left records count gathering.found) (sym all) after.least in
     let been : (number : ℕ) → number < length (pieces config) → HasBeen config (parts_in start) records left gathering.found number =
     λ number within. after.been number (omega (arith, within, all)) in
-    let stands = outcome_of_piece config start (pieces_in judged) records lent.first gathering.found c.requires.placed been found in
-    let outcome = have_run_over config start (pieces_in judged) records gathering.found stands in
+    let is_shown = outcome_of_piece config start (pieces_in judged) records lent.first gathering.found c.requires.placed been found in
+    let outcome = have_run_over config start (pieces_in judged) records gathering.found is_shown in
     let filled = wanted_filled config (parts_in start) lent.first records gathering.found after.slots c.requires.placed (going.each 0 (omega arith)).whose (omega arith) outcome
     (λ number within. after.filled number (omega (arith, within, all))) in
     record {
-      outcome = subst (HaveRunOver config start records gathering.found) (sym c.in-Ok.ensures) stands;
+      outcome = subst (HaveRunOver config start records gathering.found) (sym c.in-Ok.ensures) is_shown;
       tested = subst (IsTested config relations (parts_in start) records gathering.found) (sym c.breach_in-breach.ensures)
           (is_tested config (parts_in start) relations lent.first records gathering.found c.requires.placed outcome after.slots gathering.breach after.whole after.sound filled after.first);
       going = subst (AreGoing config (lent.first + length records)) (sym c.in-Ok.ensures) (record {

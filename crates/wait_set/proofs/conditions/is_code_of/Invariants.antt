@@ -1,4 +1,4 @@
--- One of all the conditions has the code exactly where one of those that are left has it.
+-- One of all the conditions has the code exactly if one of those that are left has it.
 use Rattle.std.proofs.Common.{◌↔◌, drop}
 use Rattle.apex_machine.specs.Step.{IsCodeOf}
 use Rattle.wait_set.proofs.conditions.is_code_of.Given as goal

@@ -1,4 +1,4 @@
--- The test passes at each core exactly where the skew is kept.
+-- The test passes at each core exactly if the skew is kept.
 use Rattle.dispatch_rule.proofs.Cores.{KeepsSkew_all}
 use Rattle.dispatch_rule.proofs.clock.Clock.may_tick.Goals as goal
 

@@ -1,4 +1,4 @@
--- The object of the number is changed in place, where there is one.
+-- The object of the number is changed in place, if there is one.
 use Rattle.std.proofs.Common.{◌∙◌, sym, nat_eq}
 use Rattle.object_table.proofs.Tables.{NumbersFit-written, change-absent, change-written, lookup-item_at}
 use Rattle.object_table.proofs.table.ObjectTable.leave.Goals as goal

@@ -9,5 +9,6 @@ invariant-loop g l =
     record {
       agrees : Agrees l.self (tip.undecided l.tip) (tip.is_ended l.tip);
       decided : tip.decided l.tip ≡ tip.decided l.fn.tip;
+      input : tip.input l.tip ≡ tip.input l.fn.tip;
       cores : l.self.placed.most ≡ l.fn.self.placed.most;
     }

@@ -8,5 +8,6 @@ invariant-loop-index g l =
     record {
       taken : tip.undecided l.tip ≡ l.self.placed.cores.items;
       decided : tip.decided l.tip ≡ tip.decided l.fn.tip;
+      input : tip.input l.tip ≡ tip.input l.fn.tip;
       cores : l.self.placed.most ≡ l.fn.self.placed.most;
     }

@@ -8,6 +8,7 @@ invariant-loop-core g l =
     record {
       undecided : tip.undecided l.tip ≡ tip.undecided l.fn.tip;
       decided : tip.decided l.tip ≡ tip.decided l.fn.tip;
+      input : tip.input l.tip ≡ tip.input l.fn.tip;
     }
 
 abbrev pub decreases-loop-swaps : goal.decreases-loop-swaps

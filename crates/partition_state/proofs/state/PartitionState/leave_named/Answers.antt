@@ -1,4 +1,4 @@
--- One more of those named leaves its set, while numbers are distinct and who stands waits.
+-- One more of those named leaves its set, while numbers are distinct and each process with an entry waits.
 use Rattle.std.proofs.Common.{sym, ap, ◌∙◌, take, length, ◌<◌}
 use Rattle.std.proofs.lemmas.List.{take_all, take_more}
 use Rattle.apex_laws.specs.PartSets.{named_left}
@@ -10,13 +10,13 @@ use Rattle.partition_state.proofs.state.PartitionState.leave_named.Goals.{then-e
 pub leave-requires-clause-objects : goal.leave-requires-clause-objects
 leave-requires-clause-objects c =
     let sound = c.requires.sound in
-    rw c.loop-who.invariant (named_distinct c.args.part (take c.loop-who.who-index c.as_slice-named.result.now) c.args.self.now sound.objects sound.stands)
+    rw c.loop-who.invariant (named_distinct c.args.part (take c.loop-who.who-index c.as_slice-named.result.now) c.args.self.now sound.objects sound.is_member)
 
 pub leave-requires-clause-alone : goal.leave-requires-clause-alone
 leave-requires-clause-alone c =
     let sound = c.requires.sound in
     rw c.loop-who.invariant
-    (named_where c.args.part (take c.loop-who.who-index c.as_slice-named.result.now) c.args.self.now c.who-item.result sound.objects sound.stands)
+    (named_where c.args.part (take c.loop-who.who-index c.as_slice-named.result.now) c.args.self.now c.who-item.result sound.objects sound.is_member)
 
 pub loop-who-preserved : goal.loop-who-preserved
 loop-who-preserved c =
@@ -29,7 +29,7 @@ loop-who-preserved c =
     let named = take c.loop-who.who-index woken in
     elim c.if-eq.branch [
       | then-eq w ↦ rw (w.self-is, w.leave.ensures, c.loop-who.invariant, more, ← c.who-item.is)
-          (next_leaves a.part named a.self.now who sound.objects sound.stands (sym c.eq.ensures ∙ w.if-eq.true))
+          (next_leaves a.part named a.self.now who sound.objects sound.is_member (sym c.eq.ensures ∙ w.if-eq.true))
       | else-eq w ↦ rw (w.self-is, c.loop-who.invariant, more, ← c.who-item.is)
           (next_stays a.part named a.self.now who (sym c.eq.ensures ∙ w.if-eq.false))
     ]

@@ -1,4 +1,4 @@
--- Who waits at a buffer stands in one of its sets alone.
+-- A process that waits at a buffer has an entry in only one of its sets.
 use Rattle.partition_state.proofs.Leavers.{buffer_left}
 use Rattle.partition_state.proofs.state.PartitionState.leave_set.Goals as goal
 

@@ -10,12 +10,12 @@ returns-clause-judged g c =
     let relations = relations_of c.args.rules.now in
     let surveyed = c.in-Ok-gather_round.surveyed in
     let old : Judging = record { count = c.self.inside.count; pieces = c.self.inside.pieces.items; breach = c.self.inside.breach } in
-    let new : Judging = record { count = c.place_behind-self-inside.result; pieces = surveyed.pieces.items; breach = surveyed.breach } in
+    let new : Judging = record { count = c.place_after-self-inside.result; pieces = surveyed.pieces.items; breach = surveyed.breach } in
     let ready : IsReady config old = subst (IsReady config) (sym c.self.view_is) c.requires.ready in
     let over = rw (c.new-lent.ensures.config, c.new-lent.ensures.first, c.new-lent.ensures.records, c.replace-pieces.ensures.value) at c.in-Ok.ensures.judged in
     let gathered = rw (c.new-lent.ensures.config, c.new-lent.ensures.first, c.new-lent.ensures.records) at c.in-Ok-gather_round.ensures in
     subst (λ judging. IsRound config judging c.args.records.now surveyed.found new) c.self.view_is
-    (round_is config old new c.args.records.now relations surveyed c.place_behind-self-inside.ensures (gathered relations old.pieces ready over) refl)
+    (round_is config old new c.args.records.now relations surveyed c.place_after-self-inside.ensures (gathered relations old.pieces ready over) refl)
 
 pub returns-clause-tested : goal.returns-clause-tested
 returns-clause-tested g c =

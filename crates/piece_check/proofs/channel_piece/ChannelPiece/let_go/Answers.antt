@@ -1,4 +1,4 @@
--- Whom the call names leaves, and whom it stops or restarts with its partition.
+-- The processes that the call names leave, and those that it stops or restarts with its partition.
 use Rattle.std.proofs.Common.{Some, refl, sym, ◌∙◌}
 use Rattle.piece_check.proofs.Through.{after_letting_go, left_alone, left_with_part, left_with_target}
 use Rattle.piece_check.proofs.channel_piece.ChannelPiece.let_go.Goals as goal

@@ -1,7 +1,7 @@
 -- What the channel refuses its piece refuses; those who wait entered before the record, and the times are those of a recording.
 use Rattle.std.proofs.Common.{◌≡◌, Some, arith, rules}
 use Rattle.std.proofs.lemmas.Result.{IfErr-weaker}
-use Rattle.piece_check.proofs.Parting.{stand_before, time_at_is}
+use Rattle.piece_check.proofs.Parting.{are_before_place, time_at_is}
 use Rattle.piece_check.proofs.Through.{piece_refuses, stays_configured}
 use Rattle.piece_check.proofs.channel_piece.ChannelPiece.step.Goals as goal
 
@@ -9,7 +9,7 @@ pub apply-requires-clause-below : goal.apply-requires-clause-below
 apply-requires-clause-below c =
     let channel = c.args.self.now.channel.channel in
     let kept = c.requires.holds_before.kept in
-    (stand_before c.args.ordered.now.pos channel.senders kept.senders, stand_before c.args.ordered.now.pos channel.receivers kept.receivers)
+    (are_before_place c.args.ordered.now.pos channel.senders kept.senders, are_before_place c.args.ordered.now.pos channel.receivers kept.receivers)
 
 pub returns-then-eq-clause-refused : goal.returns-then-eq-clause-refused
 returns-then-eq-clause-refused c =

@@ -1,4 +1,4 @@
--- A name is taken where what has it has a number.
+-- A name is taken if what has it has a number.
 use Rattle.std.proofs.Common.{refl}
 use Rattle.apex_types.specs.Requested.{kind_of}
 use Rattle.apex_machine.specs.State.{name_in, objects_of}

@@ -1,4 +1,4 @@
--- The test passes at each process that is named exactly where all wait in the set.
+-- The test passes at each process that is named exactly if all wait in the set.
 use Rattle.std.proofs.Common.{rules, tests}
 use Rattle.std.proofs.lemmas.Iterator.{YieldsList-from_slice}
 use Rattle.std.proofs.lemmas.Iterator.Search.{all_from_yields_List}

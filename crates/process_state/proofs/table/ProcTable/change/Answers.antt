@@ -1,15 +1,15 @@
 -- The one process of the number is changed in place, and its rank and its due time with it.
 use Rattle.std.proofs.Common.{refl, rules}
 use Rattle.process_state.specs.Ranks.{due_before, due_laws, due_time_of, rank_before, rank_laws, rank_of}
-use Rattle.process_state.proofs.Kept.{IsKept-written, found_there, room_left, stands}
+use Rattle.process_state.proofs.Kept.{IsKept-written, found_there, room_left, is_member}
 use Rattle.process_state.proofs.Tables.{processes-kept, processes-written}
 use Rattle.process_state.proofs.table.ProcTable.change.Goals as goal
 
-pub replace-requires-clause-stands : goal.replace-requires-clause-stands
-replace-requires-clause-stands g c =
+pub replace-requires-clause-is_member : goal.replace-requires-clause-is_member
+replace-requires-clause-is_member g c =
     let entries = c.self.inside.processes.entries in
     let found = found_there c.args.number c.in-Some.process.now entries c.in-Some.ensures.value in
-    rw c.of-old_rank.ensures (stands rank_before rank_laws rank_of c.args.number c.in-Some.process.now entries _ found c.self.invariant.ranks)
+    rw c.of-old_rank.ensures (is_member rank_before rank_laws rank_of c.args.number c.in-Some.process.now entries _ found c.self.invariant.ranks)
 
 pub replace-requires-clause-room : goal.replace-requires-clause-room
 replace-requires-clause-room g c =
@@ -17,11 +17,11 @@ replace-requires-clause-room g c =
     let found = found_there c.args.number c.in-Some.process.now entries c.in-Some.ensures.value in
     rw c.of-old_rank.ensures (room_left rank_before rank_laws rank_of c.args.number c.in-Some.process.now entries _ _ found c.self.invariant.ranks c.self.invariant.ready_room)
 
-pub replace-requires-in-Some-clause-stands : goal.replace-requires-in-Some-clause-stands
-replace-requires-in-Some-clause-stands g c =
+pub replace-requires-in-Some-clause-is_member : goal.replace-requires-in-Some-clause-is_member
+replace-requires-in-Some-clause-is_member g c =
     let entries = c.self.inside.processes.entries in
     let found = found_there c.args.number c.in-Some.process.now entries c.in-Some.ensures.value in
-    rw c.of-old_due.ensures (stands due_before due_laws due_time_of c.args.number c.in-Some.process.now entries _ found c.self.invariant.due_times)
+    rw c.of-old_due.ensures (is_member due_before due_laws due_time_of c.args.number c.in-Some.process.now entries _ found c.self.invariant.due_times)
 
 pub replace-requires-in-Some-clause-room : goal.replace-requires-in-Some-clause-room
 replace-requires-in-Some-clause-room g c =

@@ -1,4 +1,4 @@
--- A process that stands at its own number, and else the one under the number.
+-- A process that is at the index of its number, and else the one under the number.
 use Rattle.std.proofs.Common.{◌≡◌, sym, ◌∙◌, arith}
 use Rattle.std.proofs.lemmas.Bool.Decides.{nat_tests}
 use Rattle.process_state.proofs.Tables.{lookup-item_at}

@@ -4,12 +4,12 @@ use Rattle.std.specs.Option.{is_some}
 use Rattle.apex_machine.specs.declared.state.Entry.{Entry}
 use Rattle.wait_set.specs.Kept.{place_of}
 use Rattle.wait_set.specs.Sets.{entry_of}
-use Rattle.wait_set.proofs.Entries.{found-stands}
+use Rattle.wait_set.proofs.Entries.{found-is_member}
 use Rattle.wait_set.proofs.Keeping.{Left, asked-entry, asked-place, left-kept}
 use Rattle.wait_set.proofs.Leaving.{entry_of-absent, found-entry, without-absent}
 use Rattle.wait_set.proofs.set.WaitSet.take.Goals as goal
 
--- the process has no place where none was found
+-- the process has no place if none was found
 absent_at : (c : goal.After-from_residual) → place_of c.args.who (values_of c.self.inside.entries.entries) ≡ None
 absent_at c = sym (asked-place _ _ _ _ c.args.who _ c.self.invariant c.remove.ensures.value) ∙ c.in_err-place.was
 
@@ -19,7 +19,7 @@ returns-in_err-place-clause-taken c = rw (← c.self.view_is) (c.from_residual.e
 pub returns-in_err-place-clause-left : goal.returns-in_err-place-clause-left
 returns-in_err-place-clause-left c =
     let entries : List Entry = values_of c.self.inside.entries.entries in
-    let same = without-absent c.args.who entries (sym (found-stands c.args.who entries) ∙ ap is_some (absent_at c)) in
+    let same = without-absent c.args.who entries (sym (found-is_member c.args.who entries) ∙ ap is_some (absent_at c)) in
     rw (← c.self.view_is, same) refl
 
 pub unreachable-requires : goal.unreachable-requires

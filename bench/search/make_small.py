@@ -1,0 +1,655 @@
+#!/usr/bin/env python3
+"""Small lawful recordings of a random module with partitions on several cores, ties, messages and queues.
+
+    make_small.py SEED RECORDS FOLDER
+"""
+import os, random, sys
+
+
+class Proc:
+    def __init__(self, part, number, core, prio, period=None):
+        self.part, self.number, self.core, self.base = part, number, core, prio
+        self.prio, self.period = prio, period
+        self.alive = False
+        self.suspended = False
+        self.wait = None            # None | ('normal',) ('until',t) ('first',t) ('rel',t) ('self',t|None) ('set',key,t|None)
+        self.pos = 0
+        self.due = None             # (service, code, val, data)
+        self.release = 0
+        self.retained = None
+        self.service = None
+
+    def ready(self):
+        return self.alive and not self.suspended and self.wait is None
+
+    def due_time(self):
+        if self.wait is None or self.wait[0] == 'normal':
+            return None
+        return self.wait[-1]
+
+
+class Part:
+    def __init__(self, number, cores, period):
+        self.number, self.cores, self.period = number, cores, period
+        self.mode = 'cold'
+        self.procs = {0: Proc(number, 0, cores[0], 0)}
+        self.procs[0].alive = True
+        self.sems, self.events, self.buffers, self.boards, self.mutexes = {}, {}, {}, {}, {}
+        self.plan = []
+
+
+class Done(Exception):
+    pass
+
+
+class Sim:
+    def __init__(self, seed, records):
+        r = self.r = random.Random(seed)
+        self.records = records
+        self.ncores = r.choice([2, 2, 3, 4])
+        self.frame = r.choice([6, 10, 20])
+        self.skew = r.choice([1, 2, 3, 5, 10])
+        nparts = r.choice([1, 1, 2, 3])
+        self.parts = []
+        for n in range(nparts):
+            k = r.randint(1, self.ncores)
+            if n == 0:
+                k = max(2, k)
+            cores = sorted(r.sample(range(self.ncores), k))
+            self.parts.append(Part(n, cores, self.frame))
+        self.windows = []           # (core, part, start, length)
+        for c in range(self.ncores):
+            on = [p for p in self.parts if c in p.cores]
+            if not on:
+                continue
+            r.shuffle(on)
+            cuts = sorted(r.sample(range(1, self.frame), len(on) - 1)) if len(on) > 1 else []
+            edges = [0] + cuts + [self.frame]
+            for i, p in enumerate(on):
+                start, end = edges[i], edges[i + 1]
+                if r.random() < 0.2 and end - start > 2:
+                    end -= 1
+                self.windows.append((c, p.number, start, end - start))
+        self.sampling, self.queuing = [], []
+        chan = 0
+        if nparts > 1:
+            for _ in range(r.choice([0, 1, 2])):
+                a, b = r.sample(range(nparts), 2)
+                self.queuing.append(dict(chan=chan, cap=r.randint(1, 3), src=a, dst=b, sd=r.choice([0, 1]), dd=r.choice([0, 1]), msgs=[], send=[], recv=[]))
+                chan += 1
+            for _ in range(r.choice([0, 1, 2])):
+                a = r.randrange(nparts)
+                dst = [b for b in range(nparts) if b != a]
+                self.sampling.append(dict(chan=chan, refresh=r.choice([1, 3, 10]), src=a, dst=dst, msg=None, stamp=0))
+                chan += 1
+        self.time = [0] * self.ncores
+        self.occ = [None] * self.ncores
+        self.seq = [0] * self.ncores
+        self.rows = [[] for _ in range(self.ncores)]
+        self.order = []
+        self.place = 0
+        self.msg = 0
+        for p in self.parts:
+            self.make_plan(p)
+
+    # -- plan of the initialising process
+    def make_plan(self, p):
+        r = self.r
+        plan = p.plan
+        count = r.randint(len(p.cores), 3 * len(p.cores))
+        for n in range(1, count + 1):
+            core = p.cores[(n - 1) % len(p.cores)] if n <= len(p.cores) else r.choice(p.cores)
+            prio = r.choice([10, 10, 10, 20, 30])
+            period = self.frame if r.random() < 0.15 else None
+            plan.append(('create', n, core, prio, period))
+        p.limits = dict(processes=count, semaphores=0, events=0, buffers=0, blackboards=0, mutexes=0)
+        for kind, most in (('semaphores', 2), ('events', 1), ('buffers', 2), ('blackboards', 1), ('mutexes', 1)):
+            k = r.randint(0, most)
+            p.limits[kind] = k
+            for i in range(1, k + 1):
+                plan.append((kind, i))
+        p.ports = {}
+        n = 0
+        for q in self.queuing:
+            if q['src'] == p.number or q['dst'] == p.number:
+                n += 1
+                plan.append(('qport', n, q))
+        n = 0
+        for s in self.sampling:
+            if s['src'] == p.number or p.number in s['dst']:
+                n += 1
+                plan.append(('sport', n, s))
+        p.starts = list(range(1, count + 1))
+        for n in p.starts:
+            if r.random() < 0.9 or n == 1:
+                plan.append(('start', n))
+        plan.append(('normal',))
+
+    # -- rows
+    def put(self, core, kind, woken=(), **f):
+        if self.place >= self.records:
+            raise Done
+        names = "part proc service n1 n2 n3 name msg prio out val data chan".split()
+        g = [str(f.get(n, "")) for n in names]
+        w = ";".join("%d:%d" % x for x in sorted(woken))
+        self.rows[core].append("%d,%s,%s,%s" % (self.seq[core], kind, ",".join(g), w))
+        self.order.append("%d,%d" % (core, self.seq[core]))
+        self.seq[core] += 1
+        self.place += 1
+        return self.place - 1
+
+    def window(self, core):
+        t = self.time[core] % self.frame
+        for c, p, s, l in self.windows:
+            if c == core and s <= t < s + l:
+                return self.parts[p]
+        return None
+
+    def choice(self, core):
+        p = self.window(core)
+        if p is None:
+            return None
+        ready = [q for q in p.procs.values() if q.core == core and q.ready()]
+        return min(ready, key=lambda q: (-q.prio, q.pos, q.number), default=None)
+
+    def may_tick(self, core):
+        return self.time[core] + 1 <= min(self.time) + self.skew
+
+    def sets(self):
+        for p in self.parts:
+            for s in p.sems.values():
+                yield s['wait']
+            for s in p.events.values():
+                yield s['wait']
+            for s in p.buffers.values():
+                yield s['send']
+                yield s['recv']
+            for s in p.boards.values():
+                yield s['wait']
+            for s in p.mutexes.values():
+                yield s['wait']
+        for q in self.queuing:
+            yield q['send']
+            yield q['recv']
+
+    def leave(self, proc):
+        for s in self.sets():
+            s[:] = [e for e in s if e['who'] is not proc]
+
+    def tick(self, core):
+        t = self.time[core] + 1
+        due = []
+        for p in self.parts:
+            for q in p.procs.values():
+                if q.alive and q.core == core and q.due_time() is not None and q.due_time() <= t:
+                    due.append(q)
+        place = self.put(core, "tick", woken=[(q.part, q.number) for q in due])
+        self.time[core] = t
+        for q in due:
+            w = q.wait
+            if w[0] == 'first':
+                q.release = w[1]
+            elif w[0] == 'rel':
+                q.release = w[1]
+                q.due = (q.service, 'NO_ERROR', '', '')
+            elif w[0] == 'until':
+                q.due = (q.service, 'NO_ERROR', '', '')
+            else:
+                q.due = (q.service, 'TIMED_OUT', '', '')
+            self.leave(q)
+            q.wait = None
+            q.pos = place
+
+    def wake(self, q, place, data=''):
+        self.leave(q)
+        q.wait = None
+        q.pos = place
+        q.due = (q.service, 'NO_ERROR', '', data)
+
+    @staticmethod
+    def first(entries, discipline):
+        if discipline == 0:
+            return min(entries, key=lambda e: e['place'])
+        return min(entries, key=lambda e: (-e['prio'], e['place']))
+
+    def timeout(self, q):
+        if self.may_not_wait(q):
+            return 0
+        return self.r.choice([-1, -1, 0, 1, 2, 5])
+
+    def may_not_wait(self, q):
+        if q.number == 0:
+            return True
+        return any(m['owner'] is q for m in self.parts[q.part].mutexes.values())
+
+    def call(self, core, q):
+        """One call of the process q, with its effect."""
+        r = self.r
+        p = self.parts[q.part]
+        f = dict(part=q.part, proc=q.number, prio=q.prio)
+        base = dict(f)
+
+        def emit(service, out, woken=(), **more):
+            q.service = service
+            return self.put(core, "call", woken=woken, service=service, out=out, **base, **more)
+
+        def answer(service, code='NO_ERROR', val='', data=''):
+            q.due = (service, code, val, data)
+
+        if q.number == 0:
+            step = p.plan.pop(0)
+            kind = step[0]
+            if kind == 'create':
+                _, n, c, prio, period = step
+                emit("CREATE_PROCESS", "NO_ERROR", n1=prio, n2=period or -1, name="P%d" % n, val=n)
+                p.procs[n] = Proc(p.number, n, p.cores[0], prio, period)
+                answer("CREATE_PROCESS", val=n)
+                if c != p.cores[0]:
+                    p.plan.insert(0, ('affinity', n, c))
+            elif kind == 'affinity':
+                emit("INITIALIZE_PROCESS_CORE_AFFINITY", "NO_ERROR", n1=step[1], n2=step[2])
+                p.procs[step[1]].core = step[2]
+                answer("INITIALIZE_PROCESS_CORE_AFFINITY")
+            elif kind == 'semaphores':
+                v, m, d = r.choice([0, 0, 1, 2]), r.choice([1, 2, 5]), r.choice([0, 1])
+                v = min(v, m)
+                emit("CREATE_SEMAPHORE", "NO_ERROR", n1=v, n2=m, n3=d, name="S%d" % step[1], val=step[1])
+                p.sems[step[1]] = dict(value=v, max=m, disc=d, wait=[])
+                answer("CREATE_SEMAPHORE", val=step[1])
+            elif kind == 'events':
+                emit("CREATE_EVENT", "NO_ERROR", name="E%d" % step[1], val=step[1])
+                p.events[step[1]] = dict(up=False, wait=[])
+                answer("CREATE_EVENT", val=step[1])
+            elif kind == 'buffers':
+                c, d = r.choice([1, 2, 3]), r.choice([0, 1])
+                emit("CREATE_BUFFER", "NO_ERROR", n1=8, n2=c, n3=d, name="B%d" % step[1], val=step[1])
+                p.buffers[step[1]] = dict(cap=c, disc=d, msgs=[], send=[], recv=[])
+                answer("CREATE_BUFFER", val=step[1])
+            elif kind == 'blackboards':
+                emit("CREATE_BLACKBOARD", "NO_ERROR", n1=8, name="D%d" % step[1], val=step[1])
+                p.boards[step[1]] = dict(msg=None, wait=[])
+                answer("CREATE_BLACKBOARD", val=step[1])
+            elif kind == 'mutexes':
+                d = r.choice([0, 1])
+                emit("CREATE_MUTEX", "NO_ERROR", n1=50, n2=d, name="M%d" % step[1], val=step[1])
+                p.mutexes[step[1]] = dict(prio=50, disc=d, owner=None, count=0, wait=[])
+                answer("CREATE_MUTEX", val=step[1])
+            elif kind == 'qport':
+                _, n, ch = step
+                dst = ch['dst'] == p.number
+                emit("CREATE_QUEUING_PORT", "NO_ERROR", n1=8, n2=ch['cap'], n3=(1 if dst else 0) + 2 * (ch['dd'] if dst else ch['sd']), name="Q%d" % ch['chan'], val=n)
+                p.ports[('q', n)] = (ch, dst)
+                answer("CREATE_QUEUING_PORT", val=n)
+            elif kind == 'sport':
+                _, n, ch = step
+                dst = ch['src'] != p.number
+                emit("CREATE_SAMPLING_PORT", "NO_ERROR", n1=8, n2=1 if dst else 0, n3=ch['refresh'], name="X%d" % ch['chan'], val=n)
+                p.ports[('s', n)] = (ch, dst)
+                answer("CREATE_SAMPLING_PORT", val=n)
+            elif kind == 'start':
+                place = emit("START", "NO_ERROR", n1=step[1])
+                t = p.procs[step[1]]
+                t.alive, t.prio, t.wait, t.pos = True, t.base, ('normal', None), place
+                answer("START")
+            else:
+                place = emit("SET_PARTITION_MODE", "none", n1=3)
+                p.mode = 'normal'
+                q.alive = False
+                for t in p.procs.values():
+                    if t.wait is not None and t.wait[0] == 'normal':
+                        self.enter_normal(p, t, place)
+            return
+        options = ['time', 'wait', 'wait', 'delay0', 'id']
+        options += ['sem'] * 4 * bool(p.sems) + ['event'] * 3 * bool(p.events) + ['buffer'] * 4 * bool(p.buffers)
+        options += ['board'] * 3 * bool(p.boards) + ['port'] * 5 * bool(p.ports) + ['mutex'] * 3 * bool(p.mutexes)
+        options += ['start', 'stop', 'suspend', 'resume', 'selfsus', 'prio', 'periodic', 'status']
+        o = r.choice(options)
+        own = self.may_not_wait(q)
+        if o == 'periodic' and q.period and not own:
+            nxt = q.release + q.period
+            if nxt <= self.time[core]:
+                place = emit("PERIODIC_WAIT", "NO_ERROR")
+                q.release, q.pos = nxt, place
+                answer("PERIODIC_WAIT")
+            else:
+                emit("PERIODIC_WAIT", "wait")
+                q.wait = ('rel', nxt)
+            return
+        if o == 'wait' and not own:
+            d = r.choice([1, 1, 2, 3, 5])
+            emit("TIMED_WAIT", "wait", n1=d)
+            q.wait = ('until', self.time[core] + d)
+            return
+        if o == 'delay0' and not own:
+            q.pos = emit("TIMED_WAIT", "NO_ERROR", n1=0)
+            answer("TIMED_WAIT")
+            return
+        if o == 'selfsus' and not q.period and not own:
+            to = r.choice([-1, 2, 4])
+            emit("SUSPEND_SELF", "wait", n1=to)
+            q.wait = ('self', None if to < 0 else self.time[core] + to)
+            return
+        others = [t for t in p.procs.values() if t.number > 0 and t is not q]
+        if o == 'start':
+            c = [t for t in others if not t.alive]
+            if c:
+                t = r.choice(c)
+                place = emit("START", "NO_ERROR", n1=t.number)
+                t.alive, t.prio, t.suspended = True, t.base, False
+                self.enter_normal(p, t, place)
+                answer("START")
+                return
+        if o == 'stop' and r.random() < 0.4:
+            c = [t for t in others if t.alive and not any(m['owner'] is t for m in p.mutexes.values())]
+            if c:
+                t = r.choice(c)
+                emit("STOP", "NO_ERROR", n1=t.number)
+                self.leave(t)
+                t.alive, t.suspended, t.wait, t.due = False, False, None, None
+                answer("STOP")
+                return
+        if o == 'suspend':
+            c = [t for t in others if t.alive and not t.period and not t.suspended and not (t.wait and t.wait[0] == 'self') and not any(m['owner'] is t or any(e['who'] is t for e in m['wait']) for m in p.mutexes.values())]
+            if c:
+                t = r.choice(c)
+                emit("SUSPEND", "NO_ERROR", n1=t.number)
+                t.suspended = True
+                answer("SUSPEND")
+                return
+        if o in ('resume', 'suspend', 'selfsus'):
+            c = [t for t in others if t.alive and not t.period and (t.suspended or (t.wait and t.wait[0] == 'self'))]
+            if c:
+                t = r.choice(c)
+                self_sus = t.wait is not None and t.wait[0] == 'self'
+                place = emit("RESUME", "NO_ERROR", n1=t.number, woken=[(p.number, t.number)] if self_sus else ())
+                t.suspended = False
+                t.pos = place
+                if self_sus:
+                    self.wake(t, place)
+                answer("RESUME")
+                return
+        if o == 'prio':
+            c = [t for t in others if t.alive and not any(m['owner'] is t or any(e['who'] is t for e in m['wait']) for m in p.mutexes.values())]
+            if c:
+                t = r.choice(c)
+                v = r.choice([10, 20, 30])
+                place = emit("SET_PRIORITY", "NO_ERROR", n1=t.number, n2=v)
+                t.prio, t.pos = v, place
+                answer("SET_PRIORITY")
+                return
+        if o == 'sem' and p.sems:
+            n = r.choice(list(p.sems))
+            s = p.sems[n]
+            if r.random() < 0.5:
+                if s['wait']:
+                    e = self.first(s['wait'], s['disc'])
+                    place = emit("SIGNAL_SEMAPHORE", "NO_ERROR", n1=n, woken=[(p.number, e['who'].number)])
+                    self.wake(e['who'], place)
+                    answer("SIGNAL_SEMAPHORE")
+                elif s['value'] < s['max']:
+                    emit("SIGNAL_SEMAPHORE", "NO_ERROR", n1=n)
+                    s['value'] += 1
+                    answer("SIGNAL_SEMAPHORE")
+                else:
+                    emit("SIGNAL_SEMAPHORE", "NO_ACTION", n1=n)
+                    answer("SIGNAL_SEMAPHORE", 'NO_ACTION')
+                return
+            to = self.timeout(q)
+            if s['value'] > 0 and not (own and to != 0):
+                emit("WAIT_SEMAPHORE", "NO_ERROR", n1=n, n2=to)
+                s['value'] -= 1
+                answer("WAIT_SEMAPHORE")
+            elif to == 0:
+                emit("WAIT_SEMAPHORE", "NOT_AVAILABLE", n1=n, n2=0)
+                answer("WAIT_SEMAPHORE", 'NOT_AVAILABLE')
+            else:
+                place = emit("WAIT_SEMAPHORE", "wait", n1=n, n2=to)
+                self.enter(q, s['wait'], place, to, core)
+            return
+        if o == 'event' and p.events:
+            n = r.choice(list(p.events))
+            s = p.events[n]
+            k = r.random()
+            if k < 0.3:
+                place = emit("SET_EVENT", "NO_ERROR", n1=n, woken=[(p.number, e['who'].number) for e in s['wait']])
+                for e in list(s['wait']):
+                    self.wake(e['who'], place)
+                s['up'] = True
+                answer("SET_EVENT")
+            elif k < 0.6:
+                emit("RESET_EVENT", "NO_ERROR", n1=n)
+                s['up'] = False
+                answer("RESET_EVENT")
+            else:
+                to = self.timeout(q)
+                if s['up']:
+                    emit("WAIT_EVENT", "NO_ERROR", n1=n, n2=to)
+                    answer("WAIT_EVENT")
+                elif to == 0:
+                    emit("WAIT_EVENT", "NOT_AVAILABLE", n1=n, n2=0)
+                    answer("WAIT_EVENT", 'NOT_AVAILABLE')
+                else:
+                    place = emit("WAIT_EVENT", "wait", n1=n, n2=to)
+                    self.enter(q, s['wait'], place, to, core)
+            return
+        if o == 'buffer' and p.buffers:
+            n = r.choice(list(p.buffers))
+            s = p.buffers[n]
+            if r.random() < 0.5:
+                self.send(core, q, s, "SEND_BUFFER", dict(n1=n), s['disc'], s['disc'], emit, answer)
+            else:
+                self.receive(core, q, s, "RECEIVE_BUFFER", dict(n1=n), s['disc'], s['disc'], emit, answer)
+            return
+        if o == 'board' and p.boards:
+            n = r.choice(list(p.boards))
+            s = p.boards[n]
+            k = r.random()
+            if k < 0.35:
+                m = self.message()
+                place = emit("DISPLAY_BLACKBOARD", "NO_ERROR", n1=n, n2=2, msg=m, woken=[(p.number, e['who'].number) for e in s['wait']])
+                for e in list(s['wait']):
+                    self.wake(e['who'], place, m)
+                s['msg'] = m
+                answer("DISPLAY_BLACKBOARD")
+            elif k < 0.55:
+                emit("CLEAR_BLACKBOARD", "NO_ERROR", n1=n)
+                s['msg'] = None
+                answer("CLEAR_BLACKBOARD")
+            else:
+                to = self.timeout(q)
+                if s['msg'] is not None:
+                    emit("READ_BLACKBOARD", "NO_ERROR", n1=n, n2=to, data=s['msg'])
+                    answer("READ_BLACKBOARD", data=s['msg'])
+                elif to == 0:
+                    emit("READ_BLACKBOARD", "NOT_AVAILABLE", n1=n, n2=0)
+                    answer("READ_BLACKBOARD", 'NOT_AVAILABLE')
+                else:
+                    place = emit("READ_BLACKBOARD", "wait", n1=n, n2=to)
+                    self.enter(q, s['wait'], place, to, core)
+            return
+        if o == 'mutex' and p.mutexes:
+            n = r.choice(list(p.mutexes))
+            m = p.mutexes[n]
+            if m['owner'] is q:
+                if m['count'] > 1:
+                    emit("RELEASE_MUTEX", "NO_ERROR", n1=n)
+                    m['count'] -= 1
+                elif m['wait']:
+                    e = self.first(m['wait'], m['disc'])
+                    place = emit("RELEASE_MUTEX", "NO_ERROR", n1=n, woken=[(p.number, e['who'].number)])
+                    q.prio = q.retained
+                    t = e['who']
+                    t.retained, t.prio = t.prio, m['prio']
+                    m['owner'], m['count'] = t, 1
+                    self.wake(t, place)
+                else:
+                    emit("RELEASE_MUTEX", "NO_ERROR", n1=n)
+                    q.prio = q.retained
+                    m['owner'], m['count'] = None, 0
+                answer("RELEASE_MUTEX")
+                return
+            if q.prio <= m['prio'] and not any(x['owner'] is q for x in p.mutexes.values()):
+                to = r.choice([-1, 0, 3])
+                if m['owner'] is None:
+                    emit("ACQUIRE_MUTEX", "NO_ERROR", n1=n, n2=to)
+                    m['owner'], m['count'] = q, 1
+                    q.retained, q.prio = q.prio, m['prio']
+                    answer("ACQUIRE_MUTEX")
+                elif to == 0:
+                    emit("ACQUIRE_MUTEX", "NOT_AVAILABLE", n1=n, n2=0)
+                    answer("ACQUIRE_MUTEX", 'NOT_AVAILABLE')
+                else:
+                    place = emit("ACQUIRE_MUTEX", "wait", n1=n, n2=to)
+                    self.enter(q, m['wait'], place, to, core)
+                return
+        if o == 'port' and p.ports:
+            key = r.choice(list(p.ports))
+            ch, dst = p.ports[key]
+            n = key[1]
+            if key[0] == 's':
+                if not dst:
+                    m = self.message()
+                    emit("WRITE_SAMPLING_MESSAGE", "NO_ERROR", n1=n, n2=2, msg=m, chan=ch['chan'])
+                    ch['msg'], ch['stamp'] = m, self.time[core]
+                    answer("WRITE_SAMPLING_MESSAGE")
+                elif ch['msg'] is None:
+                    emit("READ_SAMPLING_MESSAGE", "NO_ACTION", n1=n, val=0, chan=ch['chan'])
+                    answer("READ_SAMPLING_MESSAGE", 'NO_ACTION', 0)
+                else:
+                    v = 1 if max(0, self.time[core] - ch['stamp']) <= ch['refresh'] else 0
+                    emit("READ_SAMPLING_MESSAGE", "NO_ERROR", n1=n, val=v, data=ch['msg'], chan=ch['chan'])
+                    answer("READ_SAMPLING_MESSAGE", val=v, data=ch['msg'])
+                return
+            if not dst:
+                self.send(core, q, ch, "SEND_QUEUING_MESSAGE", dict(n1=n, chan=ch['chan']), ch['sd'], ch['dd'], emit, answer)
+            else:
+                self.receive(core, q, ch, "RECEIVE_QUEUING_MESSAGE", dict(n1=n, chan=ch['chan']), ch['sd'], ch['dd'], emit, answer)
+            return
+        if o == 'status' and p.sems:
+            n = r.choice(list(p.sems))
+        if o == 'id':
+            emit("GET_MY_ID", "NO_ERROR", val=q.number)
+            answer("GET_MY_ID", val=q.number)
+            return
+        emit("GET_TIME", "NO_ERROR", val=self.time[core])
+        answer("GET_TIME", val=self.time[core])
+
+    def message(self):
+        # few different messages, so that they may be mistaken for one another
+        self.msg += 1
+        return "%04x" % (self.msg % 65536) if self.r.random() < 0.7 else "%04x" % self.r.randrange(3)
+
+    def enter(self, q, entries, place, to, core, msg=''):
+        entries.append(dict(who=q, prio=q.prio, place=place, msg=msg))
+        q.wait = ('set', None, None if to < 0 else self.time[core] + to)
+
+    def send(self, core, q, s, service, more, sd, dd, emit, answer):
+        to, m = self.timeout(q), self.message()
+        if s['recv']:
+            e = self.first(s['recv'], dd)
+            place = emit(service, "NO_ERROR", n2=2, n3=to, msg=m, woken=[(e['who'].part, e['who'].number)], **more)
+            self.wake(e['who'], place, m)
+            answer(service)
+        elif len(s['msgs']) < s['cap']:
+            emit(service, "NO_ERROR", n2=2, n3=to, msg=m, **more)
+            s['msgs'].append(m)
+            answer(service)
+        elif to == 0:
+            more.pop('x', None)
+            emit(service, "NOT_AVAILABLE", n2=2, n3=0, msg=m, **more)
+            answer(service, 'NOT_AVAILABLE')
+        else:
+            place = emit(service, "wait", n2=2, n3=to, msg=m, **more)
+            self.enter(q, s['send'], place, to, core, m)
+
+    def receive(self, core, q, s, service, more, sd, dd, emit, answer):
+        to = self.timeout(q)
+        if s['msgs']:
+            m = s['msgs'].pop(0)
+            woken = []
+            e = None
+            if s['send']:
+                e = self.first(s['send'], sd)
+                woken = [(e['who'].part, e['who'].number)]
+            place = emit(service, "NO_ERROR", n2=to, data=m, woken=woken, **more)
+            if e:
+                s['msgs'].append(e['msg'])
+                self.wake(e['who'], place)
+            answer(service, data=m)
+        elif to == 0:
+            emit(service, "NOT_AVAILABLE", n2=0, **more)
+            answer(service, 'NOT_AVAILABLE')
+        else:
+            place = emit(service, "wait", n2=to, **more)
+            self.enter(q, s['recv'], place, to, core)
+
+    def enter_normal(self, p, t, place):
+        t.pos = place
+        if t.period:
+            t.wait = ('first', (self.time[t.core] // p.period + 1) * p.period)
+        else:
+            t.wait = None
+
+    def step(self, core):
+        q = self.choice(core)
+        num = (q.part, q.number) if q else None
+        if self.occ[core] != num:
+            if q:
+                self.put(core, "disp", part=q.part, proc=q.number)
+            else:
+                self.put(core, "disp")
+            self.occ[core] = num
+            return
+        if (q is None or self.r.random() < self.tick_rate) and self.may_tick(core):
+            self.tick(core)
+            return
+        if q is None:
+            return
+        if q.due is not None:
+            s, code, val, data = q.due
+            self.put(core, "ret", part=q.part, proc=q.number, service=s, out=code, val=val, data=data)
+            q.due = None
+        else:
+            self.call(core, q)
+
+    def run(self):
+        self.tick_rate = self.r.choice([0.1, 0.2, 0.4])
+        burst = self.r.choice([1, 1, 3, 8])
+        try:
+            while True:
+                core = self.r.randrange(self.ncores)
+                for _ in range(self.r.randint(1, burst)):
+                    self.step(core)
+        except Done:
+            pass
+
+    def write(self, folder):
+        os.makedirs(folder, exist_ok=True)
+        with open(folder + "/config.toml", "w") as t:
+            t.write("cores = %d\nframe = %d\nskew = %d\n" % (self.ncores, self.frame, self.skew))
+            for p in self.parts:
+                t.write("[[partition]]\nnumber = %d\nperiod = %d\ncores = %s\n" % (p.number, p.period, p.cores))
+                for k, v in p.limits.items():
+                    t.write("%s = %d\n" % (k, v))
+            for c, p, s, l in self.windows:
+                t.write("[[window]]\ncore = %d\npartition = %d\nstart = %d\nlength = %d\n" % (c, p, s, l))
+            for q in self.queuing:
+                t.write('[[queuing]]\nchannel = %d\nsize = 8\ncapacity = %d\nsource = { partition = %d, port = "Q%d" }\nsource_discipline = "%s"\ndestination = { partition = %d, port = "Q%d" }\ndestination_discipline = "%s"\n' % (q['chan'], q['cap'], q['src'], q['chan'], ["FIFO", "PRIORITY"][q['sd']], q['dst'], q['chan'], ["FIFO", "PRIORITY"][q['dd']]))
+            for s in self.sampling:
+                t.write('[[sampling]]\nchannel = %d\nsize = 8\nrefresh = %d\nsource = { partition = %d, port = "X%d" }\ndestinations = [ %s ]\n' % (s['chan'], s['refresh'], s['src'], s['chan'], ", ".join('{ partition = %d, port = "X%d" }' % (d, s['chan']) for d in s['dst'])))
+        for c in range(self.ncores):
+            with open(folder + "/core%d.csv" % c, "w") as t:
+                t.write("".join(x + "\n" for x in self.rows[c]))
+        with open(folder + "/order.csv", "w") as t:
+            t.write("".join(x + "\n" for x in self.order))
+
+
+def main():
+    seed, records, folder = int(sys.argv[1]), int(sys.argv[2]), sys.argv[3]
+    sim = Sim(seed, records)
+    sim.run()
+    sim.write(folder)
+
+
+if __name__ == "__main__":
+    main()

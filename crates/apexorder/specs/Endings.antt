@@ -1,0 +1,50 @@
+-- How a run of the program ends.
+use Rattle.std.specs.Prelude.{ℕ, List, Option}
+use Rattle.apex_machine.specs.Configuration.{Configuration}
+use Rattle.apex_types.specs.declared.record.Pair.{Pair}
+use Rattle.order_cert.specs.Order.{IsPrefixOfLawful}
+use Rattle.sink.specs.Written.{IsCut, IsWritten}
+use Rattle.order_run.specs.declared.proposal.Proposal.TheVariants.{Found, NotFound}
+use Rattle.order_run.specs.declared.proposal.ProposalFault.{ProposalFault}
+use Rattle.order_run.specs.declared.proposal.ProposalFault.TheVariants as no_proposal
+use Rattle.order_run.specs.Proposal.{IsProposed}
+use Rattle.order_run.specs.Rows.{rows_of}
+use Rattle.report.specs.declared.fault.CheckFault.TheVariants as fault
+use Rattle.apexorder.specs.declared.ending.Ending.{Ending}
+use Rattle.apexorder.specs.declared.ending.Ending.TheVariants.{Proposed, Refused, BadUsage, Unopened, Unwritten, Version}
+use Rattle.apexorder.specs.declared.usage.UsageFault.{UsageFault}
+use Rattle.apexorder.specs.declared.usage.UsageFault.TheVariants as words
+
+-- 0 for an order and for the version, 1 if none was found, 3 if memory is refused, 2 for every other refusal, and 4 if the output failed
+abbrev pub status_of : Ending → ℕ
+status_of (Proposed (Found records)) = 0
+status_of (Proposed (NotFound refused)) = 1
+status_of (Refused fault.Memory) = 3
+status_of (Refused _) = 2
+status_of BadUsage = 2
+status_of Unopened = 2
+status_of Unwritten = 4
+status_of Version = 0
+
+-- the end where there is no proposal
+abbrev pub ending_of : ProposalFault → Ending
+ending_of (no_proposal.Input input) = Refused (fault.Input input)
+ending_of no_proposal.Memory = Refused fault.Memory
+ending_of no_proposal.Output = Unwritten
+
+-- the end where the command line is refused
+abbrev pub ending_of_words : UsageFault → Ending
+ending_of_words words.Usage = BadUsage
+ending_of_words words.Memory = Refused fault.Memory
+
+-- the output received the first bytes of the rows of an order that is lawful, or begins a lawful one
+pub record HasReceivedRows (before after : Option (List ℕ)) : Type 0 where
+  pub cores : ℕ
+  pub pairs : List Pair
+  pub lawful : IsPrefixOfLawful cores pairs
+  pub cut : IsCut before (rows_of pairs) after
+
+-- if the end is a proposal, the output received its certificate, and the proposal says of the recordings with these texts what it means
+abbrev pub IsCertified : Configuration → List (List ℕ) → Option (List ℕ) → Option (List ℕ) → Ending → Type 0
+IsCertified configuration texts before after (Proposed proposal) = (certificate : List ℕ) × IsWritten before certificate after × IsProposed configuration texts certificate proposal
+IsCertified configuration texts before after _ = Unit {0}

@@ -1,0 +1,67 @@
+// The line of a row in a file, which is read once more for it.
+
+use crate::files::open;
+use input_explanation::{Compression, FoundRow, LONGEST_SIGNATURE, TwoReaders, find_row};
+use std::alloc::Global;
+use std::fs;
+use std::fs::Files;
+use std::io::Read;
+use wording::Words;
+
+/// Adds where the row of this number is: its file and its line, or its number if it is not found once more. Returns the row.
+pub fn tell_place<R: Files<File = F>, F: Read + Drop>(
+    rt: &R,
+    alloc: Global,
+    words: &mut Words,
+    name: &str,
+    number: u64,
+) -> Option<FoundRow> {
+    let row = row_of(rt, alloc, name, number);
+    match &row {
+        Some(row) => words.say(format_args!("{name}, line {}: ", row.line)),
+        None => words.say(format_args!("{name}, row {number}, counted from 0: ")),
+    }
+    row
+}
+
+// The row of this number in the file of this name. None if it is no regular file: a pipe gives its text once.
+fn row_of<R: Files<File = F>, F: Read + Drop>(
+    rt: &R,
+    alloc: Global,
+    name: &str,
+    number: u64,
+) -> Option<FoundRow> {
+    if !is_regular(rt, name) {
+        return None;
+    }
+    match (open(rt, name), open(rt, name)) {
+        (Ok(rows), Ok(lines)) => find_row(alloc, TwoReaders { rows, lines }, number),
+        _ => None,
+    }
+}
+
+/// How the file of this name is compressed, if it is. None if it is no regular file.
+pub fn compression_of<R: Files<File = F>, F: Read + Drop>(
+    rt: &R,
+    name: &str,
+) -> Option<Compression> {
+    if !is_regular(rt, name) {
+        return None;
+    }
+    let mut first = [0u8; LONGEST_SIGNATURE];
+    match open(rt, name) {
+        Ok(mut file) => match file.read(&mut first) {
+            Ok(count) => Compression::of(first.get(..count)?),
+            Err(_) => None,
+        },
+        Err(_) => None,
+    }
+}
+
+/// Whether a file can be read once more.
+pub fn is_regular(rt: &impl Files, name: &str) -> bool {
+    match fs::metadata(rt, name) {
+        Ok(metadata) => metadata.is_file(),
+        Err(_) => false,
+    }
+}

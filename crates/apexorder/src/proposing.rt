@@ -1,0 +1,52 @@
+// The search over texts that are opened.
+
+ghost use Rattle.std.specs.Prelude.{◌≡◌, ℕ, List, Ok, Some, map};
+ghost use Rattle.apex_machine.specs.Configuration.{Configuration};
+ghost use Rattle.module_config.specs.Reading.{configuration_of};
+ghost use Rattle.apexorder.specs.Endings.{HasReceivedRows, IsCertified};
+
+use crate::ending::{Ending, refused_by};
+use csv_rows::TextSource;
+use module_config::{Config, ConfigFault};
+use order_tip::{Limits, MOST_UNDECIDED, Watcher, propose};
+use report::{ArgumentFault, CheckFault};
+use sink::WriterSink;
+use std::alloc::Global;
+use std::io::Write;
+
+/// Searches for an order of these recordings under the configuration with this text, and writes its certificate to this output.
+///
+/// Whatever the end is, what the output received are rows that begin a lawful order. If the end is a proposal, they are the whole
+/// certificate, and the proposal says of the recordings what it means.
+#[tactic(auto, using(crate::proofs::Written::none_received, crate::proofs::Written::received, crate::proofs::Written::certified, crate::proofs::Written::none_is_certified))]
+pub fn propose_into<S: TextSource + Drop, V: Watcher, W: Write + Drop>(
+    alloc: Global,
+    effort: u64,
+    text: &[u8],
+    cores: Vec<S>,
+    watcher: &mut V,
+    output: &mut WriterSink<W>,
+) -> Ending
+    ensures rows { HasReceivedRows output.old.bytes output.new.bytes }
+    ensures certified { (configuration : Configuration) (texts : List (List ℕ)) → configuration_of text.now ≡ Ok configuration → map S.remaining cores.items ≡ map Some texts → IsCertified configuration texts output.old.bytes output.new.bytes result }
+{
+    let config = match Config::read(alloc, text) {
+        Ok(config) => config,
+        Err(ConfigFault::Memory) => return Ending::Refused(CheckFault::Memory),
+        Err(fault) => return Ending::Refused(CheckFault::Config(fault)),
+    };
+    if cores.len() != config.cores() as usize {
+        return Ending::Refused(CheckFault::Arguments(ArgumentFault::ReaderCount));
+    }
+    let limits = Limits {
+        window: MOST_UNDECIDED,
+        effort,
+    };
+    match propose(alloc, &config, cores, limits, watcher, output) {
+        Ok(proposal) => match output.flush() {
+            Ok(()) => Ending::Proposed(proposal),
+            Err(_) => Ending::Unwritten,
+        },
+        Err(fault) => refused_by(fault),
+    }
+}

@@ -1,0 +1,149 @@
+// The words of the command line.
+
+use clap::error::ErrorKind;
+use clap::{Arg, ArgAction, ArgMatches, Command};
+use csv_rows::read_decimal;
+use std::alloc::{AllocError, Global};
+use std::rt::Env;
+use std::{env, io};
+
+/// What a person reads whose command line is refused.
+pub const USAGE: &str = "usage: apexorder --config FILE [--effort N] [--quiet] CORE...
+       apexorder --version
+
+Searches for an order of the records of the cores of an ARINC 653 module, and
+prints it as a certificate for apexcheck.
+
+  --config FILE      the configuration of the module (required)
+  CORE...            one recording for each core, core 0 first
+  --effort N         try at most N records for each record that is placed
+                     (default 1000)
+  --quiet            show no progress, and not what stops each core
+  --version          print the version; this must be the only word";
+
+/// How many records are tried for each one placed, unless it is said.
+pub const USUAL_EFFORT: u64 = 1_000;
+
+/// What the command line asks for.
+#[derive(Debug, Drop)]
+pub enum Asked {
+    /// The one word is `--version`.
+    Version,
+    /// An order of the recordings in files.
+    Order(OrderAsked),
+}
+
+/// An order that is to be searched for.
+#[derive(Debug, Drop)]
+pub struct OrderAsked {
+    /// The file with the configuration.
+    pub config: String,
+    /// How many records may be tried for each one placed.
+    pub effort: u64,
+    /// Whether no progress is shown, and not what stops each core.
+    pub quiet: bool,
+    /// The files with the recordings, one for each core, core 0 first.
+    pub cores: Vec<String>,
+}
+
+/// Why a command line says nothing that can be done.
+#[derive(Clone, Copy, Debug, PartialEq, Eq)]
+pub enum UsageFault {
+    /// The words are not those of the usage. A word that is no UTF-8 text is none of them.
+    Usage,
+    /// Memory was refused on the way.
+    Memory,
+}
+
+impl From<AllocError> for UsageFault {
+    fn from(_: AllocError) -> UsageFault {
+        UsageFault::Memory
+    }
+}
+
+/// Reads the words that the program was given.
+pub fn from_words(rt: &(impl Env + AllocGlobal), alloc: Global) -> Result<Asked, UsageFault> {
+    let words: Vec<String> = match env::args(rt) {
+        Ok(words) => match words.collect(alloc) {
+            Ok(words) => words,
+            Err(_) => return Err(UsageFault::Memory),
+        },
+        Err(e) if e.kind() == io::ErrorKind::OutOfMemory => return Err(UsageFault::Memory),
+        Err(_) => return Err(UsageFault::Usage),
+    };
+    match words.as_slice() {
+        [_, word] if word.as_str() == "--version" => Ok(Asked::Version),
+        words => Ok(Asked::Order(order_asked(alloc, words)?)),
+    }
+}
+
+// The order that the words ask for.
+fn order_asked(alloc: Global, words: &[String]) -> Result<OrderAsked, UsageFault> {
+    let Ok(command) = command(alloc) else {
+        return Err(UsageFault::Memory);
+    };
+    match command.try_get_matches_from(words) {
+        Ok(matches) => asked_in(alloc, &matches),
+        Err(e) => match e.kind() {
+            ErrorKind::OutOfMemory => Err(UsageFault::Memory),
+            _ => Err(UsageFault::Usage),
+        },
+    }
+}
+
+// What the parser has found.
+fn asked_in(alloc: Global, matches: &ArgMatches<'_>) -> Result<OrderAsked, UsageFault> {
+    let Some(config) = matches.get_str("config") else {
+        return Err(UsageFault::Usage);
+    };
+    let Some(cores) = matches.get_strs("core") else {
+        return Err(UsageFault::Usage);
+    };
+    let effort = match matches.get_str("effort") {
+        Some(text) => read_decimal(text.as_bytes(), u32::MAX as u64).ok_or(UsageFault::Usage)?,
+        None => USUAL_EFFORT,
+    };
+    Ok(OrderAsked {
+        config: String::from_str(alloc, config)?,
+        effort,
+        quiet: matches.get_flag("quiet"),
+        cores: owned(alloc, cores)?,
+    })
+}
+
+// Texts of their own.
+fn owned(alloc: Global, texts: &[&str]) -> Result<Vec<String>, AllocError> {
+    let mut owned = Vec::new(alloc);
+    for text in texts {
+        owned.push(String::from_str(alloc, text)?)?;
+    }
+    Ok(owned)
+}
+
+// The words of a run: no option twice, and CORE once or more.
+fn command<'a>(alloc: Global) -> Result<Command<'a>, AllocError> {
+    Command::new(alloc, "apexorder")
+        .disable_help_flag(true)
+        .arg(option(alloc, "config").required(true))?
+        .arg(option(alloc, "effort"))?
+        .arg(flag(alloc, "quiet"))?
+        .arg(recordings(alloc))
+}
+
+// The recordings, of which there is one at least.
+fn recordings<'a>(alloc: Global) -> Arg<'a> {
+    Arg::new(alloc, "core")
+        .required(true)
+        .num_args(1..)
+        .action(ArgAction::Append)
+}
+
+// The option of this name, which has a value.
+fn option<'a>(alloc: Global, name: &'static str) -> Arg<'a> {
+    Arg::new(alloc, name).long(name).action(ArgAction::Set)
+}
+
+// The option of this name, which has none.
+fn flag<'a>(alloc: Global, name: &'static str) -> Arg<'a> {
+    Arg::new(alloc, name).long(name).action(ArgAction::SetTrue)
+}

@@ -1,0 +1,6 @@
+mod Lefts
+mod Onward
+mod Scanned
+mod Text
+mod Way
+mod Whole

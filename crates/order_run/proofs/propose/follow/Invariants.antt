@@ -1,0 +1,11 @@
+use Rattle.std.proofs.Common.{ℕ, List, Option}
+use Rattle.order_run.specs.Left.{Lefts}
+use Rattle.order_run.specs.UnderWay.{IsUnderWay}
+use Rattle.order_run.proofs.propose.follow.Given as goal
+
+-- the run is under way as it was at first
+abbrev pub invariant-loop : goal.invariant-loop
+invariant-loop g l =
+    (bytes : Option (List ℕ)) (start : Lefts)
+    → IsUnderWay l.config bytes start l.fn.run (g.G.Guide.left l.fn.guide) (g.W.Sink.bytes l.fn.out)
+    → IsUnderWay l.config bytes start l.run (g.G.Guide.left l.guide) (g.W.Sink.bytes l.out)

@@ -1,0 +1,4 @@
+pub mod Left
+pub mod Rows
+pub mod UnderWay
+pub mod Proposal

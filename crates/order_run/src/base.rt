@@ -1,0 +1,98 @@
+// All pieces of a module, which judge what is decided.
+
+ghost use Rattle.std.specs.Prelude.{◌≡◌, ◌<◌, ◌+◌, ℕ, IfOk, length};
+ghost use Rattle.apex_machine.specs.Pieces.{pieces};
+ghost use Rattle.apex_machine.specs.Runs.{ArePlaced, AreOfCores};
+ghost use Rattle.verdict_merge.specs.Rounds.{IsReady, IsRound, cold_parts, parts_of};
+
+use apex_types::Ordered;
+use module_config::Config;
+use piece_check::{Piece, Touched};
+use std::alloc::Global;
+use std::marker::Model;
+use std::mem;
+use verdict_merge::{Lent, Memory, Refused, gather_round, judge_in_turn, start_pieces};
+
+/// All pieces of a module, and how many records they have judged.
+#[derive(Drop)]
+pub struct Base {
+    alloc: Global,
+    pieces: Vec<Piece>,
+    touched: Touched,
+    count: u64,
+}
+
+impl Model for Base {
+    ghost use Rattle.std.specs.Prelude.{None};
+    ghost use Rattle.verdict_merge.specs.Rounds.{Judging};
+
+    ghost Value = { Judging };
+
+    ghost view = { λ base. record { count = base.count; pieces = base.pieces.items; breach = None } };
+}
+
+impl Base {
+    /// All pieces as they are before the first record.
+    ///
+    /// Memory where a growth is refused.
+    pub fn start(alloc: Global, config: &Config) -> Result<Base, Memory>
+        ensures cold { IfOk result (λ base. (number : ℕ) → number < length (pieces config.now) → parts_of base number ≡ cold_parts config.now number) }
+        ensures count { IfOk result (λ base. base.count ≡ 0) }
+        ensures ready { IfOk result (IsReady config.now) }
+    {
+        let pieces = start_pieces(alloc, config)?;
+        let Ok(touched) = Touched::new(alloc) else {
+            return Err(Memory);
+        };
+        Ok(Base {
+            alloc,
+            pieces,
+            touched,
+            count: 0,
+        })
+    }
+
+    /// How many records were judged.
+    pub fn count(&self) -> u64
+        ensures { result ≡ self.now.count }
+    {
+        self.count
+    }
+
+    /// Judges the next records: each piece goes over those that touch it, up to its first refusal. The least refusal is reported, after
+    /// which nothing further is judged.
+    ///
+    /// Memory where a growth was refused, after which nothing further is judged.
+    pub fn judge(&mut self, config: &Config, records: &[Ordered]) -> Result<Option<Refused>, Memory>
+        requires ready { IsReady config.now self.old }
+        requires placed { ArePlaced self.old.count records.now }
+        requires cores { AreOfCores config.now.cores records.now }
+        ensures { IfOk result (λ found. IsRound config.now self.old records.now found self.new) }
+    {
+        if self.touched.sort_out(config, records).is_err() {
+            return Err(Memory);
+        }
+        let lent = Lent::new(config, self.count, records, &self.touched);
+        let pieces = mem::replace(&mut self.pieces, Vec::new(self.alloc));
+        let Ok(judged) = judge_in_turn(self.alloc, &lent, &[], pieces) else {
+            return Err(Memory);
+        };
+        let Ok(surveyed) = gather_round(self.alloc, &lent, judged) else {
+            return Err(Memory);
+        };
+        self.pieces = surveyed.pieces;
+        self.count = place_after(self.count, records);
+        Ok(surveyed.found)
+    }
+}
+
+// The place after these records, the first of which is at this place.
+fn place_after(first: u64, records: &[Ordered]) -> u64
+    requires { ArePlaced first records.now }
+    ensures { result ≡ first + length records.now }
+{
+    match records.last() {
+        Some(last) => last.pos.number() + 1,
+        None => first,
+    }
+}

@@ -1,0 +1,4 @@
+mod Agreed
+mod Opened
+mod Outcomes
+mod Tip

@@ -1,0 +1,9 @@
+// The law on proposals, the contract of a function without code.
+
+ghost use Rattle.order_tip.specs.Outcome.{ProposalIsTheOutcome};
+
+/// What is proposed is what a check answers to the certificate that was written, without rules: Yes of all records where an order was
+/// found, and else No at the place that is reported.
+pub fn proposal_is_the_outcome()
+    ensures { ProposalIsTheOutcome }
+{}

@@ -1,5 +1,0 @@
-use Rattle.user_rules.proofs.FirstBroken.{first_broken_behind}
-use Rattle.user_rules.proofs.laws.first_broken_behind.Goals as goal
-
-pub returns : goal.returns
-returns c = first_broken_behind
