@@ -1,4 +1,4 @@
-// The end of a search in words, on standard error. It decides nothing: a failure there, or want of memory, ends the words alone.
+// The end of a search in words, on standard error. It decides nothing: a failure there, or a lack of memory, ends only the words.
 
 use crate::ending::Ending;
 use crate::files::open;

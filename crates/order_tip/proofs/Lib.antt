@@ -1,4 +1,4 @@
 mod Agreed
-mod Opened
+pub mod Opened
 mod Outcomes
 mod Tip

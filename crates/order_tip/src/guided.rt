@@ -10,13 +10,13 @@ use placement::PlacingFault;
 
 /// The exploration as the guide of a run, with its watcher.
 #[derive(Drop)]
-pub struct Guided<'c, 'a, 'w, R: TextSource, V> {
-    pub(crate) config: &'c Config,
+pub struct Guided<'a, 'w, R: TextSource, V> {
+    pub(crate) config: &'a Config,
     pub(crate) exploration: Exploration<'a, R>,
     pub(crate) watcher: &'w mut V,
 }
 
-impl<'c, 'a, 'w, R: TextSource + Drop, V: Watcher> Guide for Guided<'c, 'a, 'w, R, V> {
+impl<'a, 'w, R: TextSource + Drop, V: Watcher> Guide for Guided<'a, 'w, R, V> {
     ghost left = { λ guided. guided.exploration.machine.outlook.lanes };
 
     fn next(&mut self) -> Result<Option<usize>, PlacingFault> {

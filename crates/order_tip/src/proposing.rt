@@ -14,7 +14,7 @@ use crate::machine::Machine;
 use crate::watcher::Watcher;
 use csv_rows::TextSource;
 use module_config::Config;
-use order_run::{Lanes, Proposal, ProposalFault, propose_by};
+use order_run::{Guide, Lanes, Proposal, ProposalFault, propose_by};
 use order_search::{Limits, Search};
 use sink::Sink;
 use std::alloc::{AllocError, Global};
@@ -41,15 +41,30 @@ pub fn propose<R: TextSource + Drop, W: Sink, V: Watcher>(
 {
     match explored(alloc, config, sources, limits) {
         Ok(exploration) => {
-            let mut guide = Guided {
+            let guide = Guided {
                 config,
                 exploration,
                 watcher,
             };
-            propose_by(alloc, config, &mut guide, out)
+            propose_with(alloc, config, guide, out)
         }
         Err(_) => Err(ProposalFault::Memory),
     }
+}
+
+// Puts all records in one order, as a guide of its own says, and writes its certificate.
+fn propose_with<G: Guide + Drop, W: Sink>(
+    alloc: Global,
+    config: &Config,
+    guide: G,
+    out: &mut W,
+) -> Result<Proposal, ProposalFault>
+    requires { length (G.left guide) ≡ config.now.cores }
+    ensures prefix { (pairs : List Pair) × IsPrefixOfLawful config.now.cores pairs × HaveGoneOut (W.bytes out.old) (rows_of pairs) result (W.bytes out.new) }
+    ensures proposed { (texts : List (List ℕ)) → G.left guide ≡ map (λ text. Some (records_of text)) texts → IfOk result (λ proposal. (certificate : List ℕ) × IsWritten (W.bytes out.old) certificate (W.bytes out.new) × IsProposed config.now texts certificate proposal) }
+{
+    let mut guide = guide;
+    propose_by(alloc, config, &mut guide, out)
 }
 
 // The exploration of these recordings, before the first record.

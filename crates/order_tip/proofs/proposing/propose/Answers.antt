@@ -3,13 +3,13 @@ use Rattle.std.proofs.lemmas.List.{length-map}
 use Rattle.order_tip.proofs.Opened.{nothing_gone, opened_texts}
 use Rattle.order_tip.proofs.proposing.propose.Goals as goal
 
-pub propose_by-requires : goal.propose_by-requires
-propose_by-requires g c = ap length c.in-Ok.ensures ∙ length-map c.args.sources.items _ ∙ c.requires
+pub propose_with-requires : goal.propose_with-requires
+propose_with-requires g c = ap length c.in-Ok.ensures ∙ length-map c.args.sources.items _ ∙ c.requires
 
 pub returns-in-Ok : goal.returns-in-Ok
 returns-in-Ok g c = record {
-  prefix = c.propose_by.ensures.prefix;
-  proposed = λ texts known. c.propose_by.ensures.proposed texts (c.in-Ok.ensures ∙ opened_texts g.R.TextSource.remaining c.args.sources.items texts known);
+  prefix = c.propose_with.ensures.prefix;
+  proposed = λ texts known. c.propose_with.ensures.proposed texts (c.in-Ok.ensures ∙ opened_texts g.R.TextSource.remaining c.args.sources.items texts known);
 }
 
 pub returns : goal.returns
