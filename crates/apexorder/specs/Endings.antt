@@ -1,7 +1,8 @@
 -- How a run of the program ends.
-use Rattle.std.specs.Prelude.{ℕ, List, Option}
+use Rattle.std.specs.Prelude.{◌≡◌, ℕ, List, Option, Result, Ok, Err}
 use Rattle.apex_machine.specs.Configuration.{Configuration}
 use Rattle.apex_types.specs.declared.record.Pair.{Pair}
+use Rattle.module_config.specs.declared.fault.ConfigFault.{ConfigFault}
 use Rattle.order_cert.specs.Order.{IsPrefixOfLawful}
 use Rattle.sink.specs.Written.{IsCut, IsWritten}
 use Rattle.order_run.specs.declared.proposal.Proposal.TheVariants.{Found, NotFound}
@@ -37,12 +38,16 @@ abbrev pub ending_of_words : UsageFault → Ending
 ending_of_words words.Usage = BadUsage
 ending_of_words words.Memory = Refused fault.Memory
 
--- the output received the first bytes of the rows of an order that is lawful, or begins a lawful one
-pub record HasReceivedRows (before after : Option (List ℕ)) : Type 0 where
-  pub cores : ℕ
+-- the output received the first bytes of rows that begin a lawful order of the records of so many cores
+pub record HasReceivedRows (cores : ℕ) (before after : Option (List ℕ)) : Type 0 where
   pub pairs : List Pair
   pub lawful : IsPrefixOfLawful cores pairs
   pub cut : IsCut before (rows_of pairs) after
+
+-- for a configuration that was read, the output received rows that begin a lawful order of its cores; for a text that is none, nothing
+abbrev pub HasReceived : Result Configuration ConfigFault → Option (List ℕ) → Option (List ℕ) → Type 0
+HasReceived (Ok configuration) before after = HasReceivedRows configuration.cores before after
+HasReceived (Err fault) before after = after ≡ before
 
 -- if the end is a proposal, the output received its certificate, and the proposal says of the recordings with these texts what it means
 abbrev pub IsCertified : Configuration → List (List ℕ) → Option (List ℕ) → Option (List ℕ) → Ending → Type 0

@@ -3,7 +3,7 @@
 ghost use Rattle.std.specs.Prelude.{◌≡◌, ℕ, List, Ok, Some, map};
 ghost use Rattle.apex_machine.specs.Configuration.{Configuration};
 ghost use Rattle.module_config.specs.Reading.{configuration_of};
-ghost use Rattle.apexorder.specs.Endings.{HasReceivedRows, IsCertified};
+ghost use Rattle.apexorder.specs.Endings.{HasReceived, IsCertified};
 
 use crate::ending::{Ending, refused_by};
 use csv_rows::TextSource;
@@ -16,8 +16,9 @@ use std::io::Write;
 
 /// Searches for an order of these recordings under the configuration with this text, and writes its certificate to this output.
 ///
-/// Whatever the end is, what the output received are rows that begin a lawful order. If the end is a proposal, they are the whole
-/// certificate, and the proposal says of the recordings what it means.
+/// Whatever the end is, the output received the first bytes of rows that begin a lawful order of the configured cores, and nothing if the
+/// text is no configuration. If the end is a proposal, the output received the whole certificate, and the proposal means of the
+/// configuration and the recordings what `order_run` says.
 #[tactic(auto, using(crate::proofs::Written::none_received, crate::proofs::Written::received, crate::proofs::Written::certified, crate::proofs::Written::none_is_certified))]
 pub fn propose_into<S: TextSource + Drop, V: Watcher, W: Write + Drop>(
     alloc: Global,
@@ -27,7 +28,7 @@ pub fn propose_into<S: TextSource + Drop, V: Watcher, W: Write + Drop>(
     watcher: &mut V,
     output: &mut WriterSink<W>,
 ) -> Ending
-    ensures rows { HasReceivedRows output.old.bytes output.new.bytes }
+    ensures rows { HasReceived (configuration_of text.now) output.old.bytes output.new.bytes }
     ensures certified { (configuration : Configuration) (texts : List (List ℕ)) → configuration_of text.now ≡ Ok configuration → map S.remaining cores.items ≡ map Some texts → IsCertified configuration texts output.old.bytes output.new.bytes result }
 {
     let config = match Config::read(alloc, text) {
