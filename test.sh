@@ -1,11 +1,12 @@
 #!/usr/bin/env bash
 # All tests, after the line of the kit that runs them: that each wrong body applies; that docs/FORMATS.md lists the services of
 # the table; that the dossier is what the sources give; the program on one example through real files; every proof, every wrong
-# body of the gate's set, every test and the program as two compilers build it; the program as its users run it, with the words
+# body of the gate's set, every test and each program as two compilers build it; the program as its users run it, with the words
 # of worked cases on standard error, on hostile texts and files, with logs of its outcomes, at a terminal, installed and packed, and
-# on many recordings; each allocation refused in turn that a waiting set makes for its first entry; and so each of the program's,
-# without rules, with options that ask for rules, with a rules file, with a message between partitions, and with several who wait
-# at a blackboard. At the end come the costs of each crate. The last line is `N passed, 0 failed`.
+# on many recordings; the search for orders, and the walkthrough of the guide; each allocation refused in turn that a waiting set
+# makes for its first entry; and so each of the program's, without rules, with options that ask for rules, with a rules file, with a
+# message between partitions, and with several who wait at a blackboard. At the end come the costs of each crate. The last line is
+# `N passed, 0 failed`.
 #
 # `bash test.sh quick` shows without a proof, in minutes, that everything works. `bash audit.sh` tries all wrong bodies.
 set -euo pipefail
@@ -33,6 +34,7 @@ if ! .ci/time_by_crate "$room/times" rt ci | tee "$room/log"; then
     exit 1
 fi
 program=crates/apexcheck/out/apexcheck
+searching=crates/apexorder/out/apexorder
 bash .ci/run_wrong_cases crates/case_runner/out/case_runner
 bash .ci/run_examples "$program"
 bash .ci/run_explanations "$program"
@@ -40,8 +42,10 @@ bash .ci/run_explanations "$program"
 .ci/run_sarif "$program"
 .ci/run_terminal "$program"
 bash .ci/run_hostile "$program"
-bash .ci/run_packaging "$program"
+bash .ci/run_packaging "$program" "$searching"
 .ci/run_campaign "$program"
+.ci/run_orders "$searching" "$program"
+.ci/run_walkthrough "$program" "$searching"
 bash .ci/refuse_in_test crates/part_tests/out/part_tests_tests queuing::a_refused_entry_comes_back 2
 bash .ci/refuse_allocations "$program"
 late=examples/return_too_late

@@ -1,11 +1,11 @@
 //! What no clause says about whole checks: what happens if readers and writers fail in mid-stream, that workers and readers work at the
 //! same time, what a board of workers gives back, what a check leaves of the last records, the verdict at once, which views break rules,
-//! what a piece shows of a refusal, what it judges without a step, and that it can be cloned.
+//! and what a piece shows of a refusal.
 //!
 //! Promises nothing: the crate contains only tests. The tests are not in the crates that they test, so that those are proved once. The
 //! tests of the intake and of single parts are in crates of their own; whole recordings are the data of `case_runner`.
 //!
-//! The tests go by public calls. No crate has tests but this one, `part_tests` and `intake_tests`.
+//! The tests go by public calls. No crate has tests but this one, `part_tests`, `intake_tests` and `search_tests`.
 #![tactic(auto)]
 
 #[cfg(test)]
@@ -14,8 +14,6 @@ mod evidence;
 mod gates;
 #[cfg(test)]
 mod memory;
-#[cfg(test)]
-mod pieces;
 #[cfg(test)]
 mod readers;
 #[cfg(test)]

@@ -118,28 +118,6 @@ pub const RECEIVER: &str = started!(
 pub const BOTH: &[u8] =
     b"0,0\n0,1\n0,2\n0,3\n0,4\n0,5\n0,6\n0,7\n1,0\n1,1\n1,2\n1,3\n1,4\n1,5\n1,6\n1,7\n1,8\n1,9\n1,10\n0,8\n0,9\n1,11\n1,12\n";
 
-/// A partition makes an object of each kind. Its process 1 puts a message into the buffer, and waits at the semaphore.
-pub const OBJECTS: &str = started!(
-    0,
-    "\
-5,call,0,0,CREATE_BUFFER,4,1,0,O,,0,NO_ERROR,1,,,
-6,ret,0,0,CREATE_BUFFER,,,,,,,NO_ERROR,1,,,
-7,call,0,0,CREATE_BLACKBOARD,4,,,O,,0,NO_ERROR,1,,,
-8,ret,0,0,CREATE_BLACKBOARD,,,,,,,NO_ERROR,1,,,
-9,call,0,0,CREATE_SEMAPHORE,0,1,0,O,,0,NO_ERROR,1,,,
-10,ret,0,0,CREATE_SEMAPHORE,,,,,,,NO_ERROR,1,,,
-11,call,0,0,CREATE_EVENT,,,,O,,0,NO_ERROR,1,,,
-12,ret,0,0,CREATE_EVENT,,,,,,,NO_ERROR,1,,,
-13,call,0,0,CREATE_MUTEX,50,0,,O,,0,NO_ERROR,1,,,
-14,ret,0,0,CREATE_MUTEX,,,,,,,NO_ERROR,1,,,
-15,call,0,0,SET_PARTITION_MODE,3,,,,,0,none,,,,
-16,disp,0,1,,,,,,,,,,,,
-17,call,0,1,SEND_BUFFER,1,1,0,,aa,10,NO_ERROR,,,,
-18,ret,0,1,SEND_BUFFER,,,,,,,NO_ERROR,,,,
-19,call,0,1,WAIT_SEMAPHORE,1,3,,,,10,wait,,,,
-"
-);
-
 /// The recording of a partition that begins as `RECORDING` does up to its wait, and then requests the time this many times.
 pub fn asking(alloc: Global, times: u16) -> Result<Vec<u8>, AllocError> {
     let mut text = Vec::new(alloc);

@@ -106,10 +106,10 @@ const CASES: [Case<'static>; 9] = [
     },
     Case {
         name: "the longest beginning",
-        lanes: &[&[Put(1), Get(2)], &[Put(3)]],
+        lanes: &[&[Put(1)], &[Put(2), Get(1), Get(9)]],
         window: FAR,
         effort: MUCH,
-        order: &[0, 1],
+        order: &[0, 1, 1],
         end: End::Stuck,
     },
     Case {

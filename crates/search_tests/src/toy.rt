@@ -1,6 +1,6 @@
 // A machine with one queue of numbers.
 
-ghost use Rattle.std.specs.Prelude.{◌≡◌, [], IfOk};
+ghost use Rattle.std.specs.Prelude.{◌≡◌, ◌≤◌, [], IfOk, length};
 
 use order_search::{Answer, Rivals, Tip};
 use std::alloc::{AllocError, Global};
@@ -26,6 +26,7 @@ pub struct Toy<'a> {
     history: Vec<usize>,
     decided: usize,
     last: Option<usize>,
+    ghost within: { decided ≤ length history.items },
 }
 
 impl<'a> Toy<'a> {
@@ -137,6 +138,7 @@ impl<'a> Tip for Toy<'a> {
         }
     }
 
+    #[tactic(auto, using(crate::proofs::History::taken_last))]
     fn take(&mut self, core: usize) -> Result<bool, AllocError> {
         self.history.push(core)?;
         self.go_on(core);
@@ -149,6 +151,7 @@ impl<'a> Tip for Toy<'a> {
         Ok(0)
     }
 
+    #[tactic(auto, using(crate::proofs::History::decided_first, crate::proofs::History::one_left))]
     fn decide(&mut self, core: usize) {
         self.decided += 1;
         self.last = Some(core);
