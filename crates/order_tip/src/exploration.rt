@@ -38,7 +38,7 @@ impl<'a, R: TextSource + Drop> Exploration<'a, R> {
     /// A search that begins over a machine that has taken the records that the search has placed.
     pub fn new(search: Search, machine: Machine<'a, R>) -> Exploration<'a, R>
         requires { machine.undecided.cores.items ≡ undecided_of search }
-        ensures { result.machine ≡ machine }
+        ensures { result.machine ≡ machine.entry }
     {
         Exploration {
             search,

@@ -322,8 +322,10 @@ impl<'a, R: TextSource + Drop> Outlook<'a, R> {
     fn forget_all_answers(&mut self)
         ensures { self.new.lanes ≡ self.old.lanes }
     {
-        for known in self.known.iter_mut() {
-            known.answer = None;
+        for core in 0..self.known.len() {
+            if let Some(known) = self.known.get_mut(core) {
+                known.answer = None;
+            }
         }
     }
 
@@ -376,11 +378,19 @@ impl<'a, R: TextSource + Drop> Outlook<'a, R> {
         if !self.look(core, place)? {
             return Ok(());
         }
+        self.blame_next(core, things)
+    }
+
+    // Adds what the pieces look at if one rejects a core's next record, which is read.
+    fn blame_next(&self, core: usize, things: &mut Vec<u64>) -> Result<(), AllocError> {
+        let Some(ordered) = self.next_record(core) else {
+            return Ok(());
+        };
+        let Some(rejection) = self.pieces.rejection(ordered) else {
+            return Ok(());
+        };
         let time = self.times.get(core).copied().unwrap_or(0);
-        match self.rejected(core) {
-            Some((ordered, rejection)) => blame(&self.pieces, ordered, time, rejection, things),
-            None => Ok(()),
-        }
+        blame(&self.pieces, ordered, time, rejection, things)
     }
 
     /// Names two records because of whose order a core's next record is rejected, if the pieces can tell.
@@ -390,10 +400,15 @@ impl<'a, R: TextSource + Drop> Outlook<'a, R> {
         if !self.look(core, place)? {
             return Ok(None);
         }
-        match self.rejected(core) {
-            Some((ordered, rejection)) => Ok(rivals_of(&self.pieces, ordered, rejection)),
-            None => Ok(None),
-        }
+        let rivals = self.rivals_next(core);
+        Ok(rivals)
+    }
+
+    // Names two records because of whose order a core's next record, which is read, is rejected, if the pieces can tell.
+    fn rivals_next(&self, core: usize) -> Option<Rivals> {
+        let ordered = self.next_record(core)?;
+        let rejection = self.pieces.rejection(ordered)?;
+        rivals_of(&self.pieces, ordered, rejection)
     }
 }
 

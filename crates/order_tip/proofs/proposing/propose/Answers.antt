@@ -12,8 +12,8 @@ returns-in-Ok g c = record {
   proposed = λ texts known. c.propose_with.ensures.proposed texts (c.in-Ok.ensures ∙ opened_texts g.R.TextSource.remaining c.args.sources.items texts known);
 }
 
-pub returns : goal.returns
-returns g c = record {
+pub returns-in-Err : goal.returns-in-Err
+returns-in-Err g c = record {
   prefix = nothing_gone c.args.config.now.cores (g.W.Sink.bytes c.args.out.now);
   proposed = λ texts known. tt;
 }
