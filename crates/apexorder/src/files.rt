@@ -41,7 +41,7 @@ where
     R: Files<File = F> + Clock + Print + Eprint,
     F: Read + Drop,
 {
-    match opened(rt, alloc, asked, seen) {
+    match open_files(rt, alloc, asked, seen) {
         Ok(opened) => {
             let Opened { text, cores } = opened;
             seen.note_configuration(&text);
@@ -61,7 +61,7 @@ struct Opened<F> {
 }
 
 // Opens the files.
-fn opened<R: Files<File = F>, F: Read + Drop>(
+fn open_files<R: Files<File = F>, F: Read + Drop>(
     rt: &R,
     alloc: Global,
     asked: &OrderAsked,
