@@ -1,5 +1,5 @@
 -- What is made of a command line that the parser takes is what the words of it give.
-use Rattle.std.proofs.Common.{◌≡◌, ◌∙◌, ℕ, List, Option, Some, None, Ok, Err, true, ap, ap₂, codes, inl, inr, option_and_then, option_map, refl, subst, sym}
+use Rattle.std.proofs.Common.{◌≡◌, ◌∙◌, ℕ, List, Option, Some, None, Ok, Err, true, ap, ap₂, codes, inl, inr, option_and_then, option_map, refl, string_bytes, subst, sym}
 use Rattle.std.specs.Option.{ok_or}
 use Rattle.std.specs.Prelude.{IfErr, IsErrAnd, Result}
 use Rattle.clap.proofs.OnLiterals.{clap_on_literals}
@@ -48,18 +48,18 @@ module _ (matches : ArgMatches) (given : List Row) (is : rows_of (found_of match
   all id = raw_values-rows (found_of matches) id ∙ ap (all_of id) is
 
   -- what each part is found to be is what the rows of the command line give
-  pub asks_for : (asked : FilesAsked) → AreNamed (found_of matches) asked.names
+  pub asks_for : (asked : FilesAsked) → AreNamed (found_of matches) asked.names → option_map string_bytes asked.sarif ≡ first_value (found_of matches) (codes "sarif")
       → Ok asked.options ≡ ok_or (values_of (first_value (found_of matches) (codes "max-elapsed")) (first_value (found_of matches) (codes "forbid"))) UsageFault.Usage
       → Ok asked.settings
       ≡ ok_or (option_and_then (λ workers. settings_of workers (first_value (found_of matches) (codes "depth"))) (first_value (found_of matches) (codes "workers"))) UsageFault.Usage
       → Tells (one_text (found_of matches) (codes "last")) asked.last → Tells (one_text (found_of matches) (codes "quiet")) asked.quiet
       → AsksFor given asked
-  asks_for asked names options settings last quiet = record {
+  asks_for asked names sarif options settings last quiet = record {
     config = names.config ∙ first (codes "config");
     rules = names.rules ∙ first (codes "rules");
     order = names.order ∙ first (codes "order");
     cores = names.cores ∙ all (codes "core");
-    sarif = names.sarif ∙ first (codes "sarif");
+    sarif = sarif ∙ first (codes "sarif");
     options = value_of _ UsageFault.Usage asked.options options ∙ ap₂ values_of (first (codes "max-elapsed")) (first (codes "forbid"));
     settings = value_of _ UsageFault.Usage asked.settings settings
         ∙ ap₂ (λ depth text. option_and_then (λ workers. settings_of workers depth) text) (first (codes "depth")) (first (codes "workers"));

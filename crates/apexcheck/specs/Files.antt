@@ -1,5 +1,6 @@
 -- How a run over files ends.
 use Rattle.std.specs.Prelude.{◌≡◌, ◌⊎◌, ℕ, Bool, List, Option, is_some, map, option_map, vec_len}
+use Rattle.answer_words.specs.declared.names.InputNames.{InputNames}
 use Rattle.report.specs.Answers.{Given, given_by}
 use Rattle.rule_options.specs.Options.{in_order}
 use Rattle.apexcheck.specs.declared.ending.Ending.{Ending}
@@ -7,7 +8,6 @@ use Rattle.apexcheck.specs.declared.ending.Ending.TheVariants as ending
 use Rattle.apexcheck.specs.declared.files.OpenFault.{OpenFault}
 use Rattle.apexcheck.specs.declared.files.OpenFault.TheVariants.{Unopened, Memory}
 use Rattle.apexcheck.specs.declared.files.Opened.{Opened}
-use Rattle.apexcheck.specs.declared.usage.FileNames.{FileNames}
 use Rattle.apexcheck.specs.declared.usage.FilesAsked.{FilesAsked}
 use Rattle.apexcheck.specs.Endings.{out_of_memory}
 use Rattle.apexcheck.specs.Ruled.{IsRuledEnding}
@@ -27,7 +27,7 @@ EndsAsAsked known can_fail opened asked ending =
     IsRuledEnding (given_of known can_fail opened) (in_order asked.options) (option_map (λ text. text.items) opened.rules) asked.settings asked.last ending
 
 -- a file was opened for each recording that is named, and the rules file if one is named
-pub record AreOpened {S : Type 0} (names : FileNames) (opened : Opened S) : Type 0 where
+pub record AreOpened {S : Type 0} (names : InputNames) (opened : Opened S) : Type 0 where
   pub cores : vec_len opened.cores ≡ vec_len names.cores
   pub rules : is_some opened.rules ≡ is_some names.rules
 

@@ -2,7 +2,7 @@
 
 ghost use Rattle.std.specs.Prelude.{◌≡◌};
 
-use crate::usage::FileNames;
+use answer_words::InputNames;
 use csv_rows::TextSource;
 use std::alloc::{AllocError, Global};
 use std::fs::Files;
@@ -39,7 +39,7 @@ pub struct Awaited {
 
 impl Awaited {
     /// These files, none of which is being read yet. None if all are regular files, whose reads end by themselves, or if memory is refused.
-    pub fn new<R: Files>(rt: &R, alloc: Global, names: &FileNames) -> Option<Arc<Awaited>> {
+    pub fn new<R: Files>(rt: &R, alloc: Global, names: &InputNames) -> Option<Arc<Awaited>> {
         let is_pipe = |name: &String| !is_regular(rt, name.as_str());
         if !is_pipe(&names.order) && !names.cores.iter().any(is_pipe) {
             return None;
@@ -48,7 +48,7 @@ impl Awaited {
     }
 
     // These files.
-    fn of(alloc: Global, names: &FileNames) -> Result<Arc<Awaited>, AllocError> {
+    fn of(alloc: Global, names: &InputNames) -> Result<Arc<Awaited>, AllocError> {
         let mut copies = Vec::new(alloc);
         let mut reading = Vec::new(alloc);
         copies.push(names.order.clone()?)?;

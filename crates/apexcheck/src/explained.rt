@@ -1,10 +1,9 @@
 // The answer in words, on standard error, after its line. It decides nothing: a failure there, or a lack of memory, ends only the words.
 
 use crate::ending::Ending;
-use crate::explainer::Explainer;
 use crate::sarif::write_log;
-use crate::told::RunFiles;
-use crate::usage::{Asked, FileNames, FilesAsked, UsageFault, tell_usage};
+use crate::usage::{Asked, FilesAsked, UsageFault, tell_usage};
+use answer_words::{Explainer, RunFiles};
 use std::alloc::Global;
 use std::fs::Files;
 use std::io::{Read, Write};
@@ -42,18 +41,21 @@ fn explain_files<'a, R: Files<File = F> + Eprint, F: Read + Write + Drop>(
     let in_colour = explainer.terminal().in_colour;
     tell(rt, explainer.noted(), in_colour);
     let names = &asked.names;
-    if asked.quiet && names.sarif.is_none() {
+    if asked.quiet && asked.sarif.is_none() {
         return;
     }
     let files = RunFiles { rt, alloc, names };
-    let told = files.told_of(ending, explainer);
+    let told = match ending {
+        Ending::Checked { outcome, .. } => files.told_of(outcome, explainer),
+        _ => None,
+    };
     if !asked.quiet {
-        tell(rt, &unknown_keys(alloc, names, explainer), in_colour);
+        tell(rt, &files.unknown_keys(explainer), in_colour);
         if let Some(told) = &told {
             tell(rt, &told.words, in_colour);
         }
     }
-    if let Some(name) = &names.sarif {
+    if let Some(name) = &asked.sarif {
         if let Err(e) = write_log(&files, name, ending, explainer, told.as_ref(), status) {
             let mut words = Words::new(alloc);
             words.say(format_args!("{name}: the log could not be written: {e}"));
@@ -68,14 +70,4 @@ fn tell(rt: &impl Eprint, words: &Words, in_colour: bool) {
         // Standard error only helps a person, so a failure there changes nothing.
         let _ = rt.eprintln(format_args!("apexcheck: {}", words.shown(in_colour)));
     }
-}
-
-// The keys of the configuration that are not known.
-fn unknown_keys(alloc: Global, names: &FileNames, explainer: &Explainer) -> Words {
-    let mut words = Words::new(alloc);
-    if !explainer.unknown_keys().is_empty() {
-        words.say(format_args!("{}: these keys are unknown and ignored:", names.config));
-        words.append(explainer.unknown_keys());
-    }
-    words
 }

@@ -1,24 +1,20 @@
 // The check of files.
 
-ghost use Rattle.std.specs.Prelude.{◌≡◌, ◌≢◌, ◌+◌, IfErr, IfOk, IfSome, is_some, length, take, vec_len};
+ghost use Rattle.std.specs.Prelude.{◌≡◌, ◌≢◌, IfErr, IfOk, is_some, length, vec_len};
 ghost use Rattle.std.specs.IoError.{error_kind};
-ghost use Rattle.apex_types.specs.declared.limits.TheConstants.{LONGEST_CONFIGURATION};
-ghost use Rattle.module_config.specs.Reading.{configuration_of};
-ghost use Rattle.rules_file.specs.Reading.{rules_of};
 ghost use Rattle.apexcheck.specs.Files.{AreOpened, EndsAsAsked, IsOfFiles, ending_of};
 ghost use Rattle.apexcheck.specs.Ruled.{where_asked};
 
 use crate::awaited::{Awaited, Observed, copy_of, end_watch, watch};
 use crate::course::Course;
 use crate::ending::{Ending, out_of_memory, refused_by};
-use crate::explainer::Explainer;
-use crate::ruled::{check_ruled, note_broken, read_rules};
-use crate::usage::{FileNames, FilesAsked};
-use apex_types::limits::LONGEST_CONFIGURATION;
+use crate::ruled::{check_ruled, read_rules};
+use crate::usage::FilesAsked;
+use answer_words::{Explainer, note_broken, open, open_text};
 use csv_rows::{TextSource, Watched};
 use report::{Inputs, Last};
 use std::alloc::{AllocFailed, Global};
-use std::fs::{Files, OpenOptions};
+use std::fs::Files;
 use std::io;
 use std::io::{ErrorKind, Read};
 use std::rt::Clock;
@@ -142,7 +138,7 @@ impl<S: TextSource + Drop + Send + 'static> Opened<S> {
         end_watch(rt, &awaited, watching);
         note_broken(explainer, alloc, &options, &rules, &outcome);
         explainer.note_configuration(&config);
-        if asked.names.sarif.is_some() {
+        if asked.sarif.is_some() {
             explainer.keep_last(&last);
         }
         Ending::Checked {
@@ -200,34 +196,6 @@ fn open_cores<R: Files<File = F>, F: Read + Drop>(
         cores.push(Observed::new(core, copy_of(awaited), index))?;
     }
     Ok(cores)
-}
-
-/// The text in the file of this name, as `read_text` reads it.
-pub fn open_text<R: Files<File = F>, F: Read + Drop>(
-    rt: &R,
-    alloc: Global,
-    name: &str,
-) -> io::Result<Vec<u8>> {
-    read_text(alloc, open(rt, name)?)
-}
-
-/// The file of this name, opened to be read.
-pub fn open<R: Files<File = F>, F: Read + Drop>(rt: &R, name: &str) -> io::Result<F> {
-    OpenOptions::new().read(true).open(rt, name)
-}
-
-// The text that a reader gives, or only its first bytes if it is longer than a configuration or a rules file may be. These bytes configure
-// the same as the whole text, and give the same rules. Of a longer text, one byte above the limit is enough to show that it is longer:
-// `check` and `rules_file::read` refuse it as `TooMany`. Both have the same limit.
-fn read_text<R: Read + Drop>(alloc: Global, reader: R) -> io::Result<Vec<u8>>
-    ensures first { IfOk result (λ read. IfSome (R.remaining reader) (λ text. read.items ≡ take (LONGEST_CONFIGURATION + 1) text)) }
-    ensures configures { IfOk result (λ read. IfSome (R.remaining reader) (λ text. configuration_of read.items ≡ configuration_of text)) }
-    ensures rules { IfOk result (λ read. IfSome (R.remaining reader) (λ text. rules_of read.items ≡ rules_of text)) }
-{
-    let longest = LONGEST_CONFIGURATION as u64;
-    let mut text = Vec::new(alloc);
-    reader.take(longest + 1).read_to_end(&mut text)?;
-    Ok(text)
 }
 
 // Why not all files of a run could be opened.

@@ -23,20 +23,17 @@ mod awaited;
 mod course;
 mod ending;
 mod explained;
-mod explainer;
 mod files;
 mod progress;
 mod ruled;
 mod sarif;
 mod settings;
 mod stored;
-mod terminal;
-mod told;
 mod usage;
 
+use answer_words::{Explainer, Terminal};
 use ending::{Ending, UNWRITTEN, conclude, out_of_memory, refused_words};
 use explained::explain;
-use explainer::Explainer;
 use sink::WriterSink;
 use std::alloc::Global;
 use std::fs::{File, Files};
@@ -46,7 +43,6 @@ use std::process::ExitCode;
 use std::rt::Clock;
 use std::sync::Wait;
 use std::thread::Threads;
-use terminal::Terminal;
 use usage::{Asked, UsageFault};
 
 /// How many bytes of the main thread's stack are touched in one step.

@@ -4,7 +4,6 @@ ghost use Rattle.std.specs.Prelude.{[], ◌≡◌, IfOk, map, option_map};
 ghost use Rattle.rules_file.specs.Reading.{GivesPlaced, said};
 ghost use Rattle.apexcheck.specs.Ruled.{AnswersRuled, HoldInTurn, SayBoth, walk_given};
 
-use crate::explainer::Explainer;
 use csv_rows::TextSource;
 use report::{
     CheckFault, Gate, Inputs, Last, Options, Settings, Verdict, Witness, check_relations,
@@ -80,28 +79,4 @@ fn relations_in(alloc: Global, rules: &[NamedRule]) -> Result<Vec<Relation>, All
         relations.push(rule.relation.clone()?)?;
     }
     Ok(relations)
-}
-
-/// Notes which rule is broken, if one is: a rule of an option by its words, a rule of a file by its name; and the fields of the record's
-/// view that it reads, if memory for that is not refused.
-pub fn note_broken(
-    explainer: &mut Explainer,
-    alloc: Global,
-    options: &[RuleOption],
-    rules: &[NamedRule],
-    outcome: &Result<Verdict, CheckFault>,
-) {
-    let Ok(Verdict::Broken { pos, rule }) = outcome else {
-        return;
-    };
-    let place = pos.number();
-    if let Some(option) = options.get(*rule) {
-        explainer.note_broken(place, *rule, format_args!("{option}"));
-        if let Ok(relation) = option.relation(alloc) {
-            explainer.tell_fields(&relation);
-        }
-    } else if let Some(named) = rules.get(*rule - options.len()) {
-        explainer.note_broken(place, *rule, format_args!("{}", named.name));
-        explainer.tell_fields(&named.relation);
-    }
 }

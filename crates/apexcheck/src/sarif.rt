@@ -1,9 +1,7 @@
 // The outcome as a SARIF log, in the file that `--sarif` names. Like the words on standard error, it decides nothing.
 
 use crate::ending::Ending;
-use crate::explainer::Explainer;
-use crate::told::{RunFiles, Told, name_of_core};
-use crate::usage::FileNames;
+use answer_words::{Explainer, InputNames, RunFiles, Told, name_of_core};
 use apex_types::Cause;
 use placement::InputFault;
 use record_read::Kind;
@@ -209,7 +207,7 @@ fn message_of(
 // Where the result is.
 fn place_of(
     alloc: Global,
-    names: &FileNames,
+    names: &InputNames,
     ending: &Ending,
     explainer: &Explainer,
     told: Option<&Told<'_>>,

@@ -1,6 +1,6 @@
 // The words of the command line.
 
-ghost use Rattle.std.specs.Prelude.{◌≡◌, ◌<◌, ◌≤◌, IfErr, IfOk, IsTrue, None, Ok, Some, codes, false, length, map, option_and_then, option_map, string_bytes, true};
+ghost use Rattle.std.specs.Prelude.{◌≡◌, ◌≢◌, ◌<◌, ◌≤◌, IfErr, IfOk, IsTrue, None, Ok, Some, codes, false, length, map, option_and_then, option_map, string_bytes, true};
 ghost use Rattle.std.specs.Option.{ok_or};
 ghost use Rattle.clap.specs.Takes.{takes};
 ghost use Rattle.clap.specs.Walk.{rows_of};
@@ -12,6 +12,7 @@ ghost use Rattle.apexcheck.specs.Words.{AreNamed, AsksFor, AsksForFiles, asks_ve
 ghost use Rattle.apexcheck.specs.Wrong.{IsWrong, LacksFiles};
 
 use crate::settings::read_settings;
+use answer_words::InputNames;
 use clap::error::ErrorKind;
 use clap::{Arg, ArgAction, ArgMatches, Command};
 use input_explanation::tell_command_line;
@@ -68,7 +69,9 @@ pub enum Asked {
 #[derive(Debug, Drop)]
 pub struct FilesAsked {
     /// The files that hold its texts.
-    pub names: FileNames,
+    pub names: InputNames,
+    /// Where the outcome is written as a SARIF log, if it is.
+    pub sarif: Option<String>,
     /// The rules that are requested by options of their own.
     pub options: RuleOptions,
     /// How the check is carried out.
@@ -77,21 +80,6 @@ pub struct FilesAsked {
     pub last: bool,
     /// Whether standard error should not explain why the answer is not Yes.
     pub quiet: bool,
-}
-
-/// The files of a run, as the command line names them.
-#[derive(Debug, Drop)]
-pub struct FileNames {
-    /// The configuration.
-    pub config: String,
-    /// The rules file, if there is one.
-    pub rules: Option<String>,
-    /// The certificate, which proposes the order.
-    pub order: String,
-    /// The recordings, one for each core, core 0 first.
-    pub cores: Vec<String>,
-    /// Where the outcome is written as a SARIF log, if it is.
-    pub sarif: Option<String>,
 }
 
 /// Why a command line requests nothing that can be done.
@@ -106,7 +94,7 @@ pub enum UsageFault {
 /// Reads the words that were given to the program.
 pub fn from_words(rt: &(impl Env + AllocGlobal), alloc: Global) -> Result<Asked, UsageFault> {
     let words: Vec<String> = match env::args(rt) {
-        Ok(words) => words.collect(alloc)?,
+        Ok(words) => words.collect(alloc).map_err(|_| UsageFault::Memory)?,
         Err(e) if e.kind() == io::ErrorKind::OutOfMemory => return Err(UsageFault::Memory),
         Err(_) => return Err(UsageFault::Usage),
     };
@@ -169,6 +157,7 @@ fn files_asked(alloc: Global, words: &[String]) -> Result<FilesAsked, UsageFault
     let matches = parsed(alloc, words)?;
     Ok(FilesAsked {
         names: file_names(alloc, &matches)?,
+        sarif: sarif_asked(alloc, &matches)?,
         options: rule_options(&matches)?,
         settings: settings_asked(&matches)?,
         last: asks_last(&matches),
@@ -240,7 +229,7 @@ fn text_of<'a>(matches: &ArgMatches<'a>, name: &str) -> Option<&'a [u8]>
 }
 
 // The files that a command line names.
-fn file_names(alloc: Global, matches: &ArgMatches<'_>) -> Result<FileNames, UsageFault>
+fn file_names(alloc: Global, matches: &ArgMatches<'_>) -> Result<InputNames, UsageFault>
     ensures named { IfOk result (AreNamed (found_of matches.now)) }
     ensures refused { IfErr result (λ fault. fault ≡ UsageFault.Usage → LacksFiles (found_of matches.now)) }
 {
@@ -254,7 +243,7 @@ fn file_names(alloc: Global, matches: &ArgMatches<'_>) -> Result<FileNames, Usag
         return Err(UsageFault::Usage);
     };
     let rules = matches.get_str("rules");
-    match owned_names(alloc, config, rules, order, cores, matches.get_str("sarif")) {
+    match owned_names(alloc, config, rules, order, cores) {
         Ok(names) => Ok(names),
         Err(_) => Err(UsageFault::Memory),
     }
@@ -267,21 +256,29 @@ fn owned_names(
     rules: Option<&str>,
     order: &str,
     cores: &[&str],
-    sarif: Option<&str>,
-) -> Result<FileNames, AllocError>
+) -> Result<InputNames, AllocError>
     ensures config { IfOk result (λ names. string_bytes names.config ≡ config.now) }
     ensures rules { IfOk result (λ names. option_map string_bytes names.rules ≡ option_map (λ name. name.now) rules.entry) }
     ensures order { IfOk result (λ names. string_bytes names.order ≡ order.now) }
     ensures cores { IfOk result (λ names. map string_bytes names.cores.items ≡ map (λ name. name.now) cores.now) }
-    ensures sarif { IfOk result (λ names. option_map string_bytes names.sarif ≡ option_map (λ name. name.now) sarif.entry) }
 {
-    Ok(FileNames {
+    Ok(InputNames {
         config: String::from_str(alloc, config)?,
         rules: owned_if_named(alloc, rules)?,
         order: String::from_str(alloc, order)?,
         cores: owned(alloc, cores)?,
-        sarif: owned_if_named(alloc, sarif)?,
     })
+}
+
+// Where the outcome is to be written as a SARIF log, if it is.
+fn sarif_asked(alloc: Global, matches: &ArgMatches<'_>) -> Result<Option<String>, UsageFault>
+    ensures named { IfOk result (λ sarif. option_map string_bytes sarif ≡ first_value (found_of matches.now) (codes "sarif")) }
+    ensures refused { IfErr result (λ fault. fault ≢ UsageFault.Usage) }
+{
+    match owned_if_named(alloc, matches.get_str("sarif")) {
+        Ok(sarif) => Ok(sarif),
+        Err(_) => Err(UsageFault::Memory),
+    }
 }
 
 // An owned name, if a file is named.
@@ -349,10 +346,4 @@ fn flag<'a>(alloc: Global, name: &'static str) -> Arg<'a>
     ensures local { result.global ≡ false }
 {
     Arg::new(alloc, name).long(name).action(ArgAction::SetTrue)
-}
-
-impl From<AllocError> for UsageFault {
-    fn from(_: AllocError) -> UsageFault {
-        UsageFault::Memory
-    }
 }

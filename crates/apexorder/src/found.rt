@@ -35,7 +35,10 @@ fn row_of<R: Files<File = F>, F: Read + Drop>(
         return None;
     }
     match (open(rt, name), open(rt, name)) {
-        (Ok(rows), Ok(lines)) => find_row(alloc, TwoReaders { rows, lines }, number),
+        (Ok(rows), Ok(lines)) => {
+            let readers = TwoReaders { rows, lines };
+            find_row(alloc, readers, number).unwrap_or(None)
+        }
         _ => None,
     }
 }

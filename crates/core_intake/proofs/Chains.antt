@@ -1,16 +1,17 @@
 -- Answers one after another.
-use Rattle.std.proofs.Common.{◌≡◌, ◌+◌, ◌-◌, ◌||◌, Bool, List, [], ◌∷◌, ◌++◌, Option, Some, None, is_some, Result, Ok, Err, IfSome, true, false, true≢false, length, take, refl, sym, ap, inl, inr, ◌∙◌, append_assoc, subst, arith}
+use Rattle.std.proofs.Common.{◌≡◌, ℕ, ◌+◌, ◌-◌, ◌||◌, Bool, List, [], ◌∷◌, ◌++◌, Option, Some, None, is_some, Result, Ok, Err, IfSome, true, false, true≢false, length, take, refl, sym, ap, inl, inr, ◌∙◌, append_assoc, subst, arith}
 use Rattle.std.proofs.Math.Bool.{or_assoc}
 use Rattle.std.proofs.Math.Seq.{take-append_seam}
 use Rattle.std.proofs.lemmas.Grind.{flat_map-append}
 use Rattle.std.proofs.lemmas.List.{append-nil, length-append, map-append}
+use Rattle.apex_types.specs.declared.record.Ordered.{Ordered}
 use Rattle.apex_types.specs.declared.record.Record.{Record}
 use Rattle.csv_rows.specs.Source.{Gives, Source}
 use Rattle.record_read.specs.declared.fault.RowFault.{RowFault}
 use Rattle.record_read.specs.declared.fault.RowFault.TheVariants.{Memory, Read}
 use Rattle.record_read.specs.Row.{Item}
 use Rattle.record_read.specs.Steps.{IsOutside}
-use Rattle.core_intake.specs.Answered.{Answer, AreAnswers, has_ended, is_last}
+use Rattle.core_intake.specs.Answered.{Answer, AreAnswers, PutsIn, ends_after, has_ended, is_last}
 use Rattle.core_intake.specs.declared.batch.Batch.{Batch}
 use Rattle.core_intake.specs.Batches.{GoesOn, IsRead, all_answers, answers_in, answers_of, before, end_of, records_answered}
 
@@ -135,6 +136,16 @@ sends_last can_fail old now new sent after batch leads read is some =
 pub no_end : (end : Option (Result (Unit {0}) RowFault)) → is_some end ≡ false → ◌≡◌ {A = Option (Result (Unit {0}) RowFault)} end None
 no_end None some = refl
 no_end (Some end) some = absurd (true≢false some)
+
+-- the first answer at hand is taken
+pub takes_first : (given hand hand' : List Answer) (answer : Answer) (received : List Answer) → given ++ hand ≡ received → hand ≡ answer ∷ hand' → given ++ answer ∷ hand' ≡ received
+takes_first given hand hand' answer received split is = ap (λ all. given ++ all) (sym is) ∙ split
+
+-- whether an answer that was put into a list was the last, by the result
+pub put_last : (core place : ℕ) (answer : Answer) (old new : List Ordered) (put : Result Bool RowFault) → PutsIn core place answer old put new → ends_after put ≡ is_last answer
+put_last core place (Ok (Some rec)) old new put puts = ap ends_after puts.0
+put_last core place (Ok None) old new put puts = ap ends_after puts.0
+put_last core place (Err fault) old new put puts = ap ends_after puts.0
 
 -- what was given and what is at hand, once an answer was taken
 pub takes_one : (given hand' : List Answer) (answer : Answer) (received : List Answer) → given ++ answer ∷ hand' ≡ received → before hand' received ≡ given ++ answer ∷ []

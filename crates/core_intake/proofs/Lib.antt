@@ -1,2 +1,3 @@
 pub mod Relays
 pub mod Chains
+pub mod Asked

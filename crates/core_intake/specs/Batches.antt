@@ -53,10 +53,10 @@ pub record IsRead (can_fail : Bool) (old : Source Item) (batch : Batch) (new : S
   pub answers : (later : List Answer) → GoesOn can_fail batch.end new.left later → AreAnswers can_fail old.left (answers_in batch ++ later)
   pub going : batch.end ≡ None → new.stopped ≡ false
 
--- an answer was taken from those after the ones given, among what was received and what was at hand
-abbrev pub IsTaken : List Batch → List Answer → Answer → List Batch → List Answer → Type 0
-IsTaken received hand answer received_now hand_now =
-    (given : List Answer) → given ++ hand ≡ all_answers received → given ++ answer ∷ hand_now ≡ all_answers received_now
+-- the answers at hand are what is left of those that were received, as they were before: no answer was given
+abbrev pub AreAtHand : List Batch → List Answer → List Batch → List Answer → Type 0
+AreAtHand received hand received_now hand_now =
+    (given : List Answer) → given ++ hand ≡ all_answers received → given ++ hand_now ≡ all_answers received_now
 
 -- what a pass knows
 abbrev pub log_of : Pass Batch Log → Log

@@ -1,13 +1,14 @@
 // The recordings of all cores.
 
 ghost use Rattle.std.specs.Prelude.{◌≡◌, ◌≤◌, ◌<◌, ◌↔◌, [], All, Err, IfOk, None, Ok, false, true, length, map, option_map, slice_set};
+ghost use Rattle.std.specs.Vec.{vec_len, vec_capacity};
 ghost use Rattle.apex_types.specs.declared.limits.TheConstants.{GREATEST_DEPTH};
 ghost use Rattle.record_read.specs.Row.{records_of};
-ghost use Rattle.core_intake.specs.Answered.{IsHonest, after, has_ended, answered, answered_at};
+ghost use Rattle.core_intake.specs.Answered.{Answer, IsHonest, IsNextAnswerOf, PutsIn, after, has_ended, answered, answered_at};
 
 use crate::fault::IntakeFault;
 use crate::lane::Lane;
-use apex_types::Record;
+use apex_types::{CoreId, Ordered, Place, Record};
 use csv_rows::TextSource;
 use record_read::RowFault;
 use std::alloc::Global;
@@ -82,6 +83,23 @@ impl<R: TextSource> Intake<R> {
         ensures count { length self.new ≡ length self.old }
     {
         self.lanes[core].next(rt)
+    }
+
+    /// The next record of a core, as `next_of` gives it, but at the end of a list, which has room for it: as the record of this core at this
+    /// place. Answers whether there was a record.
+    pub fn next_into<T: Wait>(
+        &mut self,
+        rt: &T,
+        core: CoreId,
+        place: Place,
+        records: &mut Vec<Ordered>,
+    ) -> Result<bool, RowFault>
+        requires core { core < length self.old }
+        requires room { vec_len records.old < vec_capacity records.old }
+        ensures puts { (answer : Answer) × PutsIn core place answer records.old.items result records.new.items × IsNextAnswerOf self.old core answer self.new }
+        ensures count { length self.new ≡ length self.old }
+    {
+        self.lanes[core.number() as usize].next_into(rt, core, place, records)
     }
 
     /// Stops the threads and joins them. A thread ends once its present read returns.

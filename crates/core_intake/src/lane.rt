@@ -1,11 +1,12 @@
 // A recording that a thread of its own reads.
 
-ghost use Rattle.std.specs.Prelude.{◌≡◌, ◌<◌, [], ◌∷◌, ◌++◌, IfOk, List, true, false, option_map, None, Ok};
+ghost use Rattle.std.specs.Prelude.{◌≡◌, ◌≢◌, ◌<◌, [], ◌∷◌, ◌++◌, IfOk, List, true, false, option_map, None, Ok};
+ghost use Rattle.std.specs.Vec.{vec_len, vec_capacity};
 ghost use Rattle.crossbeam_channel.specs.Claims.{view, IsSeatAt};
 ghost use Rattle.crossbeam_channel.specs.Ends.{sends_on, receives_on};
 ghost use Rattle.record_read.specs.Row.{records_of};
-ghost use Rattle.core_intake.specs.Answered.{Answer, answered, after, has_ended, is_last, IsHonest};
-ghost use Rattle.core_intake.specs.Batches.{WasFed, all_answers, IsTaken};
+ghost use Rattle.core_intake.specs.Answered.{Answer, answered, after, has_ended, is_last, IsHonest, IsNextAnswer, PutsIn, ends_after};
+ghost use Rattle.core_intake.specs.Batches.{WasFed, all_answers, AreAtHand};
 ghost use Rattle.core_intake.specs.Relay.{log};
 
 use crate::batch::Batch;
@@ -14,7 +15,7 @@ use crate::feed::{Fed, FedBy, feed};
 use crate::hand::Hand;
 use crate::room::{Used, give_back};
 use crate::rule::{Receiver, Receives, Roles, Side, Total};
-use apex_types::Record;
+use apex_types::{CoreId, Ordered, Place, Record};
 use csv_rows::TextSource;
 use record_read::RowFault;
 use std::alloc::{AllocError, Global};
@@ -113,15 +114,47 @@ impl<R: TextSource> Lane<R> {
         if self.ended {
             return Ok(None);
         }
-        let answer = take_answer(
+        receive(
             rt,
             &self.receiver,
             &mut self.side,
             &mut self.hand,
             &self.used,
         );
+        let Some(answer) = self.hand.next() else {
+            unreachable!()
+        };
         self.ended = ends(&answer);
         answer
+    }
+
+    /// The next answer, as `next` gives it, but a record goes to the end of a list, which has room for it: as the record of this core at this
+    /// place. Whether there was a record is the result.
+    pub fn next_into<T: Wait>(
+        &mut self,
+        rt: &T,
+        core: CoreId,
+        place: Place,
+        records: &mut Vec<Ordered>,
+    ) -> Result<bool, RowFault>
+        requires room { vec_len records.old < vec_capacity records.old }
+        ensures { (answer : Answer) × PutsIn core place answer records.old.items result records.new.items × IsNextAnswer self.old answer self.new }
+    {
+        if self.ended {
+            return Ok(false);
+        }
+        receive(
+            rt,
+            &self.receiver,
+            &mut self.side,
+            &mut self.hand,
+            &self.used,
+        );
+        let Some(put) = self.hand.next_into(core, place, records) else {
+            unreachable!()
+        };
+        self.ended = ends_with(&put);
+        put
     }
 
     /// Stops the thread and joins it.
@@ -156,23 +189,25 @@ fn ends(answer: &Result<Option<Record>, RowFault>) -> bool
     !matches!(answer, Ok(Some(_)))
 }
 
-// The next answer: of the batch at hand, or else of the next batch; then the room of the last one goes back.
-fn take_answer<T: Wait>(
-    rt: &T,
-    receiver: &Receiver,
-    side: &mut Side,
-    hand: &mut Hand,
-    used: &Used,
-) -> Result<Option<Record>, RowFault>
+// The same of an answer that was put into a list, by the result.
+fn ends_with(put: &Result<bool, RowFault>) -> bool
+    ensures { result ≡ ends_after put.now }
+{
+    !matches!(put, Ok(true))
+}
+
+// Receives batches until an answer is at hand. The room of each one that has no answer left goes back.
+fn receive<T: Wait>(rt: &T, receiver: &Receiver, side: &mut Side, hand: &mut Hand, used: &Used)
     requires seat { IsSeatAt (receives_on receiver.now) side.old }
     requires receives { (view side.old).receives ≡ true }
     ensures seat { IsSeatAt (receives_on receiver.now) side.new }
     ensures log { view side.new ≡ log (view side.old).sends (view side.old).receives (view side.old).sent (view side.new).received }
-    ensures taken { IsTaken (view side.old).received hand.old result (view side.new).received hand.new }
+    ensures kept { AreAtHand (view side.old).received hand.old (view side.new).received hand.new }
+    ensures some { hand.new ≢ [] }
 {
     for _ in rt.forever() {
-        if let Some(answer) = hand.next() {
-            return answer;
+        if hand.has_next() {
+            return;
         }
         let last = mem::replace(hand, Hand::of(take_batch(rt, receiver, side)));
         give_back(rt, used, last.into_room());

@@ -3,23 +3,8 @@ use Rattle.std.proofs.Common.{◌≡◌, ◌<◌, ◌≤◌, ◌+◌, ◌-◌, �
 use Rattle.std.specs.Prelude.{if◌then◌else◌, ◌==◌, slice_range}
 use Rattle.std.proofs.lemmas.List.{drop_more, drop_all, get_or-drop, length-drop, take_more}
 use Rattle.csv.specs.Records.{field_at}
-use Rattle.csv_rows.specs.Line.{split, split_after}
-use Rattle.csv_rows.specs.Pieces.{AreEnds, pieces_from, start_at}
-
--- where the field after these ends begins
-abbrev pub next_start : ℕ → List ℕ → ℕ
-next_start start [] = start
-next_start start (end ∷ ends) = next_start (end + 1) ends
-
--- the fields that have ended so far, and the one at hand with the rest of the line, are those of the line
-abbrev pub CutSoFar : List ℕ → List ℕ → ℕ → Type 0
-CutSoFar line ends place = split line ≡ pieces_from 0 ends line ++ split_after (slice_range line (next_start 0 ends) place) (drop place line)
-
--- the line is cut up to a place
-pub record IsCut (line ends : List ℕ) (place : ℕ) : Type 0 where
-  pub are : AreEnds 0 ends (length line)
-  pub begun : next_start 0 ends ≤ place
-  pub so_far : CutSoFar line ends place
+use Rattle.csv_rows.specs.Line.{IsPlain, split, split_after}
+use Rattle.csv_rows.specs.Pieces.{AreEnds, CutSoFar, IsCut, IsSeen, StopsAt, next_start, pieces_from, start_at}
 
 -- one more field ends
 pub pieces_more : (start : ℕ) (ends : List ℕ) (end : ℕ) (line : List ℕ)

@@ -1,6 +1,6 @@
 -- What the front of a text is.
-use Rattle.std.specs.Prelude.{◌≡◌, ◌⊎◌, ◌<◌, ◌≤◌, ℕ, List, ◌∷◌, All, drop, length, slice_index, take}
-use Rattle.csv_rows.specs.Line.{IsPlain}
+use Rattle.std.specs.Prelude.{◌≡◌, ◌⊎◌, ◌<◌, ◌≤◌, ⊤, ℕ, List, ◌∷◌, All, drop, length, slice_index, take}
+use Rattle.csv_rows.specs.Line.{IsPlain, split}
 use Rattle.csv_rows.specs.declared.front.Front.{Front}
 use Rattle.csv_rows.specs.declared.front.Front.TheVariants as front
 
@@ -22,6 +22,13 @@ HasSpecial text = (place : ℕ) × (place < length text) × ¬ IsPlain (slice_in
 -- enough of a text is known to see whether it begins with a byte order mark
 abbrev pub IsSettled : List ℕ → Type 0
 IsSettled text = HasSpecial text ⊎ (3 ≤ length text)
+
+-- the fields of a plain line at the front of a text, or of the whole text if it is plain
+abbrev pub HasFields : List ℕ → Front → List (List ℕ) → Type 0
+HasFields text (front.Line line) fields = fields ≡ split (take line.length text)
+HasFields text front.Open fields = fields ≡ split text
+HasFields text front.Return fields = ⊤
+HasFields text front.Other fields = ⊤
 
 -- what the front of a text is, if only this text is known
 abbrev pub IsFront : List ℕ → Front → Type 0

@@ -1,12 +1,13 @@
 // A text some bytes of which are read ahead, and the plain lines at its front.
 
-ghost use Rattle.std.specs.Prelude.{◌≡◌, ◌<◌, ◌≤◌, IfOk, OnOk, false, true, drop, length};
+ghost use Rattle.std.specs.Prelude.{◌≡◌, ◌<◌, ◌≤◌, IfOk, OnOk, false, true, drop, length, take};
 ghost use Rattle.std.specs.Io.KnownBytes.{IsAtEnd, Keeps};
-ghost use Rattle.csv_rows.specs.Front.{IsLine};
+ghost use Rattle.csv_rows.specs.Front.{HasFields, IsLine};
+ghost use Rattle.csv_rows.specs.Line.{split};
 ghost use Rattle.csv_rows.specs.Text.{IsFrontOf, ReportsFailure, TakesLine, mark_length as mark_length_of, rows_left, text_of, unread_of};
 
 use crate::fields::RowFields;
-use crate::front::{Front, Line, front_of};
+use crate::front::{Front, Line};
 use crate::stream::StreamFault;
 use crate::text_source::TextSource;
 
@@ -87,16 +88,19 @@ impl<R: TextSource> Ahead<R> {
         }
     }
 
-    // What the front of the text is. The text is read on as far as this needs.
+    // What the front of the text is, with its fields if it is a plain line. The text is read on as far as this needs.
     #[tactic(auto, using(crate::proofs::Bytes::keeps_same, crate::proofs::Bytes::keeps_through))]
-    fn front(&mut self) -> Result<Front, StreamFault>
+    fn front(&mut self, fields: &mut RowFields) -> Result<Front, StreamFault>
         ensures keeps { OnOk result (Keeps (unread_of R.remaining self.old) (unread_of R.remaining self.new)) }
         ensures front { IfOk result (λ front. IsFrontOf R.remaining self.new front) }
+        ensures fields { IfOk result (λ front. HasFields (drop self.new.at self.new.bytes.items) front fields.new) }
         ensures begun { self.new.is_begun ≡ self.old.is_begun }
         ensures reports { ReportsFailure (R.failed self.old.source) (R.failed self.new.source) result }
     {
         for _ in 0..u64::MAX {
-            let front = front_of(self.unread());
+            let Ok(front) = fields.take_front(self.unread()) else {
+                return Err(StreamFault::Memory);
+            };
             if let Front::Line(_) | Front::Other = front {
                 return Ok(front);
             }
@@ -116,13 +120,13 @@ impl<R: TextSource> Ahead<R> {
         ensures begun { OnOk result (self.new.is_begun ≡ true) }
         ensures reports { ReportsFailure (R.failed self.old.source) (R.failed self.new.source) result }
     {
-        self.begin()?;
+        self.begin(fields)?;
         self.take_next(fields)
     }
 
     // Takes a byte order mark off the front of a text that has not been begun.
     #[tactic(auto, using(crate::proofs::Texts::strip_stays))]
-    fn begin(&mut self) -> Result<(), StreamFault>
+    fn begin(&mut self, fields: &mut RowFields) -> Result<(), StreamFault>
         ensures keeps { OnOk result (Keeps (text_of R.remaining self.old) (unread_of R.remaining self.new)) }
         ensures begun { OnOk result (self.new.is_begun ≡ true) }
         ensures reports { ReportsFailure (R.failed self.old.source) (R.failed self.new.source) result }
@@ -130,7 +134,7 @@ impl<R: TextSource> Ahead<R> {
         if self.is_begun {
             return Ok(());
         }
-        self.front()?;
+        self.front(fields)?;
         self.at += mark_length(self.unread());
         self.is_begun = true;
         Ok(())
@@ -144,55 +148,48 @@ impl<R: TextSource> Ahead<R> {
         ensures reports { ReportsFailure (R.failed self.old.source) (R.failed self.new.source) result }
     {
         for _ in 0..u64::MAX {
-            match self.front()? {
+            match self.front(fields)? {
                 Front::Line(line) => {
                     if line.length > 0 {
-                        return self.take_first(line, fields);
+                        return Ok(self.take_first(line, fields));
                     }
                     self.at += line.taken;
                 }
-                Front::Open => return self.take_last(fields),
+                Front::Open => return Ok(self.take_last(fields)),
                 Front::Return | Front::Other => return Ok(Taken::Other),
             }
         }
         Err(StreamFault::Memory)
     }
 
-    // Takes the plain line at the front of the text.
+    // Takes the plain line at the front of the text, whose fields these are.
     #[tactic(auto, using(crate::proofs::Texts::line_takes))]
-    fn take_first(&mut self, line: Line, fields: &mut RowFields) -> Result<Taken, StreamFault>
+    fn take_first(&mut self, line: Line, fields: &RowFields) -> Taken
         requires line { IsLine (drop self.old.at self.old.bytes.items) line.length line.taken }
         requires filled { 0 < line.length }
-        ensures takes { IfOk result (λ taken. TakesLine (rows_left (unread_of R.remaining self.old)) taken fields.new (rows_left (unread_of R.remaining self.new))) }
+        requires fields { fields.now ≡ split (take line.length (drop self.old.at self.old.bytes.items)) }
+        ensures takes { TakesLine (rows_left (unread_of R.remaining self.old)) result fields.now (rows_left (unread_of R.remaining self.new)) }
         ensures begun { self.new.is_begun ≡ self.old.is_begun }
-        ensures reports { ReportsFailure (R.failed self.old.source) (R.failed self.new.source) result }
+        ensures source { self.new.source ≡ self.old.source }
     {
-        let made = fields.take_line(&self.unread()[..line.length]);
         self.at += line.taken;
-        match made {
-            Ok(()) => Ok(Taken::Row),
-            Err(_) => Err(StreamFault::Memory),
-        }
+        Taken::Row
     }
 
-    // Takes the last line, which has no end and may be empty.
+    // Takes the last line, which has no end and may be empty. These are its fields.
     #[tactic(auto, using(crate::proofs::Texts::last_takes, crate::proofs::Texts::none_takes))]
-    fn take_last(&mut self, fields: &mut RowFields) -> Result<Taken, StreamFault>
-        requires { IsFrontOf R.remaining self.old Front.Open }
-        ensures takes { IfOk result (λ taken. TakesLine (rows_left (unread_of R.remaining self.old)) taken fields.new (rows_left (unread_of R.remaining self.new))) }
+    fn take_last(&mut self, fields: &RowFields) -> Taken
+        requires last { IsFrontOf R.remaining self.old Front.Open }
+        requires fields { fields.now ≡ split (drop self.old.at self.old.bytes.items) }
+        ensures takes { TakesLine (rows_left (unread_of R.remaining self.old)) result fields.now (rows_left (unread_of R.remaining self.new)) }
         ensures begun { self.new.is_begun ≡ self.old.is_begun }
-        ensures reports { ReportsFailure (R.failed self.old.source) (R.failed self.new.source) result }
+        ensures source { self.new.source ≡ self.old.source }
     {
-        let line = self.unread();
-        if line.is_empty() {
-            return Ok(Taken::End);
+        if self.unread().is_empty() {
+            return Taken::End;
         }
-        let made = fields.take_line(line);
         self.at = self.bytes.len();
-        match made {
-            Ok(()) => Ok(Taken::Row),
-            Err(_) => Err(StreamFault::Memory),
-        }
+        Taken::Row
     }
 }
 

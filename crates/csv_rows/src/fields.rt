@@ -1,10 +1,12 @@
 // The fields of a row.
 
-ghost use Rattle.std.specs.Prelude.{◌≡◌, ◌<◌, [], OnOk, length, option_map};
+ghost use Rattle.std.specs.Prelude.{◌≡◌, ◌<◌, [], IfOk, OnOk, length, option_map};
 ghost use Rattle.csv.specs.Records.{field_at};
-ghost use Rattle.csv_rows.specs.Line.{split};
+ghost use Rattle.csv_rows.specs.Front.{HasFields, IsFront};
 ghost use Rattle.csv_rows.specs.Pieces.{AreEnds, pieces_from, start_at};
 
+use crate::cut::cut_front;
+use crate::front::{Front, front_at};
 use csv::ByteRecord;
 use std::alloc::{AllocError, Global};
 use std::marker::Model;
@@ -73,17 +75,35 @@ impl RowFields {
         Some(&line[start..self.ends[place]])
     }
 
-    // Takes the fields of a plain line.
+    // Looks at the front of a text. If that is a plain line, or plain up to the end of the text, its fields are taken.
     #[tactic(auto, unfolding(crate::specs::Pieces::AreEnds))]
-    pub(crate) fn take_line(&mut self, line: &[u8]) -> Result<(), AllocError>
-        ensures { OnOk result (self.new ≡ split line.now) }
+    pub(crate) fn take_front(&mut self, text: &[u8]) -> Result<Front, AllocError>
+        ensures front { IfOk result (λ front. IsFront text.now front) }
+        ensures fields { IfOk result (λ front. HasFields text.now front self.new) }
     {
         self.is_other = false;
         self.ends.clear();
         self.line.clear();
-        self.line.extend_from_slice(line)?;
-        cut_at_commas(line, &mut self.ends)
+        match take_plain(text, &mut self.line, &mut self.ends) {
+            Ok(front) => Ok(front),
+            Err(_) => {
+                self.ends.clear();
+                Err(AllocError)
+            }
+        }
     }
+}
+
+// Takes the plain front of a text and the places where its fields end.
+fn take_plain(text: &[u8], line: &mut Vec<u8>, ends: &mut Vec<usize>) -> Result<Front, AllocError>
+    requires empty { (line.old.items ≡ []) × (ends.old.items ≡ []) }
+    ensures front { IfOk result (λ front. IsFront text.now front) }
+    ensures fields { IfOk result (λ front. HasFields text.now front (pieces_from 0 ends.new.items line.new.items)) }
+    ensures ends { OnOk result (AreEnds 0 ends.new.items (length line.new.items)) }
+{
+    let stop = cut_front(text, ends)?;
+    line.extend_from_slice(&text[..stop])?;
+    Ok(front_at(text, stop))
 }
 
 // Where the field at this place begins: one byte after the end of the field before it.
@@ -93,20 +113,4 @@ fn start_of(line: &[u8], ends: &Vec<usize>, place: usize) -> usize
     ensures { result ≡ start_at 0 ends.now.items place }
 {
     if place == 0 { 0 } else { ends[place - 1] + 1 }
-}
-
-// Where each field of a plain line ends.
-#[tactic(auto, using(crate::proofs::Pieces::ends_more, crate::proofs::Pieces::cut_end), unfolding(crate::specs::Pieces::AreEnds))]
-fn cut_at_commas(line: &[u8], ends: &mut Vec<usize>) -> Result<(), AllocError>
-    requires { ends.old.items ≡ [] }
-    ensures ends { AreEnds 0 ends.new.items (length line.now) }
-    ensures fields { OnOk result (pieces_from 0 ends.new.items line.now ≡ split line.now) }
-{
-    for place in 0..line.len() {
-        if line[place] == b',' {
-            ends.push(place)?;
-        }
-    }
-    ends.push(line.len())?;
-    Ok(())
 }

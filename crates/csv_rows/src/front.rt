@@ -1,8 +1,9 @@
 // What the front of a text is: a plain line, which has no quote and no carriage return, or something that is left to `csv`.
 
-ghost use Rattle.csv_rows.specs.Front.{IsFront};
-
-use memchr::memchr3;
+ghost use Rattle.std.specs.Prelude.{take};
+ghost use Rattle.csv_rows.specs.Front.{HasFields, IsFront};
+ghost use Rattle.csv_rows.specs.Line.{split};
+ghost use Rattle.csv_rows.specs.Pieces.{StopsAt};
 
 /// A plain line that ends: how many bytes it has, and how many it takes including its end.
 #[derive(Clone, Copy)]
@@ -24,21 +25,21 @@ pub enum Front {
     Other,
 }
 
-/// What the front of a text is.
-pub fn front_of(text: &[u8]) -> Front
-    ensures { IsFront text.now result }
+/// What the front of a text is, which is plain up to this place.
+pub fn front_at(text: &[u8], stop: usize) -> Front
+    requires { StopsAt text.now stop }
+    ensures front { IsFront text.now result }
+    ensures fields { HasFields text.now result (split (take stop text.now)) }
 {
-    let Some(length) = memchr3(b'"', b'\r', b'\n', text) else {
-        return Front::Open;
-    };
-    match &text[length..] {
+    match &text[stop..] {
+        [] => Front::Open,
         [b'\n', ..] => Front::Line(Line {
-            length,
-            taken: length + 1,
+            length: stop,
+            taken: stop + 1,
         }),
         [b'\r', b'\n', ..] => Front::Line(Line {
-            length,
-            taken: length + 2,
+            length: stop,
+            taken: stop + 2,
         }),
         [b'\r'] => Front::Return,
         _ => Front::Other,

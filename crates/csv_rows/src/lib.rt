@@ -6,14 +6,16 @@
 //! A plain line, which has no quote and no carriage return, is split at its commas here. The first other line and everything after it are
 //! left to `csv`.
 //!
-//! The carriage return that ends a line does not count. `Ahead`, `front_of` and `RowFields` split a plain line, and `Text` leaves the rest
-//! to `csv`. That the split of a plain line is what `csv` reads of it is proved over the definition of `csv` itself (`proofs/Plain.antt`).
-//! The law of a stream of rows is proved here once, for recordings and certificates.
+//! The carriage return that ends a line does not count. `Ahead`, `cut_front` and `RowFields` split a plain line, whose end and whose commas
+//! are found in one pass over its bytes, and `Text` leaves the rest to `csv`. That the split of a plain line is what `csv` reads of it is
+//! proved over the definition of `csv` itself (`proofs/Plain.antt`). The law of a stream of rows is proved here once, for recordings and
+//! certificates.
 //!
 //! `CsvRows::place` counts the bytes that the rows so far have taken. No clause speaks of it, because none of `csv` does.
 #![tactic(auto)]
 
 mod ahead;
+mod cut;
 mod decimal;
 mod fields;
 mod front;

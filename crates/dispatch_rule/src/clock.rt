@@ -21,6 +21,10 @@ const COLD: CoreState = CoreState {
     occupant: None,
 };
 
+/// The guess of a core's window is renewed at each tick whose time is a multiple of this number. Between two of them few windows begin, and
+/// a guess that is one too small spares the search as well.
+const RENEWAL: u64 = 4;
+
 /// A tick that would take its core further ahead of another than the skew allows.
 #[derive(Clone, Copy, Debug, PartialEq, Eq, Error)]
 #[error("the core would run ahead of another by more than the skew")]
@@ -30,7 +34,7 @@ pub struct Skew;
 #[derive(Debug, Drop)]
 pub struct Clock {
     cores: [CoreState; MOST_CORES],
-    // For each core, a guess of how many windows have begun, renewed at each tick. With it, the core's window is found without a search.
+    // For each core, a guess of how many windows have begun, renewed every few ticks. With it, the core's window is found without a search.
     begun: [usize; MOST_CORES],
     count: usize,
     skew: u64,
@@ -137,7 +141,7 @@ impl Clock {
             time,
             occupant: state.occupant,
         };
-        self.begun[index] = config.windows_begun(self.begun[index], core, time);
+        self.begun[index] = renewed(config, self.begun[index], core, time);
     }
 
     /// Gives a core to a process, or leaves it idle.
@@ -158,6 +162,15 @@ impl Clock {
         ensures { result.now ≡ self.now.cores }
     {
         &self.cores[..self.count]
+    }
+}
+
+// The guess of a core's window once the core has reached this time: renewed now and then, and as it was otherwise.
+fn renewed(config: &Config, guess: usize, core: CoreId, time: u64) -> usize {
+    if time % RENEWAL == 0 {
+        config.windows_begun(guess, core, time)
+    } else {
+        guess
     }
 }
 

@@ -5,8 +5,8 @@
 //! before, and only in its own windows. Callers that need only times keep `Times`. Nothing here takes memory.
 //!
 //! The crate has the times, the occupants and the skew of the cores, and the times alone, for channels. It finds the window that a core is
-//! in from a guess, which the core's tick renews. It gives the choice of a core at its present time, and says whether the occupant is that
-//! choice.
+//! in from a guess, which every fourth tick of the core renews. It gives the choice of a core at its present time, and says whether the
+//! occupant is that choice.
 #![tactic(auto)]
 
 mod clock;

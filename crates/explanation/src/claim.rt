@@ -27,7 +27,7 @@ pub fn tell_refused_outcome(words: &mut Words, refusal: &Refusal<'_>, conditions
         }
         ClaimField::Values => words.say(" and gives no value"),
         ClaimField::Message => words.say(" and gives no message"),
-        ClaimField::Woken => words.say(" and ends no wait"),
+        ClaimField::Woken => words.say(" and wakes no process"),
     }
     tell_conditions(words, refusal.config, call, conditions);
     words.next_line();

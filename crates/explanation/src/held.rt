@@ -155,6 +155,7 @@ fn tell_waiters(words: &mut Words, set: &WaitSet, what: &str) {
     });
     // Without memory for a copy, only their number is shown.
     let Ok(mut left) = set.clone() else {
+        words.note_lack_of_memory();
         return;
     };
     for index in 0..MOST_WAITERS {

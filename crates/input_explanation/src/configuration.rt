@@ -38,7 +38,9 @@ fn tell_text(words: &mut Words, alloc: Global, fault: ConfigFault, text: &[u8]) 
     let keys = match toml::table_from_slice(alloc, text) {
         Ok(keys) => keys,
         Err(why) => {
-            if fault == ConfigFault::NotToml {
+            if why.is_memory() {
+                words.note_lack_of_memory();
+            } else if fault == ConfigFault::NotToml {
                 words.next_line();
                 words.say(why);
             }
@@ -49,6 +51,9 @@ fn tell_text(words: &mut Words, alloc: Global, fault: ConfigFault, text: &[u8]) 
         return;
     };
     if explained.refusal.fault != fault {
+        if explained.refusal.fault.is_memory() {
+            words.note_lack_of_memory();
+        }
         return;
     }
     if let Some(place) = explained.refusal.place {

@@ -1,12 +1,12 @@
 // Rows of a text, read again by the reader of rows, and the lines on which they begin.
 
-ghost use Rattle.std.specs.Prelude.{◌≡◌, false, IsSome};
+ghost use Rattle.std.specs.Prelude.{◌≡◌, false, IfOk, IsSome};
 
 use crate::lines::Lines;
 use apex_types::Format;
-use csv_rows::{CsvRows, RowFields, TextSource, Watched};
+use csv_rows::{CsvRows, RowFields, StreamFault, TextSource, Watched};
 use record_read::format_by;
-use std::alloc::Global;
+use std::alloc::{AllocError, Global};
 use std::io::Read;
 use std::mem;
 
@@ -35,8 +35,8 @@ pub fn find_row<R: Read + Drop>(
     alloc: Global,
     readers: TwoReaders<R>,
     wanted: u64,
-) -> Option<FoundRow> {
-    find_rows(alloc, readers, &[wanted]).pop()
+) -> Result<Option<FoundRow>, AllocError> {
+    Ok(find_rows(alloc, readers, &[wanted])?.pop())
 }
 
 /// The rows of a text with these numbers, which rise: those that are found among the first 512 MiB, up to the first that is not.
@@ -44,7 +44,7 @@ pub fn find_rows<R: Read + Drop>(
     alloc: Global,
     readers: TwoReaders<R>,
     wanted: &[u64],
-) -> Vec<FoundRow> {
+) -> Result<Vec<FoundRow>, AllocError> {
     let mut found = Vec::new(alloc);
     let mut rows = CsvRows::new(alloc, Watched::new(readers.rows.take(MOST_BYTES)));
     let mut lines = Lines::new(readers.lines);
@@ -52,10 +52,10 @@ pub fn find_rows<R: Read + Drop>(
     let mut known = None;
     'rows: for number in 0..u64::MAX {
         let Some(next) = wanted.get(found.len()) else {
-            return found;
+            return Ok(found);
         };
-        let Some(line) = read_row(&mut rows, &mut lines, &mut fields) else {
-            return found;
+        let Some(line) = read_row(&mut rows, &mut lines, &mut fields)? else {
+            return Ok(found);
         };
         let format = format_by(known, &fields);
         known = Some(format);
@@ -65,12 +65,10 @@ pub fn find_rows<R: Read + Drop>(
                 fields: mem::replace(&mut fields, RowFields::new(alloc)),
                 format,
             };
-            if found.push(row).is_err() {
-                return found;
-            }
+            found.push(row)?;
         }
     }
-    found
+    Ok(found)
 }
 
 /// Finds the lines, counted from 1, on which the rows from this number on begin, as many as there is room for. A row that is not among the
@@ -85,7 +83,7 @@ pub fn find_lines<R: Read + Drop>(
     let mut lines = Lines::new(readers.lines);
     let mut fields = RowFields::new(alloc);
     'rows: for number in 0..u64::MAX {
-        let Some(line) = read_row(&mut rows, &mut lines, &mut fields) else {
+        let Ok(Some(line)) = read_row(&mut rows, &mut lines, &mut fields) else {
             return;
         };
         if number >= first {
@@ -102,13 +100,14 @@ fn read_row<S: TextSource, R: Read>(
     rows: &mut CsvRows<S>,
     lines: &mut Lines<R>,
     fields: &mut RowFields,
-) -> Option<u64>
+) -> Result<Option<u64>, AllocError>
     requires going { rows.old.stopped ≡ false }
-    ensures going { IsSome result → rows.new.stopped ≡ false }
+    ensures going { IfOk result (λ line. IsSome line → rows.new.stopped ≡ false) }
 {
     let end = rows.place();
     match rows.read(fields) {
-        Ok(true) => Some(lines.first_filled(end)),
-        _ => None,
+        Ok(true) => Ok(Some(lines.first_filled(end))),
+        Ok(false) | Err(StreamFault::Read) => Ok(None),
+        Err(StreamFault::Memory) => Err(AllocError),
     }
 }

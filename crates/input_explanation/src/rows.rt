@@ -25,6 +25,7 @@ pub fn tell_row_fault(words: &mut Words, alloc: Global, fault: RowFault, row: Op
     match read_record_explained(alloc, row.format, row.number, row.fields) {
         // A row that has changed in the meantime may have another fault.
         Err(misread) if misread.fault == fault => tell_misread(words, misread, row),
+        Err(misread) if misread.fault == RowFault::Memory => words.note_lack_of_memory(),
         _ => {}
     }
     words.next_line();

@@ -56,8 +56,14 @@ const END: [ConfigKey; 2] = [ConfigKey::Partition, ConfigKey::Port];
 
 /// Lists each unknown key of this configuration, with its table. Adds nothing if every key is known, or if the text is not TOML.
 pub fn tell_unknown_keys(words: &mut Words, alloc: Global, text: &[u8]) {
-    let Ok(keys) = toml::table_from_slice(alloc, text) else {
-        return;
+    let keys = match toml::table_from_slice(alloc, text) {
+        Ok(keys) => keys,
+        Err(why) => {
+            if why.is_memory() {
+                words.note_lack_of_memory();
+            }
+            return;
+        }
     };
     tell_unknown(words, &keys, "", None, &MODULE);
     tell_items(words, &keys, "partition", &PARTITION);

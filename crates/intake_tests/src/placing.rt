@@ -39,23 +39,36 @@ fn is_placed(ordered: &Ordered, place: u64, core: u8, seq: u32) -> bool {
 }
 
 // Whether the next record is the one of this core and this number, at this place.
-fn has_next<T: Wait>(rt: &T, placer: &mut Texts, place: u64, core: u8, seq: u32) -> bool
+fn has_next<T: Wait>(
+    rt: &T,
+    alloc: Global,
+    placer: &mut Texts,
+    place: u64,
+    core: u8,
+    seq: u32,
+) -> bool
     requires { placer.old.ended ≡ false }
     ensures { IsTrue result → placer.new.ended ≡ false }
 {
-    match placer.next(rt) {
-        Ok(Some(ordered)) => is_placed(&ordered, place, core, seq),
+    let Ok(mut records) = Vec::with_capacity(alloc, 1) else {
+        return false;
+    };
+    match placer.next_into(rt, &mut records) {
+        Ok(true) => is_placed(&records[0], place, core, seq),
         _ => false,
     }
 }
 
 #[test]
 fn records_come_one_by_one(rt: HostRuntime) -> Result<(), Fail> {
-    let mut placer = placer_of(rt, rt.alloc())?;
-    assert!(rt; has_next(&rt, &mut placer, 0, 1, 0));
-    assert!(rt; has_next(&rt, &mut placer, 1, 0, 0));
-    assert!(rt; has_next(&rt, &mut placer, 2, 0, 1));
-    assert!(rt; matches!(placer.next(&rt), Ok(None)));
+    let alloc = rt.alloc();
+    let mut records = Vec::with_capacity(alloc, 1)?;
+    let mut placer = placer_of(rt, alloc)?;
+    assert!(rt; has_next(&rt, alloc, &mut placer, 0, 1, 0));
+    assert!(rt; has_next(&rt, alloc, &mut placer, 1, 0, 0));
+    assert!(rt; has_next(&rt, alloc, &mut placer, 2, 0, 1));
+    assert!(rt; matches!(placer.next_into(&rt, &mut records), Ok(false)));
+    assert!(rt; records.is_empty());
     placer.close(&rt);
     Ok(())
 }

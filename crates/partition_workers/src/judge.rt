@@ -11,7 +11,7 @@ use crate::fault::RoundFault;
 use crate::workers::{Gate, run_round};
 use apex_types::Ordered;
 use module_config::Config;
-use piece_check::{Piece, Touched};
+use piece_check::{Piece, Touched, Windows};
 use std::alloc::Global;
 use std::marker::Model;
 use std::mem;
@@ -27,6 +27,7 @@ pub struct Judge {
     count: u64,
     pieces: Vec<Piece>,
     touched: Touched,
+    windows: Windows,
     breach: Option<Breach>,
 }
 
@@ -56,6 +57,7 @@ impl Judge {
             count: 0,
             pieces,
             touched,
+            windows: Windows::new(alloc),
             breach: None,
         })
     }
@@ -110,10 +112,13 @@ impl Judge {
         if workers == 0 {
             return Err(RoundFault::NoWorkers);
         }
-        if self.touched.sort_out(config, records).is_err() {
+        if self.touched.sort_out(config, records).is_err()
+            || self.windows.look_up(config, records).is_err()
+        {
             return Err(RoundFault::Memory);
         }
-        let lent = Lent::new(config, self.count, records, &self.touched);
+        let windows = self.windows.as_slice();
+        let lent = Lent::with_windows(config, self.count, records, &self.touched, windows);
         let pieces = mem::replace(&mut self.pieces, Vec::new(self.alloc));
         let Ok(judged) = run_round(rt, self.alloc, &lent, rules, pieces, workers, gate) else {
             return Err(RoundFault::Memory);

@@ -10,9 +10,9 @@
 //!
 //! Not promised: that every thread makes progress.
 //!
-//! `Judge` holds all pieces and the index of the round. It sorts a round out by piece, lets the workers judge the pieces (`run_round`),
-//! gathers their results (`gather_round`), and goes on with the pieces as they were left. `breach` gives the first view of the last round
-//! that breaks a rule.
+//! `Judge` holds all pieces, the index of the round and the windows of its records. It sorts a round out by piece, looks up the window of
+//! each record's core once for all pieces, lets the workers judge the pieces (`run_round`), gathers their results (`gather_round`), and
+//! goes on with the pieces as they were left. `breach` gives the first view of the last round that breaks a rule.
 //!
 //! A worker claims a piece at the board, lets it go over the records and tests its views outside the lock, and posts its result, until no
 //! piece is left. The board keeps the history of claims and posts and a place for each piece. Whenever its lock is free, a place is filled

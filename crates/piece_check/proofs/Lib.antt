@@ -10,3 +10,5 @@ pub mod Slots
 pub mod Through
 pub mod Viewing
 pub mod Shown
+pub mod Quiet
+pub mod Found

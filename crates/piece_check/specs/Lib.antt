@@ -6,3 +6,5 @@ pub mod Judged
 pub mod Touching
 pub mod Seen
 pub mod Evidence
+pub mod Quiet
+pub mod Found

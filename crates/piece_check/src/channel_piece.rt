@@ -1,6 +1,6 @@
 // The piece of a channel: what goes through it, and which processes wait at its ends.
 
-ghost use Rattle.std.specs.Prelude.{◌≡◌, ◌<◌, ◌≢◌, ℕ, IfErr, IfOk, OnErr, OnOk, Some, length, true};
+ghost use Rattle.std.specs.Prelude.{◌≡◌, ◌<◌, ◌≢◌, ℕ, IfErr, IfOk, OnErr, OnOk, Some, if◌then◌else◌, length, true};
 ghost use Rattle.apex_types.specs.declared.limits.TheConstants.{PLACE_COUNT};
 ghost use Rattle.apex_types.specs.declared.record.Body.TheVariants as body;
 ghost use Rattle.apex_types.specs.declared.record.Ordered.{Ordered as OrderedRecord};
@@ -9,13 +9,14 @@ ghost use Rattle.apex_machine.specs.After.{channel_after};
 ghost use Rattle.apex_machine.specs.Channels.{has_channel};
 ghost use Rattle.apex_machine.specs.Demands.{Judges, LocalStep, demands};
 ghost use Rattle.apex_machine.specs.Configuration.{Configuration};
-ghost use Rattle.apex_machine.specs.Pieces.{OfChannel, part};
+ghost use Rattle.apex_machine.specs.Pieces.{OfChannel, one_more, part};
 ghost use Rattle.apex_machine.specs.State.{cold_channel, cold_state};
 ghost use Rattle.apex_machine.specs.Waiting.{stops};
 ghost use Rattle.channel.specs.Held.{IsConfigured};
 ghost use Rattle.partition_state.specs.Calls.{RefusesOrWants};
 ghost use Rattle.piece_check.specs.Held.{channel_part};
 ghost use Rattle.piece_check.specs.Parts.{HoldsBefore, WaitBefore, WantsAtCalls};
+ghost use Rattle.piece_check.specs.Quiet.{is_quiet};
 ghost use Rattle.piece_check.specs.Subjects.{is_the};
 
 use apex_types::{
@@ -82,6 +83,24 @@ impl ChannelPiece {
             Body::Ret(_) | Body::Disp(_) => {}
         }
         Ok(())
+    }
+
+    /// Passes by a tick that ends no wait: the time of its core rises. Returns whether the record is one. Takes no memory.
+    pub(crate) fn pass_by(&mut self, ordered: &Ordered) -> bool
+        requires core { ordered.now.core < length self.old.times }
+        requires place { ordered.now.pos < PLACE_COUNT }
+        requires holds_before { HoldsBefore ordered.now.pos (channel_part self.old) }
+        ensures value { result ≡ is_quiet ordered.now.rec.body }
+        ensures after { self.new ≡ (if result then record self.old { times = one_more ordered.now.core self.old.times } else self.old) }
+    {
+        let Body::Tick(woken) = &ordered.rec.body else {
+            return false;
+        };
+        if !woken.as_slice().is_empty() {
+            return false;
+        }
+        self.times.advance(ordered.core);
+        true
     }
 
     /// Judges a record. A call through the channel must meet what the channel demands; of any other record the channel demands nothing.

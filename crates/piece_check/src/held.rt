@@ -1,19 +1,23 @@
 // What a piece holds: the part of the module, of a partition or of a channel.
 
-ghost use Rattle.std.specs.Prelude.{◌<◌, IfErr, IfOk, OnErr, OnOk, ◌≡◌, length};
+ghost use Rattle.std.specs.Prelude.{◌<◌, IfErr, IfOk, IfSome, OnErr, OnOk, ◌≡◌, false, true, length};
 ghost use Rattle.apex_types.specs.declared.limits.TheConstants.{PLACE_COUNT};
+ghost use Rattle.apex_machine.specs.Configuration.{Configuration};
 ghost use Rattle.apex_machine.specs.Demands.{Judges, LocalStep, demands};
 ghost use Rattle.apex_machine.specs.Pieces.{part, pieces};
 ghost use Rattle.apex_machine.specs.State.{cold_state, time_of};
 ghost use Rattle.apex_machine.specs.Views.{view_in};
 ghost use Rattle.partition_state.specs.Calls.{RefusesOrWants};
 ghost use Rattle.piece_check.specs.Held.{part_of, settings_of};
-ghost use Rattle.piece_check.specs.Parts.{AgreesOn, HoldsBefore, WantsAtCalls, cores_of, piece_at};
+ghost use Rattle.piece_check.specs.Parts.{AgreesOn, HoldsBefore, WantsAtCalls, cores_of, holder, piece_at};
+ghost use Rattle.piece_check.specs.Quiet.{passes_by};
+ghost use Rattle.piece_check.specs.Found.{IsWindowAt};
 
 use crate::channel_piece::ChannelPiece;
 use crate::module_piece::ModulePiece;
 use crate::partition_piece::PartitionPiece;
 use crate::subject::{Subject, subject_of};
+use crate::windows::WindowAt;
 use apex_types::{Cause, Ordered, View};
 use module_config::Config;
 use std::alloc::{AllocError, Global};
@@ -49,10 +53,16 @@ impl Held {
         }
     }
 
-    /// Judges a record, and changes the part as the record says.
+    /// Judges a record, and changes the part as the record says. The window of its core may have been found before.
     ///
     /// Refused, with nothing changed, if a demand fails, with the cause of the first that does; or if memory is refused to a call.
-    pub(crate) fn step(&mut self, config: &Config, ordered: &Ordered) -> Result<(), ObjFault>
+    pub(crate) fn step(
+        &mut self,
+        config: &Config,
+        ordered: &Ordered,
+        window: Option<WindowAt>,
+    ) -> Result<(), ObjFault>
+        requires window { IfSome window (IsWindowAt config.now) }
         requires core { ordered.now.core < length (cores_of (part_of self.old)) }
         requires place { ordered.now.pos < PLACE_COUNT }
         requires holds_before { HoldsBefore ordered.now.pos (part_of self.old) }
@@ -64,9 +74,26 @@ impl Held {
         ensures agrees { AgreesOn config.now (part_of self.new) (settings_of self.new) }
     {
         match self {
-            Held::Module(piece) => piece.step(config, ordered),
-            Held::Partition(piece) => piece.step(config, ordered),
+            Held::Module(piece) => piece.step(config, ordered, window),
+            Held::Partition(piece) => piece.step(config, ordered, window),
             Held::Channel(piece) => piece.step(config, ordered),
+        }
+    }
+
+    /// Lets a channel pass by a tick that ends no wait, and says whether it did. Takes no memory.
+    pub(crate) fn pass_by(&mut self, ordered: &Ordered) -> bool
+        requires core { ordered.now.core < length (cores_of (part_of self.old)) }
+        requires place { ordered.now.pos < PLACE_COUNT }
+        requires holds_before { HoldsBefore ordered.now.pos (part_of self.old) }
+        ensures value { result ≡ passes_by (part_of self.old) ordered.now }
+        ensures passed { result ≡ true → (configuration : Configuration) → LocalStep configuration (part_of self.old) ordered.now (part_of self.new) }
+        ensures unchanged { result ≡ false → self.new ≡ self.old }
+        ensures settings { settings_of self.new ≡ settings_of self.old }
+        ensures whose { holder (part_of self.new) ≡ holder (part_of self.old) }
+    {
+        match self {
+            Held::Channel(piece) => piece.pass_by(ordered),
+            Held::Module(_) | Held::Partition(_) => false,
         }
     }
 
@@ -78,7 +105,7 @@ impl Held {
         ensures { Judges (demands config.now (part_of self.now) ordered.now) result }
     {
         match self {
-            Held::Module(piece) => piece.judge(config, ordered),
+            Held::Module(piece) => piece.judge(config, ordered, None),
             Held::Partition(piece) => piece.judge(config, ordered),
             Held::Channel(piece) => piece.judge(config, ordered),
         }

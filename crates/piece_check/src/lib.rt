@@ -16,11 +16,12 @@
 //! piece judges what the partition can see. A channel's piece holds the times and a `Channel`, which judges the outcome of the calls
 //! through it. A process leaves the channel when a tick, a STOP or a restart ends its wait.
 //!
-//! A step requires that the part is one that records of smaller places have left (`HoldsBefore`), and that what was given for a channel is
-//! what the configuration says of it (`IsOf`). It leaves both true. `Piece::judge` returns what `Piece::step` would, changes and copies
-//! nothing and takes no memory; both go by the same functions. The module's step is the judgement, and then the change. One function judges
-//! all of an own call but what its service gives (`judge_before_service`). That claim is judged by the object's `answer`: for a judgement
-//! in `PartitionState::judge`, and in a step where the object changes.
+//! A step requires that the part is one that records of smaller places have left (`HoldsBefore`), and that what was given for a channel
+//! is what the configuration says of it (`IsOf`). It leaves both true. Before its step a piece may pass a record by (`Piece::pass_by`):
+//! a channel passes by a tick that ends no wait, because it demands nothing of that tick. `Piece::judge` returns what `Piece::step`
+//! would, changes and copies nothing and takes no memory; both go by the same functions. The module's step is the judgement, and then
+//! the change. One function judges all of an own call but what its service gives (`judge_before_service`). That claim is judged by the
+//! object's `answer`: for a judgement in `PartitionState::judge`, and in a step where the object changes.
 //!
 //! A piece shows what it holds (`Piece::seen`). `Piece::evidence` has a variant for each kind of demand, such as the choice and the
 //! occupant, the pending outcome, or what the call gives. It is worked out from the piece as the refusal left it, so a record that is
@@ -33,6 +34,9 @@
 //! module and its partition, and a dispatch to the module and all partitions. A tick goes to all, so its index is kept once for all pieces,
 //! and a piece goes over the ticks and its own list as one (`Indices`). For a STOP that is done and for a restart all pieces are looked at,
 //! because such a call may touch channels that it does not claim.
+//!
+//! `Windows` looks up the window of each record's core once for all pieces that judge the record (`Piece::step_at`). A piece takes such a
+//! window only if it is of the core and of the core's present time, and looks it up otherwise. So which windows are there changes no answer.
 #![tactic(auto)]
 
 mod arguments;
@@ -53,6 +57,7 @@ mod seen;
 mod subject;
 mod touched;
 mod views;
+mod windows;
 
 pub use evidence::Evidence;
 pub use fault::PieceFault;
@@ -61,3 +66,4 @@ pub use piece::Piece;
 pub use seen::Seen;
 pub use subject::{Subject, count, subject_of, touches};
 pub use touched::{Indices, Touched};
+pub use windows::{WindowAt, Windows};

@@ -1,6 +1,6 @@
 // The piece of the module: configured names, the skew, and idle cores outside all windows.
 
-ghost use Rattle.std.specs.Prelude.{◌≡◌, ◌<◌, IfErr, OnErr, OnOk, is_none, length};
+ghost use Rattle.std.specs.Prelude.{◌≡◌, ◌<◌, IfErr, IfSome, OnErr, OnOk, is_none, length};
 ghost use Rattle.apex_types.specs.declared.limits.TheConstants.{PLACE_COUNT};
 ghost use Rattle.apex_types.specs.declared.record.Body.TheVariants as body;
 ghost use Rattle.apex_machine.specs.State.{cold_state, time_of};
@@ -10,9 +10,11 @@ ghost use Rattle.apex_machine.specs.Views.{view_in};
 ghost use Rattle.partition_state.specs.Calls.{RefusesOrWants};
 ghost use Rattle.piece_check.specs.Judged.{Judges, asked_by_module};
 ghost use Rattle.piece_check.specs.Parts.{HoldsBefore, WantsAtCalls};
+ghost use Rattle.piece_check.specs.Found.{IsWindowAt};
 
 use crate::names::{all_configured, channel_configured, one_configured};
 use crate::views::{dispatch_view, tick_view};
+use crate::windows::{WindowAt, window_by};
 use apex_types::{Body, Call, Cause, CoreId, Ordered, Return, View, Who, Woken};
 use dispatch_rule::Clock;
 use module_config::Config;
@@ -34,11 +36,17 @@ impl ModulePiece {
         }
     }
 
-    /// Judges a record, and changes the part as the record says. Takes no memory.
+    /// Judges a record, and changes the part as the record says. The window of its core may have been found before. Takes no memory.
     ///
     /// Refused, with nothing changed, if a demand fails, with the cause of the first that does.
-    pub(crate) fn step(&mut self, config: &Config, ordered: &Ordered) -> Result<(), ObjFault>
+    pub(crate) fn step(
+        &mut self,
+        config: &Config,
+        ordered: &Ordered,
+        window: Option<WindowAt>,
+    ) -> Result<(), ObjFault>
         requires core { ordered.now.core < length self.old.clock.cores }
+        requires window { IfSome window (IsWindowAt config.now) }
         requires place { ordered.now.pos < PLACE_COUNT }
         requires holds_before { HoldsBefore ordered.now.pos (ModulePart self.old.clock.cores) }
         ensures ok { OnOk result (LocalStep config.now (ModulePart self.old.clock.cores) ordered.now (ModulePart self.new.clock.cores)) }
@@ -46,7 +54,8 @@ impl ModulePiece {
         ensures unchanged { OnErr result (self.new ≡ self.old) }
         ensures memory { IfErr result (WantsAtCalls ordered.now.rec.body) }
     {
-        self.judge(config, ordered).map_err(ObjFault::Unlawful)?;
+        self.judge(config, ordered, window)
+            .map_err(ObjFault::Unlawful)?;
         match &ordered.rec.body {
             Body::Call(_) | Body::Ret(_) => Ok(()),
             Body::Disp(who) => {
@@ -60,20 +69,26 @@ impl ModulePiece {
         }
     }
 
-    /// Judges a record. Takes no memory.
+    /// Judges a record. The window of its core may have been found before. Takes no memory.
     ///
     /// Refused with the cause of the first demand that fails.
-    pub(crate) fn judge(&self, config: &Config, ordered: &Ordered) -> Result<(), Cause>
+    pub(crate) fn judge(
+        &self,
+        config: &Config,
+        ordered: &Ordered,
+        window: Option<WindowAt>,
+    ) -> Result<(), Cause>
+        requires window { IfSome window (IsWindowAt config.now) }
         requires place { ordered.now.pos < PLACE_COUNT }
         requires holds_before { HoldsBefore ordered.now.pos (ModulePart self.now.clock.cores) }
         ensures { Judges (demands config.now (ModulePart self.now.clock.cores) ordered.now) result }
     {
         let core = ordered.core;
         match &ordered.rec.body {
-            Body::Call(call) => self.judge_call(config, core, call),
-            Body::Ret(ret) => self.judge_return(config, core, ret),
-            Body::Disp(who) => self.judge_dispatch(config, core, *who),
-            Body::Tick(woken) => self.judge_tick(config, core, woken),
+            Body::Call(call) => self.judge_call(config, core, window, call),
+            Body::Ret(ret) => self.judge_return(config, core, window, ret),
+            Body::Disp(who) => self.judge_dispatch(config, core, window, *who),
+            Body::Tick(woken) => self.judge_tick(config, core, window, woken),
         }
     }
 
@@ -91,7 +106,14 @@ impl ModulePiece {
         }
     }
 
-    fn judge_call(&self, config: &Config, core: CoreId, call: &Call) -> Result<(), Cause>
+    fn judge_call(
+        &self,
+        config: &Config,
+        core: CoreId,
+        window: Option<WindowAt>,
+        call: &Call,
+    ) -> Result<(), Cause>
+        requires { IfSome window (IsWindowAt config.now) }
         ensures { Judges (asked_by_module config.now self.now core (body.Call call.now)) result }
     {
         let are_configured = config.has_partition(call.who.part)
@@ -100,38 +122,59 @@ impl ModulePiece {
         if !are_configured {
             return Err(Cause::Names);
         }
-        if self.is_in_no_window(config, core) {
+        if self.is_in_no_window(config, core, window) {
             return Err(Cause::Idle);
         }
         Ok(())
     }
 
-    fn judge_return(&self, config: &Config, core: CoreId, ret: &Return) -> Result<(), Cause>
+    fn judge_return(
+        &self,
+        config: &Config,
+        core: CoreId,
+        window: Option<WindowAt>,
+        ret: &Return,
+    ) -> Result<(), Cause>
+        requires { IfSome window (IsWindowAt config.now) }
         ensures { Judges (asked_by_module config.now self.now core (body.Ret ret.now)) result }
     {
         if !config.has_partition(ret.who.part) {
             return Err(Cause::Names);
         }
-        if self.is_in_no_window(config, core) {
+        if self.is_in_no_window(config, core, window) {
             return Err(Cause::Idle);
         }
         Ok(())
     }
 
-    fn judge_dispatch(&self, config: &Config, core: CoreId, who: Option<Who>) -> Result<(), Cause>
+    fn judge_dispatch(
+        &self,
+        config: &Config,
+        core: CoreId,
+        window: Option<WindowAt>,
+        who: Option<Who>,
+    ) -> Result<(), Cause>
+        requires { IfSome window (IsWindowAt config.now) }
         ensures { Judges (asked_by_module config.now self.now core (body.Disp who)) result }
     {
         if !one_configured(config, who) {
             return Err(Cause::Names);
         }
-        if who.is_some() && self.is_in_no_window(config, core) {
+        if who.is_some() && self.is_in_no_window(config, core, window) {
             return Err(Cause::Idle);
         }
         Ok(())
     }
 
-    fn judge_tick(&self, config: &Config, core: CoreId, woken: &Woken) -> Result<(), Cause>
-        requires { time_of self.now.clock.cores core < PLACE_COUNT }
+    fn judge_tick(
+        &self,
+        config: &Config,
+        core: CoreId,
+        window: Option<WindowAt>,
+        woken: &Woken,
+    ) -> Result<(), Cause>
+        requires window { IfSome window (IsWindowAt config.now) }
+        requires time { time_of self.now.clock.cores core < PLACE_COUNT }
         ensures { Judges (asked_by_module config.now self.now core (body.Tick woken.now)) result }
     {
         if !all_configured(config, woken.as_slice()) {
@@ -140,16 +183,17 @@ impl ModulePiece {
         if !self.clock.may_tick(core, config.skew()) {
             return Err(Cause::Skew);
         }
-        if self.clock.on(core).is_some() && self.is_in_no_window(config, core) {
+        if self.clock.on(core).is_some() && self.is_in_no_window(config, core, window) {
             return Err(Cause::Idle);
         }
         Ok(())
     }
 
     // Whether the core is outside all windows now.
-    fn is_in_no_window(&self, config: &Config, core: CoreId) -> bool
+    fn is_in_no_window(&self, config: &Config, core: CoreId, window: Option<WindowAt>) -> bool
+        requires { IfSome window (IsWindowAt config.now) }
         ensures { result ≡ is_none (window_now config.now self.now.clock.cores core) }
     {
-        self.clock.window_now(config, core).is_none()
+        window_by(config, &self.clock, core, window).is_none()
     }
 }

@@ -1,6 +1,6 @@
 // The piece of a partition: its windows, its choices, and the claims of its own calls and returns.
 
-ghost use Rattle.std.specs.Prelude.{◌≡◌, ◌<◌, ◌↔◌, [], nat_eq, IfErr, IfOk, IsTrue, Some, None, OnOk, OnErr, length, false};
+ghost use Rattle.std.specs.Prelude.{◌≡◌, ◌<◌, ◌↔◌, [], nat_eq, IfErr, IfOk, IfSome, IsTrue, Some, None, OnOk, OnErr, length, false};
 ghost use Rattle.std.specs.Option.{option_copied};
 ghost use Rattle.apex_types.specs.declared.limits.TheConstants.{PLACE_COUNT};
 ghost use Rattle.apex_types.specs.declared.record.Body.TheVariants as body;
@@ -17,17 +17,19 @@ ghost use Rattle.partition_state.specs.Calls.{LeavesObjects, RefusesOrWants};
 ghost use Rattle.piece_check.specs.Held.{partition_part};
 ghost use Rattle.piece_check.specs.Judged.{GoesOn, Judges, asked_by_partition, own_caller_demands, own_demands, part_called};
 ghost use Rattle.piece_check.specs.Parts.{HoldsBefore, WantsAtCalls};
+ghost use Rattle.piece_check.specs.Found.{IsWindowAt};
 
 use crate::conditions::conditions_of;
 use crate::outcome::{judge_refused, judge_through};
 use crate::profile::is_within;
 use crate::views::{call_view, return_view};
+use crate::windows::{WindowAt, window_by};
 use apex_machine::{Outcome, WaitingSet};
 use apex_types::{
     Body, Call, Cause, CoreId, Ordered, PartId, ProcId, QueuingOperation, Request, Return, Service,
     View, Who, Woken,
 };
-use dispatch_rule::{Clock, owns_window};
+use dispatch_rule::Clock;
 use module_config::Config;
 use partition_state::PartitionState;
 use process_state::Moment;
@@ -69,11 +71,17 @@ impl PartitionPiece {
         })
     }
 
-    /// Judges a record, and changes the part as the record says.
+    /// Judges a record, and changes the part as the record says. The window of its core may have been found before.
     ///
     /// Refused, with nothing changed, if a demand fails, with the cause of the first that does; or if memory is refused to a call.
-    pub(crate) fn step(&mut self, config: &Config, ordered: &Ordered) -> Result<(), ObjFault>
+    pub(crate) fn step(
+        &mut self,
+        config: &Config,
+        ordered: &Ordered,
+        window: Option<WindowAt>,
+    ) -> Result<(), ObjFault>
         requires core { ordered.now.core < length self.old.clock.cores }
+        requires window { IfSome window (IsWindowAt config.now) }
         requires place { ordered.now.pos < PLACE_COUNT }
         requires holds_before { HoldsBefore ordered.now.pos (partition_part self.old) }
         ensures ok { OnOk result (LocalStep config.now (partition_part self.old) ordered.now (partition_part self.new)) }
@@ -85,12 +93,12 @@ impl PartitionPiece {
         match &ordered.rec.body {
             Body::Call(call) => {
                 if call.who.part == self.number {
-                    self.own_call(config, ordered, call)
+                    self.own_call(config, ordered, window, call)
                 } else {
-                    self.foreign_call(config, ordered, call)
+                    self.foreign_call(config, ordered, window, call)
                 }
             }
-            Body::Ret(ret) => match self.judge_return(config, core, ret) {
+            Body::Ret(ret) => match self.judge_return(config, core, window, ret) {
                 Ok(()) => {
                     if ret.who.part == self.number {
                         self.state.ret(ret.who.proc);
@@ -99,14 +107,14 @@ impl PartitionPiece {
                 }
                 Err(cause) => Err(ObjFault::Unlawful(cause)),
             },
-            Body::Disp(who) => match self.judge_dispatch(config, core, *who) {
+            Body::Disp(who) => match self.judge_dispatch(config, core, window, *who) {
                 Ok(()) => {
                     self.clock.dispatch(core, *who);
                     Ok(())
                 }
                 Err(cause) => Err(ObjFault::Unlawful(cause)),
             },
-            Body::Tick(woken) => match self.judge_tick(config, core, woken) {
+            Body::Tick(woken) => match self.judge_tick(config, core, window, woken) {
                 Ok(()) => {
                     self.state.tick(self.number, ordered.pos, woken);
                     self.clock.advance(config, core);
@@ -131,12 +139,12 @@ impl PartitionPiece {
                 if call.who.part == self.number {
                     self.judge_own_call(config, ordered, call)
                 } else {
-                    self.judge_foreign_call(config, core, call)
+                    self.judge_foreign_call(config, core, None, call)
                 }
             }
-            Body::Ret(ret) => self.judge_return(config, core, ret),
-            Body::Disp(who) => self.judge_dispatch(config, core, *who),
-            Body::Tick(woken) => self.judge_tick(config, core, woken),
+            Body::Ret(ret) => self.judge_return(config, core, None, ret),
+            Body::Disp(who) => self.judge_dispatch(config, core, None, *who),
+            Body::Tick(woken) => self.judge_tick(config, core, None, woken),
         }
     }
 
@@ -176,7 +184,14 @@ impl PartitionPiece {
 
     // A call of one of the partition's own processes is judged, and carried out. The channel judges the outcome of a call through a
     // channel, except for what the partition sees of it.
-    fn own_call(&mut self, config: &Config, ordered: &Ordered, call: &Call) -> Result<(), ObjFault>
+    fn own_call(
+        &mut self,
+        config: &Config,
+        ordered: &Ordered,
+        window: Option<WindowAt>,
+        call: &Call,
+    ) -> Result<(), ObjFault>
+        requires window { IfSome window (IsWindowAt config.now) }
         requires own { call.now.who.part ≡ self.old.number }
         requires place { ordered.now.pos < PLACE_COUNT }
         requires holds_before { HoldsBefore ordered.now.pos (partition_part self.old) }
@@ -186,7 +201,7 @@ impl PartitionPiece {
         ensures unchanged { OnErr result (self.new ≡ self.old) }
     {
         let course = self
-            .judge_before_service(config, ordered.core, call)
+            .judge_before_service(config, ordered.core, window, call)
             .map_err(ObjFault::Unlawful)?;
         match course {
             Course::Noted => self.note(config, ordered, call),
@@ -198,7 +213,7 @@ impl PartitionPiece {
     fn judge_own_call(&self, config: &Config, ordered: &Ordered, call: &Call) -> Result<(), Cause>
         ensures { Judges (own_demands config.now self.now ordered.now.core call.now) result }
     {
-        match self.judge_before_service(config, ordered.core, call)? {
+        match self.judge_before_service(config, ordered.core, None, call)? {
             Course::Noted => Ok(()),
             Course::Served => {
                 let now = self.clock.now(ordered.core);
@@ -213,12 +228,14 @@ impl PartitionPiece {
         &self,
         config: &Config,
         core: CoreId,
+        window: Option<WindowAt>,
         call: &Call,
     ) -> Result<Course, Cause>
+        requires { IfSome window (IsWindowAt config.now) }
         ensures ok { IfOk result (GoesOn config.now self.now core call.now) }
         ensures refused { IfErr result (FirstFails (own_demands config.now self.now core call.now)) }
     {
-        let conditions = self.judge_caller(config, core, call)?;
+        let conditions = self.judge_caller(config, core, window, call)?;
         if !conditions.is_empty() {
             judge_refused(&conditions, &call.claim)?;
             return Ok(Course::Noted);
@@ -234,12 +251,19 @@ impl PartitionPiece {
     }
 
     // Judges what is demanded of one of the partition's own calls before its outcome, and gives the error conditions that hold.
-    fn judge_caller(&self, config: &Config, core: CoreId, call: &Call) -> Result<Conditions, Cause>
+    fn judge_caller(
+        &self,
+        config: &Config,
+        core: CoreId,
+        window: Option<WindowAt>,
+        call: &Call,
+    ) -> Result<Conditions, Cause>
+        requires { IfSome window (IsWindowAt config.now) }
         ensures ok { OnOk result (AllHold (own_caller_demands config.now self.now core call.now)) }
         ensures conditions { IfOk result (λ conditions. conditions ≡ services.conditions_of config.now call.now.who self.now.state call.now.request) }
         ensures refused { IfErr result (FirstFails (own_caller_demands config.now self.now core call.now)) }
     {
-        if !self.is_in_window(config, core) {
+        if !self.is_in_window(config, core, window) {
             return Err(Cause::Window);
         }
         if !self.is_running(core, call.who) {
@@ -307,15 +331,17 @@ impl PartitionPiece {
         &mut self,
         config: &Config,
         ordered: &Ordered,
+        window: Option<WindowAt>,
         call: &Call,
     ) -> Result<(), ObjFault>
+        requires window { IfSome window (IsWindowAt config.now) }
         requires foreign { nat_eq call.now.who.part self.old.number ≡ false }
         ensures ok { OnOk result (AllHold (foreign_call_demands config.now self.old.number self.old.clock.cores self.old.state ordered.now.core call.now)) }
         ensures after { OnOk result (partition_part self.new ≡ PartitionPart self.old.number self.old.clock.cores (partition_by config.now self.old.clock.cores ordered.now.pos ordered.now.core self.old.number (body.Call call.now) self.old.state)) }
         ensures refused { IfErr result (RefusesOrWants (foreign_call_demands config.now self.old.number self.old.clock.cores self.old.state ordered.now.core call.now)) }
         ensures unchanged { OnErr result (self.new ≡ self.old) }
     {
-        self.judge_foreign_call(config, ordered.core, call)
+        self.judge_foreign_call(config, ordered.core, window, call)
             .map_err(ObjFault::Unlawful)?;
         self.state
             .wake_named(self.number, ordered.pos, call)
@@ -323,10 +349,17 @@ impl PartitionPiece {
     }
 
     // In the partition's windows a dispatch names its choice.
-    fn judge_dispatch(&self, config: &Config, core: CoreId, who: Option<Who>) -> Result<(), Cause>
+    fn judge_dispatch(
+        &self,
+        config: &Config,
+        core: CoreId,
+        window: Option<WindowAt>,
+        who: Option<Who>,
+    ) -> Result<(), Cause>
+        requires { IfSome window (IsWindowAt config.now) }
         ensures { Judges (asked_by_partition config.now self.now core (body.Disp who)) result }
     {
-        if self.is_in_window(config, core)
+        if self.is_in_window(config, core, window)
             && self.state.processes().ready_on(self.number, core) != who
         {
             return Err(Cause::Choice);
@@ -336,12 +369,19 @@ impl PartitionPiece {
 
     // In the partition's windows a tick finds the partition's choice as the occupant. Of the partition's processes it names those that fall
     // due.
-    fn judge_tick(&self, config: &Config, core: CoreId, woken: &Woken) -> Result<(), Cause>
-        requires { time_of self.now.clock.cores core < PLACE_COUNT }
+    fn judge_tick(
+        &self,
+        config: &Config,
+        core: CoreId,
+        window: Option<WindowAt>,
+        woken: &Woken,
+    ) -> Result<(), Cause>
+        requires window { IfSome window (IsWindowAt config.now) }
+        requires time { time_of self.now.clock.cores core < PLACE_COUNT }
         ensures { Judges (asked_by_partition config.now self.now core (body.Tick woken.now)) result }
     {
         let occupant = self.clock.on(core);
-        if self.is_in_window(config, core)
+        if self.is_in_window(config, core, window)
             && self.state.processes().ready_on(self.number, core) != occupant
         {
             return Err(Cause::Choice);
@@ -358,10 +398,17 @@ impl PartitionPiece {
     }
 
     // A call of another partition's process ends only waits at this partition's end of a queuing channel.
-    fn judge_foreign_call(&self, config: &Config, core: CoreId, call: &Call) -> Result<(), Cause>
+    fn judge_foreign_call(
+        &self,
+        config: &Config,
+        core: CoreId,
+        window: Option<WindowAt>,
+        call: &Call,
+    ) -> Result<(), Cause>
+        requires { IfSome window (IsWindowAt config.now) }
         ensures { Judges (foreign_call_demands config.now self.now.number self.now.clock.cores self.now.state core call.now) result }
     {
-        if self.is_in_window(config, core) && !self.is_running(core, call.who) {
+        if self.is_in_window(config, core, window) && !self.is_running(core, call.who) {
             return Err(Cause::Choice);
         }
         if !self.wakes_here(call) {
@@ -390,10 +437,17 @@ impl PartitionPiece {
     }
 
     // A return must give back the outcome that is due.
-    fn judge_return(&self, config: &Config, core: CoreId, ret: &Return) -> Result<(), Cause>
+    fn judge_return(
+        &self,
+        config: &Config,
+        core: CoreId,
+        window: Option<WindowAt>,
+        ret: &Return,
+    ) -> Result<(), Cause>
+        requires { IfSome window (IsWindowAt config.now) }
         ensures { Judges (asked_by_partition config.now self.now core (body.Ret ret.now)) result }
     {
-        if !self.is_in_window(config, core) {
+        if !self.is_in_window(config, core, window) {
             return Err(Cause::Window);
         }
         if !self.is_running(core, ret.who) {
@@ -418,10 +472,11 @@ impl PartitionPiece {
     }
 
     // Whether the core's present window is the partition's.
-    fn is_in_window(&self, config: &Config, core: CoreId) -> bool
+    fn is_in_window(&self, config: &Config, core: CoreId, window: Option<WindowAt>) -> bool
+        requires { IfSome window (IsWindowAt config.now) }
         ensures { IsTrue result ↔ (window_now config.now self.now.clock.cores core ≡ Some self.now.number) }
     {
-        owns_window(config, &self.clock, self.number, core)
+        window_by(config, &self.clock, core, window) == Some(self.number)
     }
 
     // Whether this process is the core's occupant and the partition's choice.

@@ -1,16 +1,20 @@
 // A piece: its start and its step.
 
-ghost use Rattle.std.specs.Prelude.{◌≡◌, ◌<◌, ◌+◌, ◌↔◌, ◌⊎◌, Err, IsTrue, IfOk, OnOk, OnErr, IfErr, false, length};
+ghost use Rattle.std.specs.Prelude.{◌≡◌, ◌<◌, ◌+◌, ◌↔◌, ◌⊎◌, Err, IsTrue, IfOk, OnOk, OnErr, IfErr, IfSome, None, false, true, length};
+ghost use Rattle.apex_machine.specs.Configuration.{Configuration};
 ghost use Rattle.apex_machine.specs.State.{cold_state};
 ghost use Rattle.apex_machine.specs.Demands.{AllHold, LocalStep, demands};
 ghost use Rattle.apex_machine.specs.Pieces.{part, pieces};
 ghost use Rattle.apex_machine.specs.Views.{view_in};
 ghost use Rattle.apex_laws.specs.PartBounds.{PeriodFits};
-ghost use Rattle.piece_check.specs.Parts.{CallerFits, HoldsBefore, IsCall, IsOf, IsPartOf, holder, piece_at};
+ghost use Rattle.piece_check.specs.Parts.{CallerFits, HoldsBefore, IsCall, IsOf, IsPartOf, cores_of, holder, piece_at};
+ghost use Rattle.piece_check.specs.Quiet.{passes_by};
 ghost use Rattle.piece_check.specs.Refused.{IsRefused};
+ghost use Rattle.piece_check.specs.Found.{IsWindowAt};
 
 use crate::fault::PieceFault;
 use crate::held::Held;
+use crate::windows::WindowAt;
 use apex_types::{Body, Ordered, Request, View};
 use module_config::Config;
 use std::alloc::{AllocError, Global};
@@ -85,6 +89,25 @@ impl Piece {
         Err(PieceFault::Memory)
     }
 
+    /// Lets a channel pass by a tick that ends no wait: the time of the tick's core rises, and nothing else changes. Returns whether it
+    /// did. Takes no memory.
+    ///
+    /// Leaves any other piece as it was, and the channel at any other record: `step` judges the record.
+    pub fn pass_by(&mut self, ordered: &Ordered) -> bool
+        requires core { ordered.now.core < length (cores_of self.old.part) }
+        requires holds_before { HoldsBefore ordered.now.pos self.old.part }
+        ensures value { result ≡ passes_by self.old.part ordered.now }
+        ensures passed { result ≡ true → (configuration : Configuration) → LocalStep configuration self.old.part ordered.now self.new.part }
+        ensures silent { result ≡ true → view_in self.old.part ordered.now ≡ None }
+        ensures unchanged { result ≡ false → self.new ≡ self.old }
+        ensures of_module { (configuration : Configuration) → IsOf configuration self.old → IsOf configuration self.new }
+        ensures whose { holder self.new.part ≡ holder self.old.part }
+        ensures holds_before { result ≡ true → HoldsBefore (ordered.now.pos + 1) self.new.part }
+    {
+        let _place = ordered.pos.number();
+        self.held.pass_by(ordered)
+    }
+
     /// Judges a record that touches the piece, and changes the part as the record says.
     ///
     /// If a demand fails, nothing is changed. If memory was refused to a call, the part is as it was, and every later step answers Memory.
@@ -103,12 +126,38 @@ impl Piece {
         ensures of_module { OnOk result (IsOf config.now self.new) }
         ensures holds_before { OnOk result (HoldsBefore (ordered.now.pos + 1) self.new.part) }
     {
+        self.step_at(config, ordered, None)
+    }
+
+    /// Judges a record that touches the piece, and changes the part, as `step` does. The window of the record's core may have been looked up
+    /// before; if it was looked up for the present time of the core, it is not looked up again.
+    pub fn step_at(
+        &mut self,
+        config: &Config,
+        ordered: &Ordered,
+        window: Option<WindowAt>,
+    ) -> Result<(), PieceFault>
+        requires core { ordered.now.core < config.now.cores }
+        requires window { IfSome window (IsWindowAt config.now) }
+        requires of_module { IsOf config.now self.old }
+        requires holds_before { HoldsBefore ordered.now.pos self.old.part }
+        ensures ok { OnOk result (LocalStep config.now self.old.part ordered.now self.new.part) }
+        ensures refused { IfErr result (λ fault. IsRefused (demands config.now self.old.part ordered.now) ordered.now.pos fault) }
+        ensures unchanged { OnErr result (self.new.part ≡ self.old.part) }
+        ensures whose { holder self.new.part ≡ holder self.old.part }
+        ensures settings { OnErr result (self.new.settings ≡ self.old.settings) }
+        ensures exhausted { IsTrue self.new.exhausted ↔ (result ≡ Err PieceFault.Memory) }
+        ensures stays_exhausted { IsTrue self.old.exhausted → result ≡ Err PieceFault.Memory }
+        ensures memory { result ≡ Err PieceFault.Memory → IsTrue self.old.exhausted ⊎ IsCall ordered.now.rec.body }
+        ensures of_module { OnOk result (IsOf config.now self.new) }
+        ensures holds_before { OnOk result (HoldsBefore (ordered.now.pos + 1) self.new.part) }
+    {
         if self.exhausted {
             return Err(PieceFault::Memory);
         }
         let _place = ordered.pos.number();
         fits(&ordered.rec.body);
-        match self.held.step(config, ordered) {
+        match self.held.step(config, ordered, window) {
             Ok(()) => Ok(()),
             Err(ObjFault::Unlawful(cause)) => Err(PieceFault::Rejected {
                 pos: ordered.pos,

@@ -1,5 +1,5 @@
 -- What the recordings of all cores and the certificate have left, and what is ahead of a placer.
-use Rattle.std.specs.Prelude.{◌≡◌, ℕ, zero, suc, List, [], ◌∷◌, Bool, Option, Some, None, Result, Ok, Err, All, drop, length}
+use Rattle.std.specs.Prelude.{◌≡◌, ◌<◌, ℕ, zero, suc, List, [], ◌∷◌, ◌++◌, Bool, true, false, Option, Some, None, Result, Ok, Err, All, IfOk, IfSome, drop, length}
 use Rattle.core_intake.specs.Answered.{Answer, IsHonest, Answered}
 use Rattle.apex_types.specs.declared.record.Ordered.{Ordered}
 use Rattle.order_cert.specs.declared.fault.CertFault.TheVariants as cert
@@ -87,6 +87,16 @@ abbrev pub IsNext : CanFail → Placing → Result (Option Ordered) PlacingFault
 IsNext can_fail old (Ok (Some ordered)) new = Lead can_fail old (ordered ∷ []) new
 IsNext can_fail old (Ok None) new = IsAhead can_fail old (ends_so (Ok tt))
 IsNext can_fail old (Err fault) new = OnEnd (λ end. IsAhead can_fail old (ends_so end)) (Err fault)
+
+-- an answer of a placer was put into a list of records, with this result: a record comes last; the end and a fault change nothing
+abbrev pub Puts : Result (Option Ordered) PlacingFault → List Ordered → Result Bool PlacingFault → List Ordered → Type 0
+Puts (Ok (Some ordered)) old result new = (result ≡ Ok true) × (new ≡ old ++ ordered ∷ [])
+Puts (Ok None) old result new = (result ≡ Ok false) × (new ≡ old)
+Puts (Err fault) old result new = (result ≡ Err fault) × (new ≡ old)
+
+-- a record that was given is at this place, and of one of so many cores
+abbrev pub IsPlacedAt : ℕ → ℕ → Result (Option Ordered) PlacingFault → Type 0
+IsPlacedAt place cores next = IfOk next (λ given. IfSome given (λ ordered. (ordered.pos ≡ place) × (ordered.core < cores)))
 
 -- one round of a placer: records that came before all that is still ahead; or all that were ahead, and the input ends so; a lack of memory
 -- says nothing about the input

@@ -8,11 +8,11 @@
 //! - Each recording is read by a thread of its own, so this is known once the threads are joined. Each call promises it on the condition
 //!   that the answers for every core are honest, and `close` promises that they are.
 //!
-//! `Placer` takes the next pair from the certificate, its place from the keeper, and the next record of that core from the intake, and
-//! fills a round with such records. What is left of a core's recording is its items without those that were answered, one for each record
+//! `Placer` takes the next pair from the certificate and its place from the keeper, has the intake put the next record of that core into
+//! the round, and fills it so. What is left of a core's recording is its items without those that were answered, one for each record
 //! (`left_after_all`); after a fault nothing is known of it.
 //!
-//! An intake promises only at its end that its answers are those of the recordings. Therefore `next` and `fill` say what they returned on
+//! An intake promises only at its end that its answers are those of the recordings. Therefore `next_into` and `fill` say what they returned on
 //! one condition: that all answers so far are honest (`AreHonest`). On that condition they also say that all answers before the call were
 //! honest. `close` joins the threads, and promises that the condition holds. So a caller that closes a placer knows what each call
 //! returned. A fault of the input (`InputFault`) is kept apart from a refusal of memory (`PlacingFault`), which says nothing about the

@@ -1,16 +1,20 @@
 // The placing of the records in the order of the certificate.
 
-ghost use Rattle.std.specs.Prelude.{◌≡◌, ◌≢◌, ◌<◌, ◌≤◌, ◌+◌, ℕ, [], suc, IfOk, IfSome, length, false};
+ghost use Rattle.std.specs.Prelude.{◌≡◌, ◌≢◌, ◌<◌, ◌≤◌, ◌+◌, ℕ, [], suc, Result, Option, Ok, IfSome, length, false, true};
+ghost use Rattle.std.specs.Vec.{vec_len, vec_capacity};
 ghost use Rattle.apex_types.specs.declared.limits.TheConstants.{MOST_CORES};
+ghost use Rattle.apex_types.specs.declared.record.Ordered.{Ordered};
 ghost use Rattle.apex_machine.specs.Runs.{ArePlaced, AreOfCores};
+ghost use Rattle.core_intake.specs.Answered.{Answer, PutsIn};
 ghost use Rattle.csv_rows.specs.Source.{Gives};
 ghost use Rattle.order_cert.specs.Kept.{none_taken, place_of, taken_of};
 ghost use Rattle.record_read.specs.Steps.{IsOutside};
-ghost use Rattle.placement.specs.Lanes.{AreHonest, IsEnded, IsFilled, IsNext, OnEnd, left_at};
+ghost use Rattle.placement.specs.declared.fault.PlacingFault.{PlacingFault};
+ghost use Rattle.placement.specs.Lanes.{AreHonest, IsEnded, IsFilled, IsNext, IsPlacedAt, OnEnd, Puts, left_at};
 ghost use Rattle.placement.specs.Scan as scan;
 
 use crate::fault::{InputFault, PlacingFault};
-use apex_types::{CoreId, Ordered, Record};
+use apex_types::{CoreId, Ordered, Place, Record};
 use core_intake::Intake;
 use csv_rows::TextSource;
 use order_cert::{CertFault, CertSource, Keeper, OrderFault};
@@ -78,17 +82,22 @@ impl<R: TextSource, C: TextSource> Placer<R, C> {
         }
     }
 
-    /// The next record at its place, or None if the input ends without a fault. Waits for the core's thread. After None or a fault there
-    /// is no further call.
+    /// Puts the next record, at its place, at the end of a list that has room for it, and answers true; or answers false if the input ends
+    /// without a fault. Waits for the core's thread. After false or a fault there is no further call.
     ///
-    /// Memory if memory was refused, and else the fault that ends the input.
-    pub fn next<T: Wait>(&mut self, rt: &T) -> Result<Option<Ordered>, PlacingFault>
+    /// Memory if memory was refused, and else the fault that ends the input. Then, as at the end, the list stays as it is.
+    pub fn next_into<T: Wait>(
+        &mut self,
+        rt: &T,
+        records: &mut Vec<Ordered>,
+    ) -> Result<bool, PlacingFault>
         requires going { self.old.ended ≡ false }
-        ensures next { AreHonest R.can_fail self.new.lanes → IsNext (record { recordings = R.can_fail; certificate = C.can_fail }) self.old result self.new }
+        requires room { vec_len records.old < vec_capacity records.old }
+        ensures puts { (next : Result (Option Ordered) PlacingFault) × Puts next records.old.items result records.new.items × IsPlacedAt (place_of self.old.kept) (length self.old.lanes) next × (AreHonest R.can_fail self.new.lanes → IsNext (record { recordings = R.can_fail; certificate = C.can_fail }) self.old next self.new) }
+        ensures stays { result ≢ Ok true → records.new.items ≡ records.old.items }
         ensures honest { AreHonest R.can_fail self.new.lanes → AreHonest R.can_fail self.old.lanes }
-        ensures going { IfOk result (λ ordered. IfSome ordered (λ _. self.new.ended ≡ false)) }
-        ensures place { IfOk result (λ ordered. IfSome ordered (λ found. (found.pos ≡ place_of self.old.kept) × (place_of self.new.kept ≡ suc (place_of self.old.kept)))) }
-        ensures core { IfOk result (λ ordered. IfSome ordered (λ found. found.core < length self.old.lanes)) }
+        ensures going { result ≡ Ok true → self.new.ended ≡ false }
+        ensures place { result ≡ Ok true → place_of self.new.kept ≡ suc (place_of self.old.kept) }
         ensures lanes { length self.new.lanes ≡ length self.old.lanes }
     {
         self.ended = true;
@@ -97,7 +106,7 @@ impl<R: TextSource, C: TextSource> Placer<R, C> {
             Ok(Some(pair)) => pair,
             Ok(None) => {
                 finish(rt, &mut self.intake, &self.keeper, place)?;
-                return Ok(None);
+                return Ok(false);
             }
             Err(fault) => return Err(cert_fault(place, fault)),
         };
@@ -105,13 +114,13 @@ impl<R: TextSource, C: TextSource> Placer<R, C> {
             Ok(pos) => pos,
             Err(fault) => return Err(order_fault(place, pair.core, fault)),
         };
-        match next_of(rt, &mut self.intake, pair.core as usize) {
-            Ok(Some(rec)) => {
+        let core = CoreId::new(pair.core as u8);
+        match next_of_into(rt, &mut self.intake, core, pos, records) {
+            Ok(true) => {
                 self.ended = false;
-                let core = CoreId::new(pair.core as u8);
-                Ok(Some(Ordered { pos, core, rec }))
+                Ok(true)
             }
-            Ok(None) => Err(order_fault(place, pair.core, OrderFault::Absent)),
+            Ok(false) => Err(order_fault(place, pair.core, OrderFault::Absent)),
             Err(fault) => Err(row_fault(pair.core, pair.seq, fault)),
         }
     }
@@ -131,14 +140,14 @@ impl<R: TextSource, C: TextSource> Placer<R, C> {
         ensures lanes { length self.new.lanes ≡ length self.old.lanes }
     {
         'records: while round.len() < size {
-            let ordered = match self.next(rt) {
-                Ok(Some(ordered)) => ordered,
-                Ok(None) => return Filled::Ended(Ok(())),
+            if round.try_reserve(1).is_err() {
+                return Filled::Memory;
+            }
+            match self.next_into(rt, round) {
+                Ok(true) => {}
+                Ok(false) => return Filled::Ended(Ok(())),
                 Err(PlacingFault::Input(fault)) => return Filled::Ended(Err(fault)),
                 Err(PlacingFault::Memory) => return Filled::Memory,
-            };
-            if round.push(ordered).is_err() {
-                return Filled::Memory;
             }
         }
         Filled::Full
@@ -200,6 +209,24 @@ fn next_of<R: TextSource, T: Wait>(
     ensures count { length intake.new ≡ length intake.old }
 {
     intake.next_of(rt, core)
+}
+
+// The same, but a record goes to the end of a list, which has room for it: as the record of this core at this place.
+fn next_of_into<R: TextSource, T: Wait>(
+    rt: &T,
+    intake: &mut Intake<R>,
+    core: CoreId,
+    place: Place,
+    records: &mut Vec<Ordered>,
+) -> Result<bool, RowFault>
+    requires core { core < length intake.old }
+    requires room { vec_len records.old < vec_capacity records.old }
+    ensures puts { (answer : Answer) × PutsIn core place answer records.old.items result records.new.items × (AreHonest R.can_fail intake.new → IfSome (left_at intake.old core) (λ items. Gives (IsOutside R.can_fail) items answer (left_at intake.new core))) }
+    ensures honest { AreHonest R.can_fail intake.new → AreHonest R.can_fail intake.old }
+    ensures others { (other : ℕ) → other ≢ core → left_at intake.new other ≡ left_at intake.old other }
+    ensures count { length intake.new ≡ length intake.old }
+{
+    intake.next_into(rt, core, place, records)
 }
 
 // Whether each recording has ended after the last pair. The least core that has not ended decides.

@@ -19,3 +19,4 @@ pub mod Coming
 pub mod Working
 pub mod Breaking
 pub mod Gathered
+pub mod Untested

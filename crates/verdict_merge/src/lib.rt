@@ -11,11 +11,11 @@
 //!   the records before its place are such a run, after which the machine has no step for the record at the place. A broken rule
 //!   means that the records up to its place are a run, and that the view there is the first that breaks a rule.
 //!
-//! Each piece of a round is lent the records and their index (`Lent`), and goes over the records that touch it, up to its first refusal
-//! (`go_over`). It is left as it was before that record (`RefusesAmong`), so it can be shown to a person afterwards. A `Judged` is a piece
-//! as it was left, with its result: `judge_piece` makes it from one piece by itself, `judge_in_turn` from one piece after another.
-//! `gather_round` gathers the results by number, whoever judged the pieces. Its contract holds for any pieces that have these results. The
-//! least refusal is the refusal of the round (`Refused`).
+//! Each piece of a round is lent the records, their index and, if they were looked up, the windows of their cores (`Lent`). It goes
+//! over the records that touch it, up to its first refusal (`go_over`). It is left as it was before that record (`RefusesAmong`), so it
+//! can be shown to a person afterwards. A `Judged` is a piece as it was left, with its result: `judge_piece` makes it from one piece by
+//! itself, `judge_in_turn` from one piece after another. `gather_round` gathers the results by number, whoever judged the pieces. Its
+//! contract holds for any pieces that have these results. The least refusal is the refusal of the round (`Refused`).
 //!
 //! If there are rules, a piece makes the view of each record that it judges and tests it at once. Of the views that break a rule it keeps
 //! the first, with the first rule that it breaks (`Breach`). Of the breaches of all pieces, the one with the first record is the breach of

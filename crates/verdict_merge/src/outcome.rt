@@ -1,11 +1,12 @@
 // One piece judges the records of a round.
 
-ghost use Rattle.std.specs.Prelude.{◌≡◌, ◌<◌, IfOk, OnErr, IsTrue, length};
+ghost use Rattle.std.specs.Prelude.{◌≡◌, ◌<◌, All, IfOk, IfSome, OnErr, IsTrue, length};
 ghost use Rattle.apex_machine.specs.Pieces.{pieces};
 ghost use Rattle.apex_machine.specs.Runs.{ArePlaced, AreOfCores};
 ghost use Rattle.apex_machine.specs.Views.{view_in};
 ghost use Rattle.piece_check.specs.Parts.{HoldsBefore, IsOf, holder};
 ghost use Rattle.piece_check.specs.Touching.{AreSortedOut, indices_of};
+ghost use Rattle.piece_check.specs.Found.{IsWindowAt};
 ghost use Rattle.user_rules.specs.Rules.{relations_of};
 ghost use Rattle.verdict_merge.specs.Rounds.{HasJudged, IsGoing, IsJudgedOver, IsRefusal};
 ghost use Rattle.verdict_merge.specs.Views.{HasTested, IsFirstBreach, first_some, seen_of};
@@ -15,7 +16,7 @@ use crate::fault::Memory;
 use crate::finding::{Refused, refused_by};
 use apex_types::Ordered;
 use module_config::Config;
-use piece_check::{Piece, PieceFault, Touched, subject_of};
+use piece_check::{Piece, PieceFault, Touched, WindowAt, subject_of};
 use user_rules::{Rule, first_rule_broken};
 
 /// What is lent to each piece of a round.
@@ -28,7 +29,10 @@ pub struct Lent<'a> {
     pub records: &'a [Ordered],
     /// Which of them touch each piece.
     pub touched: &'a Touched,
+    /// Windows that were looked up, those of a record under its index. A piece looks up what is not there.
+    pub windows: &'a [WindowAt],
     pub ghost sorted: { AreSortedOut config.now records.now (indices_of touched.now) },
+    pub ghost found: { All (IsWindowAt config.now) windows.now },
 }
 
 impl<'a> Lent<'a> {
@@ -44,11 +48,29 @@ impl<'a> Lent<'a> {
         ensures first { result.first ≡ first }
         ensures records { result.records.now ≡ records.now }
     {
+        Lent::with_windows(config, first, records, touched, &[])
+    }
+
+    /// Lends records that are sorted out, with the windows that their cores are in. Takes no memory.
+    pub fn with_windows(
+        config: &'a Config,
+        first: u64,
+        records: &'a [Ordered],
+        touched: &'a Touched,
+        windows: &'a [WindowAt],
+    ) -> Lent<'a>
+        requires sorted { AreSortedOut config.now records.now (indices_of touched.now) }
+        requires found { All (IsWindowAt config.now) windows.now }
+        ensures config { result.config.now ≡ config.now }
+        ensures first { result.first ≡ first }
+        ensures records { result.records.now ≡ records.now }
+    {
         Lent {
             config,
             first,
             records,
             touched,
+            windows,
         }
     }
 }
@@ -110,6 +132,7 @@ pub fn go_over(
 
 // Lets the piece of this number judge a record that touches it. Returns its refusal if it rejects the record. Else the breach so far
 // is kept, or that of the record's view. Memory if the piece was refused memory.
+#[tactic(auto, using(crate::proofs::Untested::untested, crate::proofs::Untested::unruled))]
 fn judge_one(
     lent: &Lent,
     rules: &[Rule],
@@ -128,14 +151,77 @@ fn judge_one(
     ensures whose { holder piece.new.part ≡ holder piece.old.part }
     ensures memory { OnErr result (IsTrue piece.new.exhausted) }
 {
+    if piece.pass_by(ordered) {
+        return Ok(None);
+    }
+    if rules.is_empty() {
+        return step_over(lent, number, piece, index, ordered);
+    }
+    judge_and_test(lent, rules, number, piece, index, ordered, breach)
+}
+
+// The same for a record that is not passed by, with the test of its view. It is a function of its own, so that no room is made for a view
+// if there are no rules.
+fn judge_and_test(
+    lent: &Lent,
+    rules: &[Rule],
+    number: usize,
+    piece: &mut Piece,
+    index: usize,
+    ordered: &Ordered,
+    breach: &mut Option<Breach>,
+) -> Result<Option<Refused>, Memory>
+    requires core { ordered.now.core < lent.now.config.now.cores }
+    requires of_module { IsOf lent.now.config.now piece.old }
+    requires holds_before { HoldsBefore ordered.now.pos piece.old.part }
+    ensures judged { IfOk result (λ refused. HasJudged lent.now.config.now number ordered.now piece.old refused piece.new) }
+    ensures tested { IfOk result (λ refused. HasTested (relations_of rules.now) (view_in piece.old.part ordered.now) index refused breach.old breach.new) }
+    ensures of_module { IfOk result (λ _. IsOf lent.now.config.now piece.new) }
+    ensures whose { holder piece.new.part ≡ holder piece.old.part }
+    ensures memory { OnErr result (IsTrue piece.new.exhausted) }
+{
     let next = breach_of(rules, piece, index, ordered);
-    match piece.step(lent.config, ordered) {
-        Ok(()) => {
+    match step_over(lent, number, piece, index, ordered) {
+        Ok(None) => {
             keep_first(breach, next);
             Ok(None)
         }
+        Ok(Some(refused)) => Ok(Some(refused)),
+        Err(memory) => Err(memory),
+    }
+}
+
+// Lets the piece of this number make its step over a record that touches it. Returns its refusal if it rejects the record. Memory if the
+// piece was refused memory.
+fn step_over(
+    lent: &Lent,
+    number: usize,
+    piece: &mut Piece,
+    index: usize,
+    ordered: &Ordered,
+) -> Result<Option<Refused>, Memory>
+    requires core { ordered.now.core < lent.now.config.now.cores }
+    requires of_module { IsOf lent.now.config.now piece.old }
+    requires holds_before { HoldsBefore ordered.now.pos piece.old.part }
+    ensures judged { IfOk result (λ refused. HasJudged lent.now.config.now number ordered.now piece.old refused piece.new) }
+    ensures of_module { IfOk result (λ _. IsOf lent.now.config.now piece.new) }
+    ensures whose { holder piece.new.part ≡ holder piece.old.part }
+    ensures memory { OnErr result (IsTrue piece.new.exhausted) }
+{
+    let window = window_found(lent.config, lent.windows, index);
+    match piece.step_at(lent.config, ordered, window) {
+        Ok(()) => Ok(None),
         Err(fault) => refused(fault, number),
     }
+}
+
+// The window that was looked up for the record with this index, if there is one.
+fn window_found(config: &Config, windows: &[WindowAt], index: usize) -> Option<WindowAt>
+    requires { All (IsWindowAt config.now) windows.now }
+    ensures { IfSome result (IsWindowAt config.now) }
+{
+    let window = windows.get(index)?;
+    Some(*window)
 }
 
 // The refusal of the piece of this number; a lack of memory is no refusal.
@@ -154,9 +240,6 @@ fn breach_of(rules: &[Rule], piece: &Piece, index: usize, ordered: &Ordered) -> 
     requires { HoldsBefore ordered.now.pos piece.now.part }
     ensures { IsFirstBreach (relations_of rules.now) (seen_of (view_in piece.now.part ordered.now) index) result }
 {
-    if rules.is_empty() {
-        return None;
-    }
     let view = piece.view(ordered)?;
     let rule = first_rule_broken(rules, &view)?;
     Some(Breach {

@@ -2,7 +2,7 @@
 //! records and requests, and the place in the specification of a service's rule.
 //!
 //! Promises only that its functions end and take no memory except for their texts. A text has at most about 16 KiB. If memory is refused,
-//! or the text is too long, nothing more is added.
+//! or the text is too long, nothing more is added; whether memory was refused is kept (`Words::lacks_memory`).
 //!
 //! `Words` is such a text. The crate depends on the plain types and the definitions alone. It decides nothing: the check has its answer
 //! before words are made, and no clause speaks of them. Its functions have no contracts, and are proved only to end and to meet no fault.

@@ -84,10 +84,10 @@ pub fn tell_message(words: &mut Words, bytes: &[u8]) {
 // Reports whose waits a record ends.
 fn tell_woken(words: &mut Words, woken: &[Who]) {
     if woken.is_empty() {
-        words.say(", and ends no wait");
+        words.say(", and wakes no process");
         return;
     }
-    words.say(", and ends the wait of ");
+    words.say(", and wakes ");
     tell_processes(words, woken);
 }
 

@@ -50,6 +50,7 @@ pub struct Words {
     text: String,
     places: Vec<u64>,
     ended: bool,
+    lacks_memory: bool,
 }
 
 impl Words {
@@ -60,13 +61,14 @@ impl Words {
             text: String::new(alloc),
             places: Vec::new(alloc),
             ended: false,
+            lacks_memory: false,
         }
     }
 
     /// Adds these words.
     pub fn say(&mut self, words: impl Display + Drop) {
         let Ok(said) = format!(in self.alloc; "{words}") else {
-            self.ended = true;
+            self.end_without_memory();
             return;
         };
         for character in said.chars() {
@@ -83,7 +85,7 @@ impl Words {
         self.say(format_args!("place {place}"));
         if self.places.len() < MOST_PLACES && !self.places.contains(&place) {
             // If memory is refused, the words still have the place.
-            let _ = self.places.push(place);
+            self.lacks_memory |= self.places.push(place).is_err();
         }
     }
 
@@ -109,9 +111,10 @@ impl Words {
         self.end_part();
     }
 
-    /// Adds other words, with their lines and their parts.
+    /// Adds other words, with their lines and their parts. If those lack memory, these do.
     pub fn append(&mut self, other: &Words) {
         self.add(other.text.as_str());
+        self.lacks_memory |= other.lacks_memory;
     }
 
     /// Begins another line, which is indented.
@@ -123,6 +126,16 @@ impl Words {
     pub fn rule(&mut self, place: &str) {
         self.next_line();
         self.say(format_args!("rule: docs/SPECIFICATION.md, {place}"));
+    }
+
+    /// Notes that memory was refused to what is said here, so that less is said of it.
+    pub fn note_lack_of_memory(&mut self) {
+        self.lacks_memory = true;
+    }
+
+    /// Whether less is said than would be if no memory had been refused.
+    pub fn lacks_memory(&self) -> bool {
+        self.lacks_memory
     }
 
     /// Whether there are no words.
@@ -142,8 +155,14 @@ impl Words {
     fn add(&mut self, text: impl Display + Drop) {
         self.ended |= self.text.len() >= LONGEST;
         if !self.ended && write!(self.text, "{text}").is_err() {
-            self.ended = true;
+            self.end_without_memory();
         }
+    }
+
+    // Memory is refused: nothing more is added.
+    fn end_without_memory(&mut self) {
+        self.ended = true;
+        self.lacks_memory = true;
     }
 }
 

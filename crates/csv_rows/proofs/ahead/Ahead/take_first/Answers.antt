@@ -1,9 +1,7 @@
-use Rattle.std.proofs.Common.{ap, take, ◌∙◌}
-use Rattle.csv_rows.specs.Line.{split}
 use Rattle.csv_rows.proofs.Texts.{first_takes}
 use Rattle.csv_rows.proofs.ahead.Ahead.take_first.Goals as goal
 
-pub returns-in-Ok-clause-takes : goal.returns-in-Ok-clause-takes
-returns-in-Ok-clause-takes g c =
+pub returns-clause-takes : goal.returns-clause-takes
+returns-clause-takes g c =
     first_takes c.args.self.now.bytes.items c.args.self.now.at c.args.line.length c.args.line.taken (g.R.TextSource.remaining c.args.self.now.source)
-    c.take_line-made.new.self c.requires.line c.requires.filled (c.in-Ok.ensures ∙ ap (λ text. split (take c.args.line.length text)) c.unread.ensures)
+    c.args.fields.now c.requires.line c.requires.filled c.requires.fields

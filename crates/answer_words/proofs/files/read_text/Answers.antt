@@ -1,7 +1,7 @@
 use Rattle.std.proofs.Common.{◌+◌}
 use Rattle.apex_types.specs.declared.limits.TheConstants.{LONGEST_CONFIGURATION}
-use Rattle.apexcheck.proofs.Longest.{first_read, same_configuration, same_rules}
-use Rattle.apexcheck.proofs.files.read_text.Goals as goal
+use Rattle.answer_words.proofs.Longest.{first_read, same_configuration, same_rules}
+use Rattle.answer_words.proofs.files.read_text.Goals as goal
 
 pub returns-clause-first : goal.returns-clause-first
 returns-clause-first g c =

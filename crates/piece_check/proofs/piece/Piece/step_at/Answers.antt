@@ -1,7 +1,7 @@
 -- The part is then the part after the record, which has as many cores, and is after the next place.
 use Rattle.piece_check.specs.Held.{part_of}
 use Rattle.piece_check.proofs.Parting.{HasCores_after, HoldsBefore_after}
-use Rattle.piece_check.proofs.piece.Piece.step.Goals as goal
+use Rattle.piece_check.proofs.piece.Piece.step_at.Goals as goal
 
 pub returns-in-Ok-clause-of_module : goal.returns-in-Ok-clause-of_module
 returns-in-Ok-clause-of_module c =

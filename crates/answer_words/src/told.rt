@@ -2,10 +2,9 @@
 
 ghost use Rattle.std.specs.Prelude.{◌≡◌, map, option_map, slice_get, string_bytes};
 
-use crate::ending::Ending;
 use crate::explainer::Explainer;
 use crate::files::{open, open_text};
-use crate::usage::FileNames;
+use crate::names::InputNames;
 use csv_rows::{RowFields, read_decimal};
 use explanation::{Explanation, RecordNumber};
 use input_explanation::{
@@ -15,10 +14,10 @@ use input_explanation::{
 use module_config::ConfigFault;
 use placement::InputFault;
 use report::{ArgumentFault, CheckFault, Verdict};
-use std::alloc::Global;
-use std::fs;
+use std::alloc::{AllocError, Global};
 use std::fs::Files;
-use std::io::Read;
+use std::io::{ErrorKind, Read};
+use std::{fs, io};
 use wording::{Count, Words};
 
 /// Why the answer is not Yes: in words, with the file that they are about, and the row there, if it is found again.
@@ -61,15 +60,16 @@ impl<'a> Told<'a> {
 pub struct RunFiles<'a, R> {
     pub rt: &'a R,
     pub alloc: Global,
-    pub names: &'a FileNames,
+    pub names: &'a InputNames,
 }
 
 impl<'a, R: Files<File = F>, F: Read + Drop> RunFiles<'a, R> {
     /// Why the answer is not Yes. None after a Yes, or if only a note says why.
-    pub fn told_of(&self, ending: &Ending, explainer: &Explainer) -> Option<Told<'a>> {
-        let Ending::Checked { outcome, .. } = ending else {
-            return None;
-        };
+    pub fn told_of(
+        &self,
+        outcome: &Result<Verdict, CheckFault>,
+        explainer: &Explainer,
+    ) -> Option<Told<'a>> {
         match outcome {
             Ok(Verdict::Yes { .. }) => None,
             Ok(Verdict::No { .. } | Verdict::Broken { .. }) => {
@@ -92,13 +92,23 @@ impl<'a, R: Files<File = F>, F: Read + Drop> RunFiles<'a, R> {
         }
     }
 
+    /// The unknown keys of the configuration, and that they are ignored; empty if every key is known.
+    pub fn unknown_keys(&self, explainer: &Explainer) -> Words {
+        let mut words = Words::new(self.alloc);
+        if !explainer.unknown_keys().is_empty() {
+            words.say(format_args!("{}: these keys are unknown and ignored:", self.names.config));
+            words.append(explainer.unknown_keys());
+        }
+        words
+    }
+
     // Where a refused certificate, order or recording is wrong, and what is wrong with it.
     fn told_of_input(&self, fault: &InputFault) -> Option<Told<'a>> {
         match fault {
             InputFault::Cert { place, fault } => {
                 let name = &self.names.order;
-                let compression = self.compression_of(name);
                 let mut told = self.told_of_row(name, *place);
+                let compression = self.compression_of(name, &mut told.words);
                 let mut words = Words::new(self.alloc);
                 tell_certificate(&mut words, *fault, fields_of(told.row(compression)));
                 told.words.append(&words);
@@ -113,8 +123,8 @@ impl<'a, R: Files<File = F>, F: Read + Drop> RunFiles<'a, R> {
             }
             InputFault::Row { core, seq, fault } => {
                 let name = name_of_core(self.names, *core)?;
-                let compression = self.compression_of(name);
                 let mut told = self.told_of_row(name, *seq);
+                let compression = self.compression_of(name, &mut told.words);
                 let mut words = Words::new(self.alloc);
                 let row = row_with(*seq, told.row(compression));
                 tell_row_fault(&mut words, self.alloc, *fault, row);
@@ -137,9 +147,16 @@ impl<'a, R: Files<File = F>, F: Read + Drop> RunFiles<'a, R> {
 
     // Reports in which files and lines the records at these places are.
     fn tell_places(&self, words: &mut Words, places: &[u64]) {
-        let mut rising = places.to_vec(self.alloc).unwrap_or(Vec::new(self.alloc));
+        if self.find_places(words, places).is_err() {
+            words.note_lack_of_memory();
+        }
+    }
+
+    // Reports them, unless memory is refused.
+    fn find_places(&self, words: &mut Words, places: &[u64]) -> Result<(), AllocError> {
+        let mut rising = places.to_vec(self.alloc)?;
         rising.sort_unstable();
-        let rows = self.rows_of(&self.names.order, rising.as_slice());
+        let rows = self.rows_of(&self.names.order, rising.as_slice())?;
         for (place, row) in rising.iter().zip(rows.iter()) {
             let Some((core, seq)) = pair_named(&row.fields) else {
                 continue;
@@ -147,21 +164,22 @@ impl<'a, R: Files<File = F>, F: Read + Drop> RunFiles<'a, R> {
             let Some(name) = name_of_core(self.names, core) else {
                 continue;
             };
-            if let Some(found) = self.row_of(name, seq) {
+            if let Some(found) = self.row_of(name, seq)? {
                 words.next_line();
                 words.say(format_args!("place {place} is {name}, line {}", found.line));
             }
         }
+        Ok(())
     }
 
-    // The rows of these numbers, which rise, in the file of this name, as far as they are found.
-    fn rows_of(&self, name: &str, numbers: &[u64]) -> Vec<FoundRow> {
-        if !numbers.is_empty() && self.is_regular(name) {
-            if let Some(readers) = self.read_twice(name) {
+    /// The rows of these numbers, which rise, in the file of this name, as far as they are found.
+    pub fn rows_of(&self, name: &str, numbers: &[u64]) -> Result<Vec<FoundRow>, AllocError> {
+        if !numbers.is_empty() && self.is_regular(name)? {
+            if let Some(readers) = self.read_twice(name)? {
                 return find_rows(self.alloc, readers, numbers);
             }
         }
-        Vec::new(self.alloc)
+        Ok(Vec::new(self.alloc))
     }
 
     // What is wrong with the configuration, which is compressed in this way.
@@ -173,10 +191,9 @@ impl<'a, R: Files<File = F>, F: Read + Drop> RunFiles<'a, R> {
         let name = &self.names.config;
         let mut words = Words::new(self.alloc);
         words.say(format_args!("{name}: "));
-        let text = if compression.is_none() && self.is_regular(name) {
-            open_text(self.rt, self.alloc, name).ok()
-        } else {
-            None
+        let text = match compression {
+            None => self.text_of(name, &mut words),
+            Some(_) => None,
         };
         tell_configuration(&mut words, self.alloc, fault, text.as_deref());
         tell_compression(&mut words, name, compression);
@@ -187,10 +204,20 @@ impl<'a, R: Files<File = F>, F: Read + Drop> RunFiles<'a, R> {
         }
     }
 
+    // The text in the file of this name, read again for these words. None if it is not a regular file, or cannot be read.
+    fn text_of(&self, name: &str, words: &mut Words) -> Option<Vec<u8>> {
+        let text = match self.is_regular(name) {
+            Ok(true) => unless_memory(open_text(self.rt, self.alloc, name)),
+            Ok(false) => Ok(None),
+            Err(refused) => Err(refused),
+        };
+        unless_refused(text, words)
+    }
+
     // Where a row is: its file and its line, or its number if it is not found again.
     fn told_of_row(&self, name: &'a str, number: u64) -> Told<'a> {
         let mut words = Words::new(self.alloc);
-        let row = self.row_of(name, number);
+        let row = unless_refused(self.row_of(name, number), &mut words);
         match &row {
             Some(row) => words.say(format_args!("{name}, line {}: ", row.line)),
             None => words.say(format_args!("{name}, row {number} (counted from 0): ")),
@@ -203,50 +230,78 @@ impl<'a, R: Files<File = F>, F: Read + Drop> RunFiles<'a, R> {
     }
 
     // The row of this number in the file of this name, read again. None if it is not a regular file: a pipe gives its text only once.
-    fn row_of(&self, name: &str, number: u64) -> Option<FoundRow> {
-        if !self.is_regular(name) {
-            return None;
+    fn row_of(&self, name: &str, number: u64) -> Result<Option<FoundRow>, AllocError> {
+        if self.is_regular(name)? {
+            if let Some(readers) = self.read_twice(name)? {
+                return find_row(self.alloc, readers, number);
+            }
         }
-        find_row(self.alloc, self.read_twice(name)?, number)
+        Ok(None)
     }
 
     /// Finds the lines of the rows from this number on in the file of this name, as many as there is room for.
     pub fn find_lines(&self, name: &str, first: u64, lines: &mut [Option<u64>]) {
-        if self.is_regular(name) {
-            if let Some(readers) = self.read_twice(name) {
-                find_lines(self.alloc, readers, first, lines);
-            }
+        if let (Ok(true), Ok(Some(readers))) = (self.is_regular(name), self.read_twice(name)) {
+            find_lines(self.alloc, readers, first, lines);
         }
     }
 
     // The file of this name, opened once for its rows and once for its lines.
-    fn read_twice(&self, name: &str) -> Option<TwoReaders<F>> {
-        match (open(self.rt, name), open(self.rt, name)) {
-            (Ok(rows), Ok(lines)) => Some(TwoReaders { rows, lines }),
-            _ => None,
+    fn read_twice(&self, name: &str) -> Result<Option<TwoReaders<F>>, AllocError> {
+        let rows = unless_memory(open(self.rt, name))?;
+        let lines = unless_memory(open(self.rt, name))?;
+        match (rows, lines) {
+            (Some(rows), Some(lines)) => Ok(Some(TwoReaders { rows, lines })),
+            _ => Ok(None),
         }
     }
 
-    // How the file of this name is compressed, if it is. None if it is not a regular file.
-    fn compression_of(&self, name: &str) -> Option<Compression> {
-        if !self.is_regular(name) {
-            return None;
+    // How the file of this name is compressed, if it is. None if it is not a regular file. These words report a lack of memory.
+    fn compression_of(&self, name: &str, words: &mut Words) -> Option<Compression> {
+        unless_refused(self.signature_of(name), words)
+    }
+
+    // How the file of this name is compressed, by its first bytes.
+    fn signature_of(&self, name: &str) -> Result<Option<Compression>, AllocError> {
+        if !self.is_regular(name)? {
+            return Ok(None);
         }
+        let file: Option<F> = unless_memory(open(self.rt, name))?;
+        let Some(mut file) = file else {
+            return Ok(None);
+        };
         let mut first = [0u8; LONGEST_SIGNATURE];
-        match open(self.rt, name) {
-            Ok(mut file) => match file.read(&mut first) {
-                Ok(count) => Compression::of(first.get(..count)?),
-                Err(_) => None,
-            },
-            Err(_) => None,
+        match file.read(&mut first) {
+            Ok(count) => Ok(Compression::of(&first[..count.min(LONGEST_SIGNATURE)])),
+            Err(_) => Ok(None),
         }
     }
 
     // Whether a file can be read again.
-    fn is_regular(&self, name: &str) -> bool {
-        match fs::metadata(self.rt, name) {
-            Ok(metadata) => metadata.is_file(),
-            Err(_) => false,
+    fn is_regular(&self, name: &str) -> Result<bool, AllocError> {
+        match unless_memory(fs::metadata(self.rt, name))? {
+            Some(metadata) => Ok(metadata.is_file()),
+            None => Ok(false),
+        }
+    }
+}
+
+// The answer of the system, or none if it is a refusal. A refusal of memory is an error.
+fn unless_memory<T: Drop>(answer: io::Result<T>) -> Result<Option<T>, AllocError> {
+    match answer {
+        Ok(value) => Ok(Some(value)),
+        Err(e) if e.kind() == ErrorKind::OutOfMemory => Err(AllocError),
+        Err(_) => Ok(None),
+    }
+}
+
+// What was found for these words. If memory was refused, nothing is found, and the words report it.
+fn unless_refused<T: Drop>(found: Result<Option<T>, AllocError>, words: &mut Words) -> Option<T> {
+    match found {
+        Ok(found) => found,
+        Err(_) => {
+            words.note_lack_of_memory();
+            None
         }
     }
 }
@@ -285,7 +340,7 @@ fn number_named(fields: Option<&RowFields>) -> Option<u64> {
 }
 
 /// The name of the file with a core's recording.
-pub fn name_of_core(names: &FileNames, core: u32) -> Option<&str>
+pub fn name_of_core(names: &InputNames, core: u32) -> Option<&str>
     ensures { option_map (λ name. name.now) result ≡ slice_get (map string_bytes names.now.cores.items) core }
 {
     match names.cores.get(core as usize) {

@@ -1,7 +1,7 @@
 // What explains the end of a run to a person. It is gathered during the run, and printed after the line.
 
+use crate::names::InputNames;
 use crate::terminal::Terminal;
-use crate::usage::FileNames;
 use apex_types::{Cause, Ordered, View};
 use explanation::Explanation;
 use input_explanation::{Compression, tell_compression, tell_unknown_keys};
@@ -87,7 +87,15 @@ impl Explainer {
     /// Notes which file could not be opened or read, and why.
     pub fn note_unopened(&mut self, name: &str, why: impl Display + Drop) {
         self.note.say(format_args!("{name}: {why}"));
-        self.unopened = String::from_str(self.alloc, name).ok();
+        match String::from_str(self.alloc, name) {
+            Ok(name) => self.unopened = Some(name),
+            Err(_) => self.note.note_lack_of_memory(),
+        }
+    }
+
+    /// Notes that memory was refused to what explains the end.
+    pub fn note_lack_of_memory(&mut self) {
+        self.note.note_lack_of_memory();
     }
 
     /// Notes which rule is broken, by its number and its words or its name, and at which place.
@@ -108,7 +116,7 @@ impl Explainer {
     }
 
     /// Notes why the rules file with this text is refused. A refusal of memory is reported by the line alone.
-    pub fn note_rules(&mut self, names: &FileNames, refusal: &RulesRefusal, text: Option<&[u8]>) {
+    pub fn note_rules(&mut self, names: &InputNames, refusal: &RulesRefusal, text: Option<&[u8]>) {
         match (&names.rules, refusal.fault) {
             (None, _) | (_, RulesFault::Memory) => {}
             (Some(name), fault) => {
@@ -125,6 +133,17 @@ impl Explainer {
     pub fn note_configuration(&mut self, config: &[u8]) {
         tell_unknown_keys(&mut self.unknown_keys, self.alloc, config);
         self.compression = Compression::of(config);
+    }
+
+    /// Explains the record that this piece rejects for this cause. The piece is as it was before the record.
+    pub fn explain_rejected(
+        &mut self,
+        config: &Config,
+        piece: &Piece,
+        ordered: &Ordered,
+        cause: Cause,
+    ) {
+        self.explanation.tell_refused(config, piece, ordered, cause);
     }
 
     /// Adds the fields of the record's view that this relation mentions, if the record breaks a rule.
@@ -151,7 +170,7 @@ fn compression_of(text: Option<&[u8]>) -> Option<Compression> {
 
 impl Witness for Explainer {
     fn refused(&mut self, config: &Config, piece: &Piece, ordered: &Ordered, cause: Cause) {
-        self.explanation.tell_refused(config, piece, ordered, cause);
+        self.explain_rejected(config, piece, ordered, cause);
     }
 
     fn broken(&mut self, ordered: &Ordered, view: &View, _rule: usize) {

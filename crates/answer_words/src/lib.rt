@@ -1,0 +1,20 @@
+//! What standard error says of an answer: why it is not Yes, in words, with the file and the line that they are about.
+//!
+//! Promises two things beside that its functions end. The name of a core's file is the one that the command line gives. Of a configuration
+//! or a rules file, the bytes that are read configure the same as the whole file, and give the same rules. The words decide nothing. If
+//! memory is refused there are fewer words, and they report that.
+#![tactic(auto)]
+
+mod broken;
+mod explainer;
+mod files;
+mod names;
+mod terminal;
+mod told;
+
+pub use broken::note_broken;
+pub use explainer::Explainer;
+pub use files::{open, open_text};
+pub use names::InputNames;
+pub use terminal::Terminal;
+pub use told::{RunFiles, Told, name_of_core};
