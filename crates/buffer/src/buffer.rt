@@ -67,9 +67,10 @@ impl Buffer {
         self.queue.capacity()
     }
 
-    /// The queue of its messages, with the processes that wait at it.
+    /// The queue of its messages, with the processes that wait at it; who waits to receive waits by the buffer's discipline too.
     pub fn queue(&self) -> &MessageQueue
-        ensures { rules.buffer_of self.now.name self.now.size result.now ≡ self.now }
+        ensures queue { rules.buffer_of self.now.name self.now.size result.now ≡ self.now }
+        ensures receivers { result.now.receivers.discipline ≡ self.now.discipline }
     {
         &self.queue
     }

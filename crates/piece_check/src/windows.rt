@@ -21,7 +21,8 @@ pub struct WindowAt {
     pub owner: Option<PartId>,
 }
 
-/// The windows of a round's records. The list keeps its memory from round to round.
+/// The windows of a round's records. The list keeps its memory from round to round, and stays empty where there is one partition, which
+/// looks a window up as cheaply by itself.
 ///
 /// Each window is what the configuration says of its core and its time. No clause says which cores and times these are: a piece that needs
 /// another window looks it up.
@@ -70,6 +71,9 @@ impl Windows {
         ensures { OnOk result (All (IsWindowAt config.now) self.new) }
     {
         self.found.clear();
+        if config.partition_count() < 2 {
+            return Ok(());
+        }
         'records: for ordered in records {
             self.enter(config, ordered)?;
         }
