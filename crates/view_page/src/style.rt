@@ -1,0 +1,125 @@
+// The style of pictures and pages. The colours are those of Okabe and Ito, which colour-blind people can tell apart. A picture names each
+// colour where it is used, since programs that show pictures and are no browsers know no variables of styles.
+
+/// The style of a picture.
+pub const STYLE: &str = "
+.alone { color-scheme: light dark; }
+.strip, .key { font: 11px system-ui, -apple-system, 'Segoe UI', 'DejaVu Sans', sans-serif; }
+.paper { fill: #ffffff; }
+.strip .place { fill: #5b6570; font-size: 9px; }
+.strip .name { font-weight: 600; }
+.strip .process .name, .strip .thing .name { font-weight: 400; }
+.strip .rejected .label, .strip .broken .label { fill: #b84300; font-weight: 700; }
+.ground { fill: #f1f3f5; }
+.ground-rejected { fill: #b84300; fill-opacity: .14; }
+.frame { fill: none; stroke: #b84300; stroke-width: 2; }
+.ground-after { fill: url(#after); }
+.hit { fill: transparent; }
+.record:hover .hit { fill: #5b6570; fill-opacity: .18; }
+.bar .fill { stroke: #ffffff; stroke-width: 1; }
+.bar .said { fill: #000000; pointer-events: none; }
+.strip .small { font-size: 10px; }
+.pattern { pointer-events: none; }
+.window .fill { fill: #cfe3ef; }
+.no-window .fill { fill: #e3e3e3; }
+.occupied .fill { fill: #0072b2; }
+.bar.occupied .said, .bar.running .said, .bar.raised .said { fill: #ffffff; }
+.idle .fill { fill: #e3e3e3; }
+.normal .fill { fill: #b5e0d2; }
+.other-mode .fill { fill: #f0e442; }
+.running .fill { fill: #0072b2; }
+.raised .fill { fill: #0072b2; stroke: #d55e00; stroke-width: 3; }
+.ready .fill, .preempted .fill { fill: #9bd3f3; }
+.waiting .fill { fill: #f3bd55; }
+.suspended .fill { fill: #dfa6c6; }
+.dormant .fill { fill: none; stroke: #c3cad1; stroke-dasharray: 3 3; }
+.bar.dormant .said { fill: #5b6570; }
+.free .fill { fill: #e9e4d8; }
+.awaited .fill { fill: #f6dca6; }
+.mark.tick line { stroke: #000000; stroke-width: 1.5; }
+.mark.tick line.halo { stroke: #ffffff; stroke-width: 3.5; }
+.mark.dispatch path { fill: #000000; stroke: #ffffff; }
+.mark.call circle { fill: #000000; stroke: #ffffff; }
+.mark.return circle { fill: #ffffff; stroke: #000000; stroke-width: 1.5; }
+.mark.restart line { stroke: #b84300; stroke-width: 2; stroke-dasharray: 6 3; }
+.mark.restart line.halo { stroke: #ffffff; stroke-width: 4; stroke-dasharray: none; }
+.mark.lawful rect { fill: #ffffff; stroke: #00684b; stroke-width: 2; stroke-dasharray: 5 3; }
+.mark.lawful text { fill: #00684b; font-weight: 700; }
+.mark.unlawful rect { fill: #ffffff; stroke: #b84300; stroke-width: 2; }
+.mark.unlawful text { fill: #b84300; font-weight: 700; }
+.arrow path { fill: none; stroke-width: 2; }
+.arrow .halo { stroke: #ffffff; stroke-width: 5; stroke-opacity: .85; }
+.arrow.wake .way { stroke: #00684b; marker-end: url(#wake-end); }
+.arrow.message .way { stroke: #8b3a73; stroke-dasharray: 7 3; marker-end: url(#message-end); }
+#wake-end path { fill: #00684b; }
+#message-end path { fill: #8b3a73; }
+#after rect { fill: #f1f3f5; }
+#after path { stroke: #c3cad1; stroke-width: 3; }
+@media screen and (prefers-color-scheme: dark) {
+.paper { fill: #14181d; }
+.strip .place { fill: #a3adb8; }
+.strip .rejected .label, .strip .broken .label { fill: #ff9a57; }
+.ground { fill: #20262d; }
+.ground-rejected { fill: #ff9a57; }
+.frame { stroke: #ff9a57; }
+.record:hover .hit { fill: #a3adb8; }
+.bar .fill { stroke: #14181d; }
+.raised .fill { stroke: #d55e00; }
+.dormant .fill { stroke: #46505b; }
+.bar.dormant .said { fill: #a3adb8; }
+.mark.restart line { stroke: #ff9a57; }
+.mark.restart line.halo { stroke: #14181d; }
+.mark.lawful rect { fill: #14181d; stroke: #4fd0a5; }
+.mark.lawful text { fill: #4fd0a5; }
+.mark.unlawful rect { fill: #14181d; stroke: #ff9a57; }
+.mark.unlawful text { fill: #ff9a57; }
+.arrow .halo { stroke: #14181d; }
+.arrow.wake .way { stroke: #4fd0a5; }
+.arrow.message .way { stroke: #e3a3cd; }
+#wake-end path { fill: #4fd0a5; }
+#message-end path { fill: #e3a3cd; }
+#after rect { fill: #20262d; }
+#after path { stroke: #46505b; }
+}
+";
+
+/// The patterns and the heads of arrows, once for all pictures of a page.
+pub const DEFINITIONS: &str = "<defs>
+<pattern id=\"stripes\" width=\"7\" height=\"7\" patternUnits=\"userSpaceOnUse\" patternTransform=\"rotate(45)\"><path d=\"M0,0V7\" stroke=\"#000000\" stroke-opacity=\".25\" stroke-width=\"3\"/></pattern>
+<pattern id=\"dots\" width=\"6\" height=\"6\" patternUnits=\"userSpaceOnUse\"><circle cx=\"3\" cy=\"3\" r=\".9\" fill=\"#000000\" fill-opacity=\".3\"/></pattern>
+<pattern id=\"grid\" width=\"6\" height=\"6\" patternUnits=\"userSpaceOnUse\"><path d=\"M0,0H6M0,0V6\" stroke=\"#000000\" stroke-opacity=\".3\"/></pattern>
+<pattern id=\"after\" width=\"8\" height=\"8\" patternUnits=\"userSpaceOnUse\" patternTransform=\"rotate(45)\"><rect width=\"8\" height=\"8\"/><path d=\"M0,0V8\"/></pattern>
+<marker id=\"wake-end\" viewBox=\"0 0 8 8\" refX=\"7\" refY=\"4\" markerWidth=\"5\" markerHeight=\"5\" orient=\"auto-start-reverse\"><path d=\"M0,0L8,4L0,8z\"/></marker>
+<marker id=\"message-end\" viewBox=\"0 0 8 8\" refX=\"7\" refY=\"4\" markerWidth=\"5\" markerHeight=\"5\" orient=\"auto-start-reverse\"><path d=\"M0,0L8,4L0,8z\"/></marker>
+</defs>
+";
+
+/// The style of a page.
+pub const PAGE_STYLE: &str = "
+.page { --ink: #14181d; --paper: #ffffff; --soft: #5b6570; --ground: #f1f3f5; --line: #c3cad1; --fault: #b84300; --right: #00684b; color-scheme: light dark; }
+@media screen and (prefers-color-scheme: dark) { .page { --ink: #e9edf1; --paper: #14181d; --soft: #a3adb8; --ground: #20262d; --line: #46505b; --fault: #ff9a57; --right: #4fd0a5; } }
+body.page { margin: 0; padding: 16px 20px 40px; background: var(--paper); color: var(--ink); font: 15px/1.45 system-ui, -apple-system, 'Segoe UI', 'DejaVu Sans', sans-serif; }
+h1 { font-size: 22px; margin: 0 0 4px; }
+h2 { font-size: 17px; margin: 22px 0 6px; }
+h3 { font-size: 14px; margin: 0 0 2px; color: var(--soft); font-weight: 600; }
+code, pre { font: 13px/1.45 ui-monospace, 'DejaVu Sans Mono', monospace; }
+pre { margin: 8px 0; padding: 10px 12px; border-left: 4px solid var(--fault); background: var(--ground); white-space: pre-wrap; overflow-wrap: anywhere; }
+.lawful-run pre { border-left-color: var(--right); }
+.strips { display: flex; flex-wrap: wrap; gap: 14px 18px; align-items: flex-start; }
+.piece { max-width: 100%; }
+.strip { display: block; max-width: 100%; height: auto; }
+.key { display: flex; flex-wrap: wrap; gap: 6px 16px; margin: 10px 0 18px; padding: 0; list-style: none; font-size: 12px; }
+.key svg { vertical-align: -5px; margin-right: 5px; }
+.key .point { background: #cfe3ef; border-radius: 3px; }
+table { border-collapse: collapse; font-size: 13px; }
+caption { text-align: left; font-weight: 600; padding: 4px 0; }
+th, td { border: 1px solid var(--line); padding: 3px 7px; text-align: left; vertical-align: top; }
+td { overflow-wrap: anywhere; }
+td:nth-child(-n+3) { overflow-wrap: normal; text-align: right; }
+th { background: var(--ground); white-space: nowrap; }
+tr.rejected td, tr.broken td { background: color-mix(in srgb, var(--fault) 14%, transparent); font-weight: 600; }
+tr.after td { color: var(--soft); }
+.hidden { position: absolute; width: 0; height: 0; overflow: hidden; }
+@page { size: A4 landscape; margin: 10mm; }
+@media print { body.page { padding: 0; font-size: 11px; } .piece { break-inside: avoid; } tr { break-inside: avoid; } .strip, .key svg { print-color-adjust: exact; -webkit-print-color-adjust: exact; } }
+";
