@@ -3,10 +3,10 @@
 # the table; that the dossier is what the sources give; the program on one example through real files; every proof, every wrong
 # body of the gate's set, every test and each program as two compilers build it; the program as its users run it, with the words
 # of worked cases on standard error, on hostile texts and files, with logs of its outcomes, at a terminal, installed and packed, and
-# on many recordings; the search for orders, and the walkthrough of the guide; each allocation refused in turn that a waiting set
-# makes for its first entry; and so each of the program's, without rules, with options that ask for rules, with a rules file, with a
-# message between partitions, and with several who wait at a blackboard. At the end come the costs of each crate. The last line is
-# `N passed, 0 failed`.
+# on many recordings; the search for orders, the walkthrough of the guide, and the pictures and traces of apexview; each allocation
+# refused in turn that a waiting set makes for its first entry; and so each of the program's, without rules, with options that ask for
+# rules, with a rules file, with a message between partitions, and with several who wait at a blackboard; and each of apexview's, for a
+# page, a picture and a trace. At the end come the costs of each crate. The last line is `N passed, 0 failed`.
 #
 # `bash test.sh quick` shows without a proof, in minutes, that everything works. `bash audit.sh` tries all wrong bodies.
 set -euo pipefail
@@ -46,6 +46,8 @@ bash .ci/run_packaging "$program" "$searching"
 .ci/run_campaign "$program"
 .ci/run_orders "$searching" "$program"
 .ci/run_walkthrough "$program" "$searching"
+viewer=crates/apexview/out/apexview
+.ci/run_views "$viewer" "$program"
 bash .ci/refuse_in_test crates/part_tests/out/part_tests_tests queuing::a_refused_entry_comes_back 2
 bash .ci/refuse_allocations "$program"
 late=examples/return_too_late
@@ -56,5 +58,9 @@ message=examples/message_to_another_partition
 bash .ci/refuse_allocations "$program" --config "$message/config.toml" --order "$message/order.csv" --workers 2 "$message/core0.csv" "$message/core1.csv"
 readers=examples/blackboard_wakes_its_readers
 bash .ci/refuse_allocations "$program" --config "$readers/config.toml" --order "$readers/order.csv" --workers 2 "$readers/core0.csv"
+wake=examples/missed_wake
+for form in html svg trace; do
+    bash .ci/refuse_allocations_of_view "$viewer" --config "$wake/config.toml" --order "$wake/order.csv" --format "$form" "$wake"/core*.csv
+done
 cat "$room/times"
 tail -n 1 "$room/log"

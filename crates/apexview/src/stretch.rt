@@ -1,0 +1,243 @@
+// The stretch of a run that a picture shows.
+
+ghost use Rattle.std.specs.Prelude.{◌≡◌, ◌<◌, ◌+◌, [], IfOk, OnOk, false, length};
+ghost use Rattle.order_cert.specs.Kept.{place_of};
+ghost use Rattle.verdict_merge.specs.Rounds.{AreGoing};
+ghost use Rattle.apexview.specs.Going.{IsKept};
+ghost use Rattle.apexview.specs.Stretches.{IsWhole, KeepsSame};
+
+use crate::placed::next_placed;
+use crate::fault::{ShowFault, rejected};
+use crate::run::{Judgement, Run, Shown};
+use answer_words::Explainer;
+use apex_types::{Cause, Ordered};
+use csv_rows::TextSource;
+use module_config::Config;
+use placement::{Placer, PlacingFault};
+use report::Verdict;
+use run_view::{Lawful, lawful_of};
+use run_walk::{Refusal, Walk};
+use sarif_report::name_of_cause;
+use std::alloc::{AllocError, Global};
+use std::collections::VecDeque;
+use std::sync::Wait;
+
+/// The most records that are shown after the last one that is judged.
+const MOST_AFTER: usize = 20;
+
+/// A stretch of a run: the last records that were accepted, the pieces as they were before the first of them, the record that was
+/// rejected, and the records after it.
+#[derive(Drop)]
+pub struct Stretch {
+    pub before: Walk,
+    pub kept: VecDeque<Ordered>,
+    pub rejected: Option<Rejected>,
+    /// Whether the view of the last kept record breaks a rule.
+    pub is_broken: bool,
+    pub after: Vec<Ordered>,
+}
+
+/// A record that was rejected, and what would have been lawful.
+#[derive(Drop)]
+pub struct Rejected {
+    pub ordered: Ordered,
+    pub cause: Cause,
+    pub lawful: Vec<Lawful>,
+}
+
+impl Rejected {
+    /// The name of the cause.
+    pub fn cause_name(&self) -> &'static str {
+        name_of_cause(self.cause)
+    }
+}
+
+/// Judges a run, and keeps the requested stretch. The explainer receives what explains the end.
+pub fn gather<R: Wait, S: TextSource, C: TextSource>(
+    rt: &R,
+    alloc: Global,
+    shown: &Shown<'_>,
+    placer: &mut Placer<S, C>,
+    explainer: &mut Explainer,
+) -> Result<(Verdict, Stretch), ShowFault>
+    requires going { placer.old.ended ≡ false }
+    requires first { place_of placer.old.kept ≡ 0 }
+    requires cores { length placer.old.lanes ≡ shown.now.config.now.cores }
+    ensures { IfOk result (λ found. IsWhole shown.now.config.now found.1) }
+{
+    let mut run = Run::start(alloc, shown)?;
+    let mut stretch = Stretch::new(alloc, Walk::start(alloc, shown.config)?);
+    let mut placed = Vec::new(alloc);
+    // There are fewer places than this many rounds.
+    'records: for _ in 0..u64::MAX {
+        let Some(ordered) = next_placed(rt, placer, &mut placed)? else {
+            return Ok((run.yes(), stretch));
+        };
+        if shown.is_past(&ordered) {
+            let verdict = judge_after(
+                rt,
+                alloc,
+                &mut run,
+                ordered,
+                placer,
+                explainer,
+                &mut stretch,
+            )?;
+            return Ok((verdict, stretch));
+        }
+        let judgement = run.judge(&ordered)?;
+        match run.verdict(alloc, &ordered, &judgement, explainer) {
+            None => stretch.keep(shown, ordered)?,
+            Some(verdict) => {
+                stretch.decide(alloc, shown, &run, ordered, &judgement)?;
+                stretch.add_after(rt, alloc, placer)?;
+                return Ok((verdict, stretch));
+            }
+        }
+    }
+    Err(ShowFault::Memory)
+}
+
+// Judges the records from this one on, which are after the end of the picture. The first few of them are kept.
+fn judge_after<R: Wait, S: TextSource, C: TextSource>(
+    rt: &R,
+    alloc: Global,
+    run: &mut Run<'_>,
+    first: Ordered,
+    placer: &mut Placer<S, C>,
+    explainer: &mut Explainer,
+    stretch: &mut Stretch,
+) -> Result<Verdict, ShowFault>
+    requires going { placer.old.ended ≡ false }
+    requires pieces { AreGoing run.old.shown.now.config.now first.pos run.old.walk }
+    requires place { place_of placer.old.kept ≡ first.pos + 1 }
+    requires core { first.core < run.old.shown.now.config.now.cores }
+    requires cores { length placer.old.lanes ≡ run.old.shown.now.config.now.cores }
+    ensures { KeepsSame stretch.old stretch.new }
+{
+    let mut placed = Vec::new(alloc);
+    let mut next = first;
+    'records: for _ in 0..u64::MAX {
+        let judgement = run.judge(&next)?;
+        let verdict = run.verdict(alloc, &next, &judgement, explainer);
+        stretch.keep_after(next)?;
+        if let Some(verdict) = verdict {
+            stretch.add_after(rt, alloc, placer)?;
+            return Ok(verdict);
+        }
+        next = match next_placed(rt, placer, &mut placed)? {
+            Some(ordered) => ordered,
+            None => return Ok(run.yes()),
+        };
+    }
+    Err(ShowFault::Memory)
+}
+
+// What would have been lawful instead of a rejected record.
+fn lawful_at(
+    alloc: Global,
+    config: &Config,
+    run: &Run<'_>,
+    ordered: &Ordered,
+    refusal: &Refusal,
+) -> Result<Vec<Lawful>, AllocError> {
+    match run.walk().pieces().get(refusal.piece) {
+        Some(piece) => lawful_of(alloc, config, piece, ordered, refusal.cause),
+        None => Ok(Vec::new(alloc)),
+    }
+}
+
+impl Stretch {
+    fn new(alloc: Global, before: Walk) -> Stretch
+        ensures before { result.before ≡ before }
+        ensures kept { result.kept.items ≡ [] }
+    {
+        Stretch {
+            before,
+            kept: VecDeque::new(alloc),
+            rejected: None,
+            is_broken: false,
+            after: Vec::new(alloc),
+        }
+    }
+
+    // Keeps an accepted record. If there are then more than the span, the pieces before the stretch take the first one.
+    fn keep(&mut self, shown: &Shown<'_>, ordered: Ordered) -> Result<(), ShowFault>
+        requires kept { IsKept shown.now.config.now ordered.pos self.old.before self.old.kept.items }
+        requires core { ordered.core < shown.now.config.now.cores }
+        ensures { OnOk result (IsKept shown.now.config.now (ordered.pos + 1) self.new.before self.new.kept.items) }
+    {
+        self.kept.push_back(ordered)?;
+        if self.kept.len() <= shown.asked.span {
+            return Ok(());
+        }
+        let Some(first) = self.kept.pop_front() else {
+            return Ok(());
+        };
+        match self.before.take(shown.config, &first)? {
+            None => Ok(()),
+            Some(refusal) => Err(rejected(&first, &refusal)),
+        }
+    }
+
+    // Keeps the record that decides: a rejected one with what would have been lawful, one that breaks a rule like an accepted one.
+    fn decide(
+        &mut self,
+        alloc: Global,
+        shown: &Shown<'_>,
+        run: &Run<'_>,
+        ordered: Ordered,
+        judgement: &Judgement,
+    ) -> Result<(), ShowFault>
+        requires kept { IsKept shown.now.config.now ordered.pos self.old.before self.old.kept.items }
+        requires core { ordered.core < shown.now.config.now.cores }
+        ensures { OnOk result (IsWhole shown.now.config.now self.new) }
+    {
+        match judgement {
+            Judgement::Rejected(refusal) => {
+                let lawful = lawful_at(alloc, shown.config, run, &ordered, refusal)?;
+                self.rejected = Some(Rejected {
+                    ordered,
+                    cause: refusal.cause,
+                    lawful,
+                });
+                Ok(())
+            }
+            Judgement::Accepted => self.keep(shown, ordered),
+            Judgement::Broken { .. } => {
+                self.is_broken = true;
+                self.keep(shown, ordered)
+            }
+        }
+    }
+
+    fn keep_after(&mut self, ordered: Ordered) -> Result<(), ShowFault>
+        ensures { KeepsSame self.old self.new }
+    {
+        if self.after.len() < MOST_AFTER {
+            self.after.push(ordered)?;
+        }
+        Ok(())
+    }
+
+    // Adds the next records. If the input ends or has a fault, there are fewer.
+    fn add_after<R: Wait, S: TextSource, C: TextSource>(
+        &mut self,
+        rt: &R,
+        alloc: Global,
+        placer: &mut Placer<S, C>,
+    ) -> Result<(), ShowFault>
+        requires { placer.old.ended ≡ false }
+        ensures { KeepsSame self.old self.new }
+    {
+        let mut placed = Vec::new(alloc);
+        'records: for _ in self.after.len()..MOST_AFTER {
+            match next_placed(rt, placer, &mut placed) {
+                Ok(Some(ordered)) => self.after.push(ordered)?,
+                Err(PlacingFault::Memory) => return Err(ShowFault::Memory),
+                Ok(None) | Err(PlacingFault::Input(_)) => return Ok(()),
+            }
+        }
+        Ok(())
+    }
+}

@@ -1,0 +1,113 @@
+-- Pieces that take a record in the order of their numbers.
+use Rattle.std.proofs.Common.{below_more, ◌≡◌, ◌≢◌, ◌<◌, ◌≤◌, ◌+◌, ◌∙◌, ℕ, zero, suc, List, [], ◌∷◌, ◌++◌, Option, Some, None, true, length, set, refl, sym, ap, subst, inl, inr, arith}
+use Rattle.std.proofs.lemmas.Bool.{cases_eq}
+use Rattle.std.proofs.lemmas.List.{length-set}
+use Rattle.apex_types.specs.declared.cause.Cause.{Cause}
+use Rattle.apex_types.specs.declared.record.Ordered.{Ordered}
+use Rattle.apex_machine.specs.Configuration.{Configuration}
+use Rattle.apex_machine.specs.Demands.{FirstFails, demands}
+use Rattle.apex_machine.specs.Pieces.{Part, Piece, pieces, touches}
+use Rattle.apex_machine.specs.Runs.{Goes, PieceRun}
+use Rattle.piece_check.specs.Parts.{Holding, HoldsBefore, holder, piece_at}
+use Rattle.verdict_merge.specs.Rounds.{AllRun, AreGoing, IsGoing, IsNo, Rejects, holding_at, parts_in}
+use Rattle.run_walk.specs.declared.walk.Refusal.{Refusal}
+use Rattle.run_walk.specs.Walks.{HasTaken, Takes}
+
+-- a piece by its number, once one of them is another
+
+set_here : (holdings : List Holding) (number : ℕ) (new : Holding) → number < length holdings → holding_at (set holdings number new) number ≡ new
+set_here [] number new within = absurd (omega (arith, within))
+set_here (holding ∷ others) zero new within = refl
+set_here (holding ∷ others) (suc number) new within = set_here others number new (omega (arith, within))
+
+set_elsewhere : (holdings : List Holding) (number other : ℕ) (new : Holding) → other ≢ number → holding_at (set holdings number new) other ≡ holding_at holdings other
+set_elsewhere [] number other new apart = refl
+set_elsewhere (holding ∷ others) zero zero new apart = absurd (apart refl)
+set_elsewhere (holding ∷ others) zero (suc other) new apart = refl
+set_elsewhere (holding ∷ others) (suc number) zero new apart = refl
+set_elsewhere (holding ∷ others) (suc number) (suc other) new apart = set_elsewhere others number other new (λ same. apart (ap suc same))
+
+-- this many pieces have taken a record, and the others are as they were
+pub record HaveTaken (configuration : Configuration) (ordered : Ordered) (count : ℕ) (old new : List Holding) : Type 0 where
+  pub whole : length new ≡ length old
+  pub taken : (number : ℕ) → number < count → HasTaken configuration ordered (holding_at old number) None (holding_at new number)
+  pub left : (number : ℕ) → count ≤ number → holding_at new number ≡ holding_at old number
+
+pub none_taken : (configuration : Configuration) (ordered : Ordered) (old : List Holding) → HaveTaken configuration ordered 0 old old
+none_taken configuration ordered old = record { whole = refl; taken = λ number none. absurd (omega (arith, none)); left = λ number any. refl }
+
+-- one more piece has taken it
+pub one_taken : (configuration : Configuration) (ordered : Ordered) (count : ℕ) (old now new : List Holding) (piece : Holding) → HaveTaken configuration ordered count old now
+    → count < length now → new ≡ set now count piece → HasTaken configuration ordered (holding_at old count) None piece
+    → HaveTaken configuration ordered (count + 1) old new
+one_taken configuration ordered count old now new piece have within is has = record {
+  whole = ap length is ∙ length-set now count piece ∙ have.whole;
+  taken = below_more (λ number. HasTaken configuration ordered (holding_at old number) None (holding_at new number)) count
+      (λ number less. subst (HasTaken configuration ordered (holding_at old number) None) (sym (stays number (omega (arith, less)))) (have.taken number less))
+      (subst (HasTaken configuration ordered (holding_at old count) None) (sym (ap (λ all. holding_at all count) is ∙ set_here now count piece within)) has);
+  left = λ number above. stays number (omega (arith, above)) ∙ have.left number (omega (arith, above));
+}
+  where
+    stays : (number : ℕ) → number ≢ count → holding_at new number ≡ holding_at now number
+    stays number apart = ap (λ all. holding_at all number) is ∙ set_elsewhere now count number piece apart
+
+-- the run of a piece over a record that it has taken
+runs : (configuration : Configuration) (ordered : Ordered) (piece : Piece) (old new : Holding) → holder old.part ≡ piece → HasTaken configuration ordered old None new
+    → PieceRun configuration piece old.part (ordered ∷ []) new.part
+runs configuration ordered piece old new of has = (
+  new.part,
+  subst (λ one. Goes (touches configuration one ordered) configuration old.part ordered new.part) of has.0,
+  refl,
+)
+
+-- all pieces have taken it
+pub all_run : (configuration : Configuration) (ordered : Ordered) (old new : List Holding) → AreGoing configuration ordered.pos old
+    → HaveTaken configuration ordered (length old) old new → AllRun configuration (parts_in old) (ordered ∷ []) (parts_in new)
+all_run configuration ordered old new going have = λ number within.
+    runs configuration ordered (piece_at configuration number) (holding_at old number) (holding_at new number) (going.each number within).whose
+    (have.taken number (omega (arith, within, going.whole)))
+
+pub all_going : (configuration : Configuration) (ordered : Ordered) (old new : List Holding) → AreGoing configuration ordered.pos old
+    → HaveTaken configuration ordered (length old) old new → AreGoing configuration (ordered.pos + 1) new
+all_going configuration ordered old new going have = record {
+  whole = have.whole ∙ going.whole;
+  each = λ number within.
+      let has = have.taken number (omega (arith, within, going.whole)) in
+      record { of_module = has.2; whose = has.1 ∙ (going.each number within).whose; holds_before = has.3 };
+}
+
+-- a piece rejects it
+pub one_rejects : (configuration : Configuration) (ordered : Ordered) (number : ℕ) (cause : Cause) (old now new : List Holding) (piece : Holding) → AreGoing configuration ordered.pos old
+    → HaveTaken configuration ordered number old now → number < length now → new ≡ set now number piece
+    → HasTaken configuration ordered (holding_at old number) (Some cause) piece
+    → Takes configuration ordered old (Some (record { piece = number; cause = cause })) new
+one_rejects configuration ordered number cause old now new piece going have within is has = (
+  record {
+    before = [];
+    ordered = ordered;
+    after = [];
+    split = refl;
+    place = refl;
+    piece = there;
+    refused = ((holding_at old number).part, refl, rejects.0, rejects.1);
+    smaller = λ other less. ((holding_at now other).part, runs configuration ordered (piece_at configuration other) (holding_at old other) (holding_at now other) (going.each other (omega (arith, less, there))).whose (have.taken other less));
+    larger = λ other more other_within. ((holding_at old other).part, refl);
+  },
+  subst (λ part. Rejects configuration (piece_at configuration number) part ordered cause) (sym (stays number (let e : number ≤ number = omega arith in e))) rejects,
+  stays,
+)
+  where
+    there : number < length (pieces configuration)
+    there = omega (arith, within, have.whole, going.whole)
+
+    rejects : Rejects configuration (piece_at configuration number) (holding_at old number).part ordered cause
+    rejects = subst (λ one. Rejects configuration one (holding_at old number).part ordered cause) (going.each number there).whose has.0
+
+    stays : (other : ℕ) → number ≤ other → (holding_at new other).part ≡ (holding_at old other).part
+    stays other above =
+        elim (cases_eq other number) [
+          | inl same ↦
+              subst (λ one. (holding_at new one).part ≡ (holding_at old one).part) (sym same)
+              (ap (λ all. (holding_at all number).part) is ∙ ap (λ holding. holding.part) (set_here now number piece within) ∙ has.1)
+          | inr apart ↦ ap (λ all. (holding_at all other).part) is ∙ ap (λ holding. holding.part) (set_elsewhere now number other piece apart ∙ have.left other above)
+        ]

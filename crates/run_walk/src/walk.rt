@@ -1,0 +1,156 @@
+// The pieces of a module, which take one record after another.
+
+ghost use Rattle.std.specs.Prelude.{◌≡◌, ◌<◌, ◌+◌, IfOk, None};
+ghost use Rattle.apex_machine.specs.Views.{view_in};
+ghost use Rattle.piece_check.specs.Parts.{HoldsBefore, IsOf};
+ghost use Rattle.verdict_merge.specs.Rounds.{AreGoing};
+ghost use Rattle.run_walk.specs.Walks.{HasTaken, IsViewAt, Takes};
+
+use apex_types::{Cause, Ordered, View};
+use module_config::Config;
+use piece_check::{Piece, PieceFault};
+use std::alloc::Global;
+use std::marker::Model;
+use thiserror::Error;
+use verdict_merge::start_pieces;
+
+/// Why a walk ends before its records do.
+#[derive(Clone, Copy, Debug, PartialEq, Eq, Error)]
+pub enum WalkFault {
+    /// Memory was refused.
+    #[error("out of memory")]
+    Memory,
+}
+
+/// The piece with this number rejects a record for this cause. It is the first that does.
+#[derive(Clone, Copy, Debug, PartialEq, Eq)]
+pub struct Refusal {
+    pub piece: usize,
+    pub cause: Cause,
+}
+
+/// The pieces of a module, as the records so far have left them.
+#[derive(Drop)]
+pub struct Walk {
+    pieces: Vec<Piece>,
+}
+
+impl Model for Walk {
+    ghost use Rattle.std.specs.Prelude.{List};
+    ghost use Rattle.piece_check.specs.Parts.{Holding};
+
+    ghost Value = { List Holding };
+
+    ghost view = { λ walk. walk.pieces.items };
+}
+
+impl Walk {
+    /// The pieces before the first record.
+    ///
+    /// `Memory` if it is refused.
+    pub fn start(alloc: Global, config: &Config) -> Result<Walk, WalkFault>
+        ensures going { IfOk result (AreGoing config.now 0) }
+    {
+        match start_pieces(alloc, config) {
+            Ok(pieces) => Ok(Walk { pieces }),
+            Err(_) => Err(WalkFault::Memory),
+        }
+    }
+
+    /// The pieces, in the order of their numbers.
+    pub fn pieces(&self) -> &[Piece]
+        ensures { result.now ≡ self.now }
+    {
+        self.pieces.as_slice()
+    }
+
+    /// What a user's relation sees of the next record, before it is taken: the view of the piece that judges it. None if no piece of
+    /// this module judges it.
+    pub fn view(&self, config: &Config, ordered: &Ordered) -> Option<View>
+        requires going { AreGoing config.now ordered.now.pos self.now }
+        ensures { IsViewAt config.now self.now ordered.now result }
+    {
+        view_among(self.pieces.as_slice(), config, ordered)
+    }
+
+    /// Takes the next record: each piece that it touches takes it, or the first that rejects it is reported. That piece and those with
+    /// greater numbers are then as they were before the record.
+    ///
+    /// `Memory` if it was refused to a piece.
+    pub fn take(&mut self, config: &Config, ordered: &Ordered) -> Result<Option<Refusal>, WalkFault>
+        requires going { AreGoing config.now ordered.now.pos self.old }
+        requires core { ordered.now.core < config.now.cores }
+        ensures going { IfOk result (λ refusal. refusal ≡ None → AreGoing config.now (ordered.now.pos + 1) self.new) }
+        ensures takes { IfOk result (λ refusal. Takes config.now ordered.now self.old refusal self.new) }
+    {
+        take_in_turn(self.pieces.as_mut_slice(), config, ordered)
+    }
+}
+
+// The view that one of these pieces has of a record, if one has.
+fn view_among(pieces: &[Piece], config: &Config, ordered: &Ordered) -> Option<View>
+    requires { AreGoing config.now ordered.now.pos pieces.now }
+    ensures { IsViewAt config.now pieces.now ordered.now result }
+{
+    for piece in pieces {
+        if let Some(view) = view_of(piece, config, ordered) {
+            return Some(view);
+        }
+    }
+    None
+}
+
+// The view that a piece has of a record. A piece that the record does not touch has none.
+fn view_of(piece: &Piece, config: &Config, ordered: &Ordered) -> Option<View>
+    requires { HoldsBefore ordered.now.pos piece.now.part }
+    ensures { result ≡ view_in piece.now.part ordered.now }
+{
+    if piece.subject().is_touched(config, ordered) {
+        piece.view(ordered)
+    } else {
+        None
+    }
+}
+
+// Lets each of these pieces take a record, in the order of their numbers, up to the first that rejects it.
+fn take_in_turn(
+    pieces: &mut [Piece],
+    config: &Config,
+    ordered: &Ordered,
+) -> Result<Option<Refusal>, WalkFault>
+    requires going { AreGoing config.now ordered.now.pos pieces.old }
+    requires core { ordered.now.core < config.now.cores }
+    ensures going { IfOk result (λ refusal. refusal ≡ None → AreGoing config.now (ordered.now.pos + 1) pieces.new) }
+    ensures takes { IfOk result (λ refusal. Takes config.now ordered.now pieces.old refusal pieces.new) }
+{
+    for (number, piece) in pieces.iter_mut().enumerate() {
+        if let Some(cause) = take_one(piece, config, ordered)? {
+            return Ok(Some(Refusal {
+                piece: number,
+                cause,
+            }));
+        }
+    }
+    Ok(None)
+}
+
+// Lets a piece take a record, if the record touches it. Returns the cause if the piece rejects the record.
+fn take_one(
+    piece: &mut Piece,
+    config: &Config,
+    ordered: &Ordered,
+) -> Result<Option<Cause>, WalkFault>
+    requires core { ordered.now.core < config.now.cores }
+    requires of_module { IsOf config.now piece.old }
+    requires holds_before { HoldsBefore ordered.now.pos piece.old.part }
+    ensures { IfOk result (λ cause. HasTaken config.now ordered.now piece.old cause piece.new) }
+{
+    if !piece.subject().is_touched(config, ordered) {
+        return Ok(None);
+    }
+    match piece.step(config, ordered) {
+        Ok(()) => Ok(None),
+        Err(PieceFault::Rejected { cause, .. }) => Ok(Some(cause)),
+        Err(PieceFault::Memory) => Err(WalkFault::Memory),
+    }
+}

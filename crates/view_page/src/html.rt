@@ -1,0 +1,122 @@
+// The page around a picture.
+
+use crate::layout::Strip;
+use crate::look::Look;
+use crate::markup::Markup;
+use crate::picture::Picture;
+use crate::style::{DEFINITIONS, PAGE_STYLE, STYLE};
+use std::alloc::AllocError;
+
+/// What a page says in addition to its picture.
+#[derive(Clone, Copy)]
+pub struct PageTexts<'a> {
+    /// What the picture shows, in one sentence.
+    pub heading: &'a str,
+    /// The line of the answer.
+    pub line: &'a str,
+    /// Why the answer is not Yes; empty if it is.
+    pub explanation: &'a str,
+    /// The files, in words.
+    pub files: &'a str,
+}
+
+/// Begins a page, up to its picture.
+pub fn page_head(out: &mut Markup, texts: &PageTexts<'_>) -> Result<(), AllocError> {
+    out.mark(
+        "<!DOCTYPE html>\n<html lang=\"en\">\n<head>\n<meta charset=\"utf-8\"/>\n<meta name=\"viewport\" content=\"width=device-width\"/>\n<title>",
+    )?;
+    out.say(texts.line)?;
+    out.mark("</title>\n<style>")?;
+    out.mark(STYLE)?;
+    out.mark(PAGE_STYLE)?;
+    out.mark("</style>\n</head>\n<body class=\"page")?;
+    if texts.explanation.is_empty() {
+        out.mark(" lawful-run")?;
+    }
+    out.mark("\">\n")?;
+    tell_answer(out, texts)?;
+    out.mark("<svg class=\"hidden\" aria-hidden=\"true\">")?;
+    out.mark(DEFINITIONS)?;
+    out.mark("</svg>\n")?;
+    tell_key(out)
+}
+
+// What the picture shows, its files, and the answer with what explains it.
+fn tell_answer(out: &mut Markup, texts: &PageTexts<'_>) -> Result<(), AllocError> {
+    out.mark("<h1>")?;
+    out.say(texts.heading)?;
+    out.mark("</h1>\n<p>")?;
+    out.say(texts.files)?;
+    out.mark("</p>\n<pre>")?;
+    out.say(texts.line)?;
+    if !texts.explanation.is_empty() {
+        out.mark("\n")?;
+        out.say(texts.explanation)?;
+    }
+    out.mark("</pre>\n")
+}
+
+/// Begins a part of the picture with its heading.
+pub fn strip_heading(out: &mut Markup, picture: &Picture, strip: Strip) -> Result<(), AllocError> {
+    let first = picture.columns.get(strip.from);
+    let last = picture.columns.get(strip.to.saturating_sub(1));
+    if let (Some(first), Some(last)) = (first, last) {
+        out.mark("<h3>")?;
+        out.say(format_args!("places {} to {}", first.place.number(), last.place.number()))?;
+        out.mark("</h3>\n")?;
+    }
+    Ok(())
+}
+
+/// Ends a page.
+pub fn page_foot(out: &mut Markup) -> Result<(), AllocError> {
+    out.mark("</body>\n</html>\n")
+}
+
+/// What the key of the picture says of each look.
+const KEY: [(Look, &str); 10] = [
+    (Look::Running, "runs on a core"),
+    (Look::Raised, "runs with a priority above its own"),
+    (Look::Ready, "ready"),
+    (
+        Look::Preempted,
+        "ready, and preempted: another process took its core",
+    ),
+    (Look::Waiting, "waits"),
+    (Look::Suspended, "suspended by another process"),
+    (Look::Dormant, "dormant"),
+    (Look::Free, "object or channel"),
+    (Look::Awaited, "object or channel at which processes wait"),
+    (Look::OtherMode, "a mode other than NORMAL"),
+];
+
+// The key of the picture.
+fn tell_key(out: &mut Markup) -> Result<(), AllocError> {
+    out.mark("<ul class=\"key\">\n")?;
+    for (look, text) in KEY {
+        out.mark("<li><svg width=\"34\" height=\"18\" aria-hidden=\"true\"><g class=\"")?;
+        out.mark(look.classes())?;
+        out.mark("\"><rect class=\"fill\" x=\"2\" y=\"2\" width=\"30\" height=\"14\"/>")?;
+        if let Some(pattern) = look.pattern() {
+            out.mark("<rect class=\"pattern\" fill=\"")?;
+            out.mark(pattern)?;
+            out.mark("\" x=\"2\" y=\"2\" width=\"30\" height=\"14\"/>")?;
+        }
+        out.mark("</g></svg>")?;
+        out.mark(text)?;
+        out.mark("</li>\n")?;
+    }
+    out.mark(POINTS)?;
+    out.mark("</ul>\n")
+}
+
+/// The key of the marks and arrows.
+const POINTS: &str =
+    "<li><svg class=\"point\" width=\"18\" height=\"18\" aria-hidden=\"true\"><g class=\"mark call\"><circle cx=\"9\" cy=\"9\" r=\"4\"/></g></svg>call</li>
+<li><svg class=\"point\" width=\"18\" height=\"18\" aria-hidden=\"true\"><g class=\"mark return\"><circle cx=\"9\" cy=\"9\" r=\"4\"/></g></svg>return</li>
+<li><svg class=\"point\" width=\"18\" height=\"18\" aria-hidden=\"true\"><g class=\"mark dispatch\"><path d=\"M5,3l9,6l-9,6z\"/></g></svg>dispatch</li>
+<li><svg class=\"point\" width=\"18\" height=\"18\" aria-hidden=\"true\"><g class=\"mark tick\"><line x1=\"9\" x2=\"9\" y1=\"2\" y2=\"16\"/></g></svg>tick of a core</li>
+<li><svg width=\"34\" height=\"18\" aria-hidden=\"true\"><g class=\"arrow wake\"><path class=\"way\" d=\"M3,9L28,9\"/></g></svg>ends a wait</li>
+<li><svg width=\"34\" height=\"18\" aria-hidden=\"true\"><g class=\"arrow message\"><path class=\"way\" d=\"M3,9L28,9\"/></g></svg>a message, from its sender to its receiver</li>
+<li><code>0:1</code> is process 1 of partition 0</li>
+";

@@ -1,0 +1,119 @@
+// The shapes of which a strip is made.
+
+use crate::markup::Markup;
+use std::alloc::AllocError;
+use std::fmt::Display;
+
+/// The width of a character of a text, in pixels like all lengths here.
+pub const CHARACTER: u64 = 7;
+
+/// The free width beside the text of a bar, on both sides together and on the left, where the mark of a record can be.
+pub const INSIDE: u64 = 12;
+
+pub const BEFORE_TEXT: u64 = 9;
+
+/// The height of the band of a core's windows, in which its ticks are marked.
+pub const BAND: u64 = 14;
+
+// A rectangle of this class from one edge to another.
+pub(crate) fn tell_rect(
+    out: &mut Markup,
+    class: &'static str,
+    left: u64,
+    y: u64,
+    right: u64,
+    height: u64,
+) -> Result<(), AllocError> {
+    out.mark("<rect class=\"")?;
+    out.mark(class)?;
+    out.mark("\"")?;
+    tell_box(out, left, y, right, height)?;
+    out.mark("/>\n")
+}
+
+// Where a rectangle is.
+pub(crate) fn tell_box(
+    out: &mut Markup,
+    left: u64,
+    y: u64,
+    right: u64,
+    height: u64,
+) -> Result<(), AllocError> {
+    out.mark(" x=\"")?;
+    out.say(left)?;
+    out.mark("\" y=\"")?;
+    out.say(y)?;
+    out.mark("\" width=\"")?;
+    out.say(right.saturating_sub(left))?;
+    out.mark("\" height=\"")?;
+    out.say(height)?;
+    out.mark("\"")
+}
+
+// The size of a picture, whose points are pixels.
+pub(crate) fn tell_size(out: &mut Markup, width: u64, height: u64) -> Result<(), AllocError> {
+    out.mark(" width=\"")?;
+    out.say(width)?;
+    out.mark("\" height=\"")?;
+    out.say(height)?;
+    out.mark("\" viewBox=\"0 0 ")?;
+    out.say(width)?;
+    out.mark(" ")?;
+    out.say(height)?;
+    out.mark("\"")
+}
+
+// A text of this class, which begins at this point.
+pub(crate) fn tell_text(
+    out: &mut Markup,
+    class: &'static str,
+    x: u64,
+    y: u64,
+    text: impl Display + Drop,
+) -> Result<(), AllocError> {
+    out.mark("<text class=\"")?;
+    out.mark(class)?;
+    out.mark("\" x=\"")?;
+    out.say(x)?;
+    out.mark("\" y=\"")?;
+    out.say(y)?;
+    out.mark("\">")?;
+    out.say(text)?;
+    out.mark("</text>\n")
+}
+
+// A line from top to bottom, over a broader one in the colour of the background.
+pub(crate) fn tell_line(out: &mut Markup, x: u64, top: u64, bottom: u64) -> Result<(), AllocError> {
+    out.mark("<line class=\"halo\" x1=\"")?;
+    tell_ends(out, x, top, bottom)?;
+    out.mark("<line x1=\"")?;
+    tell_ends(out, x, top, bottom)
+}
+
+fn tell_ends(out: &mut Markup, x: u64, top: u64, bottom: u64) -> Result<(), AllocError> {
+    out.say(x)?;
+    out.mark("\" x2=\"")?;
+    out.say(x)?;
+    out.mark("\" y1=\"")?;
+    out.say(top)?;
+    out.mark("\" y2=\"")?;
+    out.say(bottom)?;
+    out.mark("\"/>")
+}
+
+// A text, or its first characters if it has more than this many.
+#[derive(Clone, Copy)]
+pub(crate) struct Fitted<'a>(pub &'a str, pub usize);
+
+impl Display for Fitted<'_> {
+    fn fmt<W: std::fmt::Write>(&self, f: &mut std::fmt::Formatter<W>) -> std::fmt::Result {
+        let count = self.0.chars().count();
+        if count <= self.1 {
+            return write!(f, "{}", self.0);
+        }
+        for character in self.0.chars().take(self.1.saturating_sub(1)) {
+            f.write_char(character)?;
+        }
+        f.write_char('…')
+    }
+}

@@ -1,0 +1,252 @@
+// The marks and the arrows of a strip.
+
+use crate::arrow::{Arrow, ArrowEnd, ArrowKind};
+use crate::lane::{Lane, Mark, MarkKind};
+use crate::layout::{LABELS, Layout, Row};
+use crate::markup::Markup;
+use crate::picture::Picture;
+use crate::shapes::{BAND, CHARACTER, Fitted, INSIDE, tell_box, tell_line};
+use std::alloc::AllocError;
+use std::fmt::Display;
+
+// The marks of a lane in the strip.
+pub(crate) fn tell_marks(
+    out: &mut Markup,
+    picture: &Picture,
+    layout: &Layout,
+    row: Row,
+    lane: &Lane,
+) -> Result<(), AllocError> {
+    let mut line = 0u64;
+    let boxes = lane.marks.iter().filter(|mark| mark.kind.is_box()).count() as u64;
+    for mark in lane.marks.iter() {
+        if !layout.has(mark.column) {
+            continue;
+        }
+        if mark.kind.is_box() {
+            let height = row.height / boxes.max(1);
+            let y = row.y.saturating_add(height.saturating_mul(line));
+            tell_box_mark(out, layout, mark, y, height)?;
+            line = line.saturating_add(1);
+        } else {
+            tell_point_mark(out, picture, layout, mark, row)?;
+        }
+    }
+    Ok(())
+}
+
+// A mark with its text in the column of the record that is rejected.
+fn tell_box_mark(
+    out: &mut Markup,
+    layout: &Layout,
+    mark: &Mark,
+    y: u64,
+    height: u64,
+) -> Result<(), AllocError> {
+    let (class, sign) = match mark.kind {
+        MarkKind::Lawful => ("mark lawful", "✓ "),
+        MarkKind::Rejected
+        | MarkKind::Unlawful
+        | MarkKind::Tick
+        | MarkKind::Dispatch
+        | MarkKind::Call
+        | MarkKind::Return
+        | MarkKind::Restart => ("mark unlawful", "✗ "),
+    };
+    let (left, right) = (
+        layout.left(mark.column).saturating_add(3),
+        layout.left(mark.column.saturating_add(1)).saturating_sub(3),
+    );
+    out.mark("<g class=\"")?;
+    out.mark(class)?;
+    out.mark("\"><rect")?;
+    tell_box(
+        out,
+        left,
+        y.saturating_add(1),
+        right,
+        height.saturating_sub(2),
+    )?;
+    out.mark("/><text class=\"said\" x=\"")?;
+    out.say(left.saturating_add(4))?;
+    out.mark("\" y=\"")?;
+    out.say(y.saturating_add(height / 2).saturating_add(4))?;
+    out.mark("\">")?;
+    out.mark(sign)?;
+    let room = right.saturating_sub(left).saturating_sub(INSIDE) / CHARACTER;
+    out.say(Fitted(mark.text.as_str(), (room as usize).saturating_sub(2)))?;
+    out.mark("</text></g>\n")
+}
+
+// A mark at the left edge of a record.
+fn tell_point_mark(
+    out: &mut Markup,
+    picture: &Picture,
+    layout: &Layout,
+    mark: &Mark,
+    row: Row,
+) -> Result<(), AllocError> {
+    out.mark("<g class=\"mark ")?;
+    out.mark(point_class(mark.kind))?;
+    out.mark("\"><title>")?;
+    out.say(mark.text.as_str())?;
+    if let Some(column) = picture.columns.get(mark.column) {
+        out.mark("\n")?;
+        out.say(column.source.as_str())?;
+    }
+    out.mark("</title>")?;
+    tell_point(out, picture, layout, mark, row)?;
+    out.mark("</g>\n")
+}
+
+// The sign of a mark at the left edge of a record.
+fn tell_point(
+    out: &mut Markup,
+    picture: &Picture,
+    layout: &Layout,
+    mark: &Mark,
+    row: Row,
+) -> Result<(), AllocError> {
+    let x = layout.left(mark.column);
+    match mark.kind {
+        MarkKind::Tick => tell_line(out, x, row.y, row.y.saturating_add(BAND)),
+        MarkKind::Restart => {
+            let bottom = foot_of_partition(picture, layout, row);
+            tell_line(out, x, row.y.saturating_sub(4), bottom)
+        }
+        MarkKind::Dispatch => {
+            let middle = row.middle().saturating_add(7);
+            out.mark("<path d=\"M")?;
+            out.say(format_args!("{x},{}", middle.saturating_sub(6)))?;
+            out.mark("l9,6l-9,6z\"/>")
+        }
+        MarkKind::Call
+        | MarkKind::Return
+        | MarkKind::Rejected
+        | MarkKind::Lawful
+        | MarkKind::Unlawful => {
+            out.mark("<circle r=\"3.5\" cx=\"")?;
+            out.say(x)?;
+            out.mark("\" cy=\"")?;
+            out.say(row.y.saturating_add(row.height).saturating_sub(5))?;
+            out.mark("\"/>")
+        }
+    }
+}
+
+// Where the last lane of the partition of this lane ends.
+fn foot_of_partition(picture: &Picture, layout: &Layout, row: Row) -> u64 {
+    let part = match picture.lanes.get(row.lane) {
+        Some(lane) => lane.key.partition(),
+        None => None,
+    };
+    let mut foot = row.y.saturating_add(row.height);
+    for other in layout.rows.iter() {
+        if let Some(lane) = picture.lanes.get(other.lane) {
+            if lane.key.partition() == part {
+                foot = foot.max(other.y.saturating_add(other.height));
+            }
+        }
+    }
+    foot
+}
+
+fn point_class(kind: MarkKind) -> &'static str {
+    match kind {
+        MarkKind::Tick => "tick",
+        MarkKind::Dispatch => "dispatch",
+        MarkKind::Call => "call",
+        MarkKind::Return => "return",
+        MarkKind::Restart => "restart",
+        MarkKind::Rejected | MarkKind::Unlawful => "unlawful",
+        MarkKind::Lawful => "lawful",
+    }
+}
+
+// An arrow, as far as it is in the strip.
+pub(crate) fn tell_arrow(
+    out: &mut Markup,
+    picture: &Picture,
+    layout: &Layout,
+    arrow: &Arrow,
+) -> Result<(), AllocError> {
+    let (Some((left, begins)), Some((right, ends))) = (
+        x_of(layout, &arrow.from),
+        x_of(layout, &arrow.to),
+    ) else {
+        return Ok(());
+    };
+    if !begins && !ends {
+        return Ok(());
+    }
+    let (Some(from), Some(to)) = (
+        layout.row(picture, &arrow.from.lane),
+        layout.row(picture, &arrow.to.lane),
+    ) else {
+        return Ok(());
+    };
+    let way = Way {
+        kind: arrow.kind,
+        from: (left, from.middle()),
+        to: (right, to.middle()),
+    };
+    tell_way(out, arrow, way)
+}
+
+// An arrow along this path.
+fn tell_way(out: &mut Markup, arrow: &Arrow, way: Way) -> Result<(), AllocError> {
+    let (class, title) = match arrow.kind {
+        ArrowKind::Wake => ("arrow wake", "ends its wait"),
+        ArrowKind::Message => ("arrow message", "the message"),
+    };
+    out.mark("<g class=\"")?;
+    out.mark(class)?;
+    out.mark("\"><title>")?;
+    out.mark(title)?;
+    out.say(format_args!(
+        ": from place {} to place {}",
+        arrow.from.place, arrow.to.place
+    ))?;
+    out.mark("</title><path class=\"halo\" d=\"")?;
+    out.say(way)?;
+    out.mark("\"/><path class=\"way\" d=\"")?;
+    out.say(way)?;
+    out.mark("\"/></g>\n")
+}
+
+// The path of an arrow, from one point to another.
+#[derive(Clone, Copy)]
+struct Way {
+    kind: ArrowKind,
+    from: (u64, u64),
+    to: (u64, u64),
+}
+
+impl Display for Way {
+    fn fmt<W: std::fmt::Write>(&self, f: &mut std::fmt::Formatter<W>) -> std::fmt::Result {
+        let ((left, top), (right, bottom)) = (self.from, self.to);
+        match self.kind {
+            ArrowKind::Wake => {
+                let x = left.saturating_add(5);
+                write!(f, "M{x},{top}L{x},{bottom}")
+            }
+            ArrowKind::Message => {
+                let middle = left.saturating_add(right) / 2;
+                write!(
+                    f,
+                    "M{left},{top}C{middle},{top} {middle},{bottom} {right},{bottom}"
+                )
+            }
+        }
+    }
+}
+
+// Where an end of an arrow is, and whether it is in the strip; otherwise it is at the nearer edge. None if it is further away.
+fn x_of(layout: &Layout, end: &ArrowEnd) -> Option<(u64, bool)> {
+    match end.column {
+        None => Some((LABELS, false)),
+        Some(column) if column < layout.strip.from => Some((LABELS, false)),
+        Some(column) if column >= layout.strip.to => { Some((layout.left(layout.strip.to), false)) }
+        Some(column) => Some((layout.left(column), true)),
+    }
+}

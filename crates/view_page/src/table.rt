@@ -1,0 +1,58 @@
+// The table of the records of a picture.
+
+use crate::column::{Column, Status};
+use crate::layout::Strip;
+use crate::markup::Markup;
+use crate::picture::Picture;
+use std::alloc::AllocError;
+
+/// Begins the table.
+pub fn table_head(out: &mut Markup) -> Result<(), AllocError> {
+    out.mark(
+        "<h2>The same as a table</h2>\n<table>\n<caption>The records in their order, and what each changed</caption>\n<thead><tr><th scope=\"col\">Place</th><th scope=\"col\">Core</th><th scope=\"col\">Time</th><th scope=\"col\">Record</th><th scope=\"col\">What it changed</th><th scope=\"col\">File, line and row</th></tr></thead>\n<tbody>\n",
+    )
+}
+
+/// Adds the rows of these records.
+pub fn tell_rows(out: &mut Markup, picture: &Picture, strip: Strip) -> Result<(), AllocError> {
+    for index in strip.from..strip.to {
+        if let Some(column) = picture.columns.get(index) {
+            tell_row(out, column)?;
+        }
+    }
+    Ok(())
+}
+
+/// Ends the table.
+pub fn table_foot(out: &mut Markup) -> Result<(), AllocError> {
+    out.mark("</tbody>\n</table>\n")
+}
+
+fn tell_row(out: &mut Markup, column: &Column) -> Result<(), AllocError> {
+    out.mark(match column.status {
+        Status::Accepted => "<tr>",
+        Status::Rejected => "<tr class=\"rejected\" id=\"fault\">",
+        Status::Broken => "<tr class=\"broken\" id=\"fault\">",
+        Status::After | Status::Beyond => "<tr class=\"after\">",
+    })?;
+    out.mark("<td>")?;
+    out.say(column.place.number())?;
+    out.mark("</td><td>")?;
+    out.say(column.core.number())?;
+    out.mark("</td><td>")?;
+    if let Some(time) = column.time {
+        out.say(time)?;
+    }
+    out.mark("</td><td>")?;
+    out.say(column.words.as_str())?;
+    out.mark("</td><td>")?;
+    match column.status {
+        Status::Accepted | Status::Broken => out.say(column.changes.as_str())?,
+        Status::Rejected => out.mark("rejected")?,
+        Status::After => out.mark("not judged")?,
+        Status::Beyond => out.mark("not shown")?,
+    }
+    out.mark("</td><td>")?;
+    out.say(column.source.as_str())?;
+    out.mark("</td></tr>\n")
+}
