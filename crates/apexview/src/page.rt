@@ -313,7 +313,7 @@ fn write_svg<W: Sink>(
         y = tell_strip(&mut out, picture, *strip, y)?;
         put(output, &mut out)?;
     }
-    svg_foot(&mut out, texts, y)?;
+    svg_foot(&mut out, picture, texts, y)?;
     put(output, &mut out)
 }
 
