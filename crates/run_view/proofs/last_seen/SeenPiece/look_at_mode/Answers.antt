@@ -1,0 +1,11 @@
+use Rattle.std.proofs.Common.{ap, refl, ◌∙◌}
+use Rattle.run_view.specs.Changes.{IsOfPartition}
+use Rattle.run_view.proofs.Adding.{adds_it_on_ok, adds_none}
+use Rattle.run_view.proofs.last_seen.SeenPiece.look_at_mode.Goals as goal
+
+pub returns-then-eq : goal.returns-then-eq
+returns-then-eq c = adds_none (IsOfPartition c.args.part c.args.state.now) c.args.changes.now.items
+
+pub returns-else-eq : goal.returns-else-eq
+returns-else-eq c =
+    adds_it_on_ok {IsSo = IsOfPartition c.args.part c.args.state.now} c.add.result _ c.add.ensures (refl, c.mode.ensures ∙ ap (λ table. table.mode) c.processes.ensures)
