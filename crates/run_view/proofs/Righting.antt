@@ -61,7 +61,7 @@ puts_right woken named ended first second none one two exactly empty of_ended of
   ended,
   exactly,
   twice
-  ∙ ap (λ (list : List Lawful). list ++ all_put_right woken named second)
+      ∙ ap (λ (list : List Lawful). list ++ all_put_right woken named second)
       (once ∙ ap (λ (list : List Lawful). list ++ all_put_right woken named first) empty ∙ ap (λ (list : List Who). all_put_right woken named list) of_ended)
-  ∙ ap (λ (list : List Who). all_put_right woken named ended ++ all_put_right woken named list) of_named,
+      ∙ ap (λ (list : List Who). all_put_right woken named ended ++ all_put_right woken named list) of_named,
 )

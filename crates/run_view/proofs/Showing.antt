@@ -58,7 +58,7 @@ pub buffer_shown : (name : List ℕ) (size : ℕ) (queue : Queue) (buffer : Buff
 buffer_shown name size queue buffer view is receiving shown =
     let disciplined : queue.receivers.discipline ≡ queue.senders.discipline = receiving ∙ sym (ap (λ (one : Buffer). one.discipline) is) in
     let waits : view.waiters.items ≡ all_in_turn queue.senders.discipline queue.receivers.entries =
-        shown.3 ∙ ap (λ discipline. all_in_turn discipline queue.receivers.entries) disciplined in
+    shown.3 ∙ ap (λ discipline. all_in_turn discipline queue.receivers.entries) disciplined in
     subst (λ one. ShowsBuffer one view) is (shown.0, shown.1, shown.2, waits)
 
 -- a queuing channel is shown as its queue is

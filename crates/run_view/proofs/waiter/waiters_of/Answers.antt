@@ -26,15 +26,15 @@ waiters-preserved c =
     let count = length c.args.set.now.entries - (c.waiters._turn + 1) in
     let less : c.waiters._turn < length c.args.set.now.entries = omega (arith, c.waiters-test.true, c.len-turn-end.ensures.len) in
     let first : Some entry ≡ first_waiter discipline entries =
-        subst (λ (one : Discipline). Some entry ≡ first_waiter one entries) c.waiters.invariant.discipline c.in-Some.ensures.first in
+    subst (λ (one : Discipline). Some entry ≡ first_waiter one entries) c.waiters.invariant.discipline c.in-Some.ensures.first in
     let rest : c.take_first.new.self.entries ≡ without_first discipline entries =
-        subst (λ (one : Discipline). c.take_first.new.self.entries ≡ without_first one entries) c.waiters.invariant.discipline
-        (ap (λ (one : Waiters). one.entries) c.in-Some.ensures.taken) in
+    subst (λ (one : Discipline). c.take_first.new.self.entries ≡ without_first one entries) c.waiters.invariant.discipline
+    (ap (λ (one : Waiters). one.entries) c.in-Some.ensures.taken) in
     record {
       discipline = ap (λ (one : Waiters). one.discipline) c.in-Some.ensures.taken ∙ c.waiters.invariant.discipline;
       shown =
           ap (λ (items : List Waiter). items ++ first_in_turn count discipline c.take_first.new.self.entries) c.in_ok-push.ensures.items
           ∙ ap (λ (left : List Entry). (c.waiters.waiters.items ++ shown entry ∷ []) ++ first_in_turn count discipline left) rest
           ∙ next_turn c.waiters.waiters.items (length c.args.set.now.entries) c.waiters._turn discipline entries entry (in_turn c.args.set.now) less first
-              c.waiters.invariant.shown;
+          c.waiters.invariant.shown;
     }

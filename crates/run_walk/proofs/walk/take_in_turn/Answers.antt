@@ -11,8 +11,8 @@ loop-number-init c = none_taken c.args.config.now c.args.ordered.now c.args.piec
 pub take_one-requires : goal.take_one-requires
 take_one-requires c =
     let going =
-        may_take c.args.config.now c.args.ordered.now c.loop-number.number c.args.pieces.now c.loop-number.pieces c.loop-number-item.result c.requires.going c.loop-number.invariant
-        c.loop-number-test.true c.loop-number-item.is in
+    may_take c.args.config.now c.args.ordered.now c.loop-number.number c.args.pieces.now c.loop-number.pieces c.loop-number-item.result c.requires.going c.loop-number.invariant
+    c.loop-number-test.true c.loop-number-item.is in
     record { core = c.requires.core; of_module = going.of_module; holds_before = going.holds_before }
 
 pub returns-in-Some : goal.returns-in-Some

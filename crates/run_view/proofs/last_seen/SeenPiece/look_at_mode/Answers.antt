@@ -1,4 +1,4 @@
-use Rattle.std.proofs.Common.{ap, refl, ◌∙◌}
+use Rattle.std.proofs.Common.{refl}
 use Rattle.run_view.specs.Changes.{IsOfPartition}
 use Rattle.run_view.proofs.Adding.{adds_it_on_ok, adds_none}
 use Rattle.run_view.proofs.last_seen.SeenPiece.look_at_mode.Goals as goal
@@ -8,4 +8,4 @@ returns-then-eq c = adds_none (IsOfPartition c.args.part c.args.state.now) c.arg
 
 pub returns-else-eq : goal.returns-else-eq
 returns-else-eq c =
-    adds_it_on_ok {IsSo = IsOfPartition c.args.part c.args.state.now} c.add.result _ c.add.ensures (refl, c.mode.ensures ∙ ap (λ table. table.mode) c.processes.ensures)
+    adds_it_on_ok {IsSo = IsOfPartition c.args.part c.args.state.now} c.add.result _ c.add.ensures (refl, rw c.processes.ensures at c.mode.ensures)
