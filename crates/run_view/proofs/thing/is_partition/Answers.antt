@@ -4,5 +4,5 @@ use Rattle.run_view.proofs.thing.is_partition.Goals as goal
 
 pub returns-in-Partition : goal.returns-in-Partition
 returns-in-Partition c = λ kind object.
-    ap (λ one. nat_eq one c.number-2.result) c.number.ensures ∙ ap (λ one. nat_eq c.in-Partition.number one) c.number-2.ensures
+    ap (λ one. nat_eq one c.number-in-Partition.result) c.number.ensures ∙ ap (λ one. nat_eq c.in-Partition.number one) c.number-in-Partition.ensures
     ∙ holds_object c.args.piece.now.part c.in-Partition.number c.args.part kind object c.in-Partition.ensures
