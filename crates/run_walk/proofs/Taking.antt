@@ -1,18 +1,17 @@
 -- Pieces that take a record in the order of their numbers.
-use Rattle.std.proofs.Common.{below_more, ◌≡◌, ◌≢◌, ◌<◌, ◌≤◌, ◌+◌, ◌∙◌, ℕ, zero, suc, List, [], ◌∷◌, ◌++◌, Option, Some, None, Bool, true, false, length, get_or, set, refl, sym, ap, subst, inl, inr, arith}
+use Rattle.std.proofs.Common.{below_more, ◌≡◌, ◌≢◌, ◌<◌, ◌≤◌, ◌+◌, ◌∙◌, ℕ, zero, suc, List, [], ◌∷◌, Some, None, true, false, length, get_or, set, refl, sym, ap, subst, inl, inr, arith}
 use Rattle.std.proofs.lemmas.Bool.{cases_eq}
 use Rattle.std.proofs.lemmas.List.{length-set}
 use Rattle.apex_types.specs.declared.cause.Cause.{Cause}
 use Rattle.apex_types.specs.declared.record.Ordered.{Ordered}
 use Rattle.apex_machine.specs.Configuration.{Configuration}
 use Rattle.apex_machine.specs.Demands.{FirstFails, LocalStep, demands}
-use Rattle.apex_machine.specs.Pieces.{Part, Piece, pieces, touches}
+use Rattle.apex_machine.specs.Pieces.{Piece, pieces, touches}
 use Rattle.apex_machine.specs.Runs.{Goes, PieceRun}
 use Rattle.piece_check.proofs.Parting.{HoldsBefore_later}
 use Rattle.piece_check.specs.Parts.{Holding, HoldsBefore, IsOf, holder, piece_at}
 use Rattle.verdict_merge.proofs.Holdings.{holding_at-get}
-use Rattle.verdict_merge.specs.Rounds.{AllRun, AreGoing, IsGoing, IsNo, Rejects, holding_at, parts_in}
-use Rattle.run_walk.specs.declared.walk.Refusal.{Refusal}
+use Rattle.verdict_merge.specs.Rounds.{AllRun, AreGoing, IsGoing, Rejects, holding_at, parts_in}
 use Rattle.run_walk.specs.Walks.{HasTaken, Takes}
 
 -- a piece by its number, once one of them is another

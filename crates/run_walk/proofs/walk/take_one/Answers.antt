@@ -1,7 +1,6 @@
 -- A piece that a record touches takes it or rejects it; any other piece is as it was.
-use Rattle.std.proofs.Common.{◌≡◌, ◌∙◌, true, ap, sym}
+use Rattle.std.proofs.Common.{◌∙◌, ap, sym}
 use Rattle.apex_machine.specs.Pieces.{Piece, touches}
-use Rattle.piece_check.specs.Parts.{holder}
 use Rattle.run_walk.proofs.Taking.{passed, rejected, stepped}
 use Rattle.run_walk.proofs.walk.take_one.Goals as goal
 
