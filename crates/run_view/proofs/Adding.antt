@@ -43,15 +43,9 @@ on_ok_always (Ok value) holds = holds
 on_ok_always (Err fault) holds = tt
 
 -- one change is added if a call returns
-pub adds_it_on_ok : {T E : Type 0} {IsSo : Change → Type 0} {old new : List Change} (result : Result T E) (change : Change) → OnOk result (new ≡ old ++ change ∷ []) → IsSo change
+pub adds_it_on_ok : {T E : Type 0} (IsSo : Change → Type 0) (result : Result T E) (old new : List Change) (change : Change) → OnOk result (new ≡ old ++ change ∷ []) → IsSo change
     → OnOk result (AddsOnly IsSo old new)
-adds_it_on_ok {IsSo = IsSo} {old = old} {new = new} result change is holds = on_ok_weaker result (λ (so : new ≡ old ++ change ∷ []). adds_it {IsSo = IsSo} {old = old} {new = new} change so holds) is
-
--- so is another one after these
-pub adds_one_on_ok : {T E : Type 0} {IsSo : Change → Type 0} {old now new : List Change} (result : Result T E) (change : Change) → AddsOnly IsSo old now → OnOk result (new ≡ now ++ change ∷ [])
-    → IsSo change → OnOk result (AddsOnly IsSo old new)
-adds_one_on_ok {IsSo = IsSo} {old = old} {now = now} {new = new} result change adds is holds =
-    on_ok_weaker result (λ (so : new ≡ now ++ change ∷ []). adds_one {IsSo = IsSo} {old = old} {now = now} {new = new} {change = change} adds so holds) is
+adds_it_on_ok IsSo result old new change is holds = on_ok_weaker result (λ (so : new ≡ old ++ change ∷ []). adds_it {IsSo = IsSo} {old = old} {new = new} change so holds) is
 
 -- a core is shown as the clock has it
 pub core_is : (configuration : Configuration) (cores : List CoreState) (core : ℕ) (view : CoreView) → view ≡ shown_core configuration cores core

@@ -12,9 +12,9 @@ returns-in-AsSeen c = λ partition there. adds_none (IsOfPartition c.args.part p
 pub returns-in-Changed : goal.returns-in-Changed
 returns-in-Changed c =
     on_ok_weaker c.add.result
-    (λ so partition there. adds_it {IsSo = IsOfPartition c.args.part partition} _ so (c.args.process.now, there, refl, c.process_view.ensures)) c.add.ensures
+    (λ so partition there. adds_it {IsSo = IsOfPartition c.args.part partition} _ so (c.args.process.now, there, refl, c.process_view-view.ensures)) c.add.ensures
 
 pub returns-in-Replaces : goal.returns-in-Replaces
 returns-in-Replaces c =
     on_ok_weaker c.add_both.result
-    (λ so partition there. adds_both {IsSo = IsOfPartition c.args.part partition} _ _ so refl (c.args.process.now, there, refl, c.process_view.ensures)) c.add_both.ensures
+    (λ so partition there. adds_both {IsSo = IsOfPartition c.args.part partition} _ _ so refl (c.args.process.now, there, refl, c.process_view-view.ensures)) c.add_both.ensures

@@ -8,5 +8,5 @@ loop-number-init c = adds_none (IsOfOne c.args.config.now c.args.pieces.now) c.a
 
 pub loop-number-preserved : goal.loop-number-preserved
 loop-number-preserved c =
-    adds_of_piece c.args.config.now c.args.pieces.now c.loop-number.number c.loop-number-item.result _ _ _ c.loop-number-test.true c.loop-number-item.is c.loop-number.invariant
+    adds_of_piece c.args.config.now c.args.pieces.now c.loop-number.number c.index-pieces-number.result _ _ _ c.loop-number-test.true c.index-pieces-number.is c.loop-number.invariant
     c.in_ok-look_if_touched.ensures
