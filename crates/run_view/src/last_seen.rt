@@ -199,29 +199,29 @@ fn look_at_core(
 fn add_both(changes: &mut Vec<Change>, first: Change, second: Change) -> Result<(), AllocError>
     ensures { OnOk result (changes.new.items ≡ changes.old.items ++ first ∷ second ∷ []) }
 {
-    add(changes, first)?;
-    changes.push(second)?;
-    Ok(())
+    changes.extend_from_slice(&[first, second])
 }
 
 // Adds a change.
 fn add(changes: &mut Vec<Change>, change: Change) -> Result<(), AllocError>
     ensures { OnOk result (changes.new.items ≡ changes.old.items ++ change ∷ []) }
 {
-    changes.push(change)?;
-    Ok(())
+    changes.extend_from_slice(&[change])
 }
 
 // Keeps what is now seen of a core, and returns whether it is new.
 fn sees_core(seen: &mut Vec<CoreView>, index: usize, view: &CoreView) -> Result<bool, AllocError> {
-    if index >= seen.len() {
-        seen.push(*view)?;
-        return Ok(true);
+    match seen.get_mut(index) {
+        Some(last) => {
+            let is_new = *last != *view;
+            *last = *view;
+            Ok(is_new)
+        }
+        None => {
+            seen.push(*view)?;
+            Ok(true)
+        }
     }
-    let last = &mut seen[index];
-    let is_new = *last != *view;
-    *last = *view;
-    Ok(is_new)
 }
 
 impl SeenPiece {
