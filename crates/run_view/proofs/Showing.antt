@@ -1,19 +1,17 @@
 -- What is shown of objects and channels.
-use Rattle.std.proofs.Common.{◌≡◌, ◌∙◌, ℕ, List, [], Option, Some, None, Result, false, true, nat_eq, refl, sym, ap, subst}
+use Rattle.std.proofs.Common.{◌≡◌, ◌∙◌, ℕ, List, [], Option, Some, None, Result, true, nat_eq, refl, sym, ap, subst}
 use Rattle.std.specs.List.{find}
-use Rattle.std.specs.Option.{option_map}
 use Rattle.apex_types.specs.declared.discipline.Discipline.{Discipline}
 use Rattle.apex_machine.specs.declared.state.Entry.{Entry}
-use Rattle.apex_machine.specs.State.{Buffer, Content, Stamped, Queued, Sampled, item_at}
+use Rattle.apex_machine.specs.State.{Buffer, Content, Queued, Sampled, item_at}
 use Rattle.wait_set.specs.Sets.{Waiters}
 use Rattle.run_view.specs.declared.waiter.Waiter.{Waiter}
 use Rattle.run_view.specs.Waiters.{in_turn}
 use Rattle.buffer.specs.Buffers.{buffer_of}
-use Rattle.channel.specs.Held.{Held, Settings}
+use Rattle.channel.specs.Held.{Held}
 use Rattle.channel.specs.Kinds.{is_sampled, last_written, queuing_held}
 use Rattle.message_queue.specs.Queues.{Queue}
 use Rattle.piece_check.specs.Parts.{Holding}
-use Rattle.run_view.specs.declared.thing.Contents.{Contents}
 use Rattle.run_view.specs.declared.thing.ThingKey.{ThingKey}
 use Rattle.run_view.specs.declared.thing.ThingView.{ThingView}
 use Rattle.std.specs.Borrow.{Bor}
@@ -27,7 +25,7 @@ use Rattle.piece_check.specs.Parts.{holder}
 use Rattle.piece_check.specs.Seen.{IsSeen}
 use Rattle.run_view.specs.declared.thing.ThingKey.TheVariants as key
 use Rattle.run_view.proofs.Parts.{channel_seen, partition_seen}
-use Rattle.run_view.specs.Things.{AreAll, Shows, ShowsBuffer, ShowsChannel, ShowsHeld, ShowsIn, ShowsInOne, ShowsObject, ShowsPlain, ShowsQueued, ShowsSample, ShowsThing, all_in_turn, holds}
+use Rattle.run_view.specs.Things.{AreAll, Shows, ShowsBuffer, ShowsChannel, ShowsHeld, ShowsIn, ShowsInOne, ShowsObject, ShowsQueued, ShowsSample, ShowsThing, all_in_turn, holds}
 
 -- nothing is shown of an object that does not exist
 pub shows_none : {Object : Type 0} (Shown : Object → ThingView → Type 0) (found : Option Object) → None ≡ found → Shows Shown found None

@@ -1,7 +1,6 @@
 -- What is added is of this process, and of the one that it replaces.
-use Rattle.std.proofs.Common.{◌≡◌, ◌∷◌, ◌++◌, [], refl}
+use Rattle.std.proofs.Common.{refl}
 use Rattle.std.proofs.lemmas.Result.{on_ok_weaker}
-use Rattle.apex_machine.specs.State.{Partition}
 use Rattle.run_view.specs.Changes.{IsOfPartition}
 use Rattle.run_view.proofs.Adding.{adds_both, adds_it, adds_none}
 use Rattle.run_view.proofs.last_seen.look_at_process.Goals as goal

@@ -1,10 +1,9 @@
 -- The processes of the partition, in the order of their creation.
-use Rattle.std.proofs.Common.{◌≡◌, ◌≤◌, ◌∙◌, ◌++◌, ◌+◌, ◌-◌, [], Option, ap, arith, length, refl}
-use Rattle.apex_machine.specs.State.{Table}
+use Rattle.std.proofs.Common.{◌≡◌, ◌≤◌, ◌∙◌, ◌++◌, ◌+◌, [], Option, ap, arith, length, refl}
 use Rattle.piece_check.specs.declared.misnaming.Misnaming.{Misnaming}
 use Rattle.piece_check.specs.Evidence.{misnamed_at_tick}
 use Rattle.run_view.specs.Lawful.{if_misnamed}
-use Rattle.run_view.proofs.Righting.{all_at_tick, got, no_more, not_at_tick, one_more}
+use Rattle.run_view.proofs.Righting.{all_at_tick, got, not_at_tick, one_more}
 use Rattle.run_view.proofs.lawful.put_right_at_tick.Goals as goal
 use Rattle.run_view.proofs.lawful.put_right_at_tick.Goals.{else-loop-index-test, then-loop-index-test+in-Some+in_ok-add_misnamed+else-index-index-end}
 
