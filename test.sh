@@ -35,19 +35,20 @@ if ! .ci/time_by_crate "$room/times" rt ci | tee "$room/log"; then
 fi
 program=crates/apexcheck/out/apexcheck
 searching=crates/apexorder/out/apexorder
+viewer=crates/apexview/out/apexview
 bash .ci/run_wrong_cases crates/case_runner/out/case_runner
 bash .ci/run_examples "$program"
 bash .ci/run_explanations "$program"
 .ci/run_said "$program"
 .ci/run_sarif "$program"
 .ci/run_terminal "$program"
-bash .ci/run_hostile "$program"
-bash .ci/run_packaging "$program" "$searching"
+bash .ci/run_hostile "$program" "$viewer"
+bash .ci/run_packaging "$program" "$searching" "$viewer"
 .ci/run_campaign "$program"
 .ci/run_orders "$searching" "$program"
-.ci/run_walkthrough "$program" "$searching"
-viewer=crates/apexview/out/apexview
+.ci/run_walkthrough "$program" "$searching" "$viewer"
 .ci/run_views "$viewer" "$program"
+tools/pictures --check "$viewer" "$searching"
 bash .ci/refuse_in_test crates/part_tests/out/part_tests_tests queuing::a_refused_entry_comes_back 2
 bash .ci/refuse_allocations "$program"
 late=examples/return_too_late

@@ -46,7 +46,7 @@ text_of Unopened = codes "REFUSED open\n"
 text_of (BadRules which) = codes "REFUSED rules fault=" ++ (rule_fault_name which ++ codes "\n")
 text_of (BadRule number which) =
     codes "REFUSED rules rule=" ++ (decimal number ++ (codes " fault=" ++ (rule_fault_name which ++ codes "\n")))
-text_of Version = codes "apexcheck 0.1.0\n"
+text_of Version = codes "apexcheck 1.0.0\n"
 
 -- the end by a lack of memory before the check, which counts as the check's own, and after which nothing is reported
 abbrev pub out_of_memory : Ending

@@ -117,7 +117,7 @@ pub fn write_ending<W: Sink>(w: &mut W, ending: &Ending) -> Result<(), WriteFaul
         Ending::Unopened => put_all(w, b"REFUSED open\n"),
         Ending::BadRules(fault) => write_bad_rules(w, *fault),
         Ending::BadRule { rule, fault } => write_bad_rule(w, *rule, *fault),
-        Ending::Version => put_all(w, b"apexcheck 0.1.0\n"),
+        Ending::Version => put_all(w, b"apexcheck 1.0.0\n"),
     }
 }
 

@@ -16,7 +16,7 @@ use std::io::{ErrorKind, Read, Write};
 use std::{fs, io};
 
 /// The version of the program that wrote a log.
-const VERSION: &str = "0.1.0";
+const VERSION: &str = "1.0.0";
 
 /// The most records before a place that are shown.
 const MOST_EARLIER: usize = 8;

@@ -58,7 +58,7 @@ fn run<R: Files<File = File> + Clock + Print + Eprint + AllocGlobal>(
 ) -> Ending {
     match asked {
         Ok(Asked::Order(asked)) => propose_for(rt, alloc, asked, seen),
-        Ok(Asked::Version) => match rt.println("apexorder 0.1.0") {
+        Ok(Asked::Version) => match rt.println("apexorder 1.0.0") {
             Ok(()) => Ending::Version,
             Err(_) => Ending::Unwritten,
         },

@@ -61,7 +61,7 @@ where
     ensures refused { IfErr asked.now (λ fault. result ≡ refused_words fault) }
 {
     match asked {
-        Ok(Asked::Version) => match put_all(output, b"apexview 0.1.0\n") {
+        Ok(Asked::Version) => match put_all(output, b"apexview 1.0.0\n") {
             Ok(()) => Ending::Version,
             Err(_) => Ending::Unwritten,
         },

@@ -233,20 +233,20 @@ impl<'a> Drawing<'a> {
         ensures config { IfOk result (λ drawing. drawing.config.now ≡ config.now) }
         ensures walk { IfOk result (λ drawing. drawing.walk ≡ walk) }
     {
-        let mut drawing = Drawing {
+        let mut seen = LastSeen::new(alloc);
+        let mut changes = Vec::new(alloc);
+        let mut picture = Picture::new(alloc);
+        let pieces = walk.pieces();
+        seen.look(config, pieces, None, &mut changes)?;
+        picture.begin(pieces, changes.as_slice())?;
+        Ok(Drawing {
             config,
             walk,
-            seen: LastSeen::new(alloc),
+            seen,
             links: MessageLinks::new(alloc),
-            changes: Vec::new(alloc),
-            picture: Picture::new(alloc),
-        };
-        let pieces = drawing.walk.pieces();
-        drawing
-            .seen
-            .look(config, pieces, None, &mut drawing.changes)?;
-        drawing.picture.begin(pieces, drawing.changes.as_slice())?;
-        Ok(drawing)
+            changes,
+            picture,
+        })
     }
 
     // The picture of the records so far.
@@ -313,7 +313,7 @@ fn write_svg<W: Sink>(
         y = tell_strip(&mut out, picture, *strip, y)?;
         put(output, &mut out)?;
     }
-    svg_foot(&mut out, texts, y)?;
+    svg_foot(&mut out, picture, texts, y)?;
     put(output, &mut out)
 }
 

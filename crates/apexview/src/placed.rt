@@ -1,6 +1,6 @@
 // The next record at its place.
 
-ghost use Rattle.std.specs.Prelude.{◌≡◌, ◌<◌, ◌×◌, IfOk, IfSome, false, length, suc};
+ghost use Rattle.std.specs.Prelude.{◌≡◌, ◌<◌, IfOk, IfSome, false, length, suc};
 ghost use Rattle.order_cert.specs.Kept.{place_of};
 
 use apex_types::Ordered;
@@ -25,6 +25,9 @@ pub fn next_placed<R: Wait, S: TextSource, C: TextSource>(
     if placed.try_reserve(1).is_err() {
         return Err(PlacingFault::Memory);
     }
-    let is_placed = placer.next_into(rt, placed)?;
-    Ok(if is_placed { placed.pop() } else { None })
+    match placer.next_into(rt, placed) {
+        Ok(true) => Ok(placed.pop()),
+        Ok(false) => Ok(None),
+        Err(fault) => Err(fault),
+    }
 }

@@ -176,14 +176,21 @@ impl<'a> Run<'a> {
             }
             Judgement::Broken { rule, view } => {
                 explainer.broken(ordered, view, *rule);
-                let verdict = Verdict::Broken {
-                    pos: ordered.pos,
-                    rule: *rule,
-                };
                 let Shown { options, rules, .. } = self.shown;
-                note_broken(explainer, alloc, options, rules, &Ok(verdict));
-                Some(verdict)
+                let outcome = Ok(broken(ordered, *rule));
+                note_broken(explainer, alloc, options, rules, &outcome);
+                Some(broken(ordered, *rule))
             }
         }
+    }
+}
+
+// The verdict at a record whose view breaks the rule with this number.
+fn broken(ordered: &Ordered, rule: usize) -> Verdict
+    ensures { result ≡ Verdict.Broken ordered.now.pos rule }
+{
+    Verdict::Broken {
+        pos: ordered.pos,
+        rule,
     }
 }

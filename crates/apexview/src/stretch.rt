@@ -6,8 +6,8 @@ ghost use Rattle.verdict_merge.specs.Rounds.{AreGoing};
 ghost use Rattle.apexview.specs.Going.{IsKept};
 ghost use Rattle.apexview.specs.Stretches.{IsWhole, KeepsSame};
 
-use crate::placed::next_placed;
 use crate::fault::{ShowFault, rejected};
+use crate::placed::next_placed;
 use crate::run::{Judgement, Run, Shown};
 use answer_words::Explainer;
 use apex_types::{Cause, Ordered};
@@ -53,6 +53,7 @@ impl Rejected {
 }
 
 /// Judges a run, and keeps the requested stretch. The explainer receives what explains the end.
+#[tactic(auto, using(crate::proofs::Kept::none_kept))]
 pub fn gather<R: Wait, S: TextSource, C: TextSource>(
     rt: &R,
     alloc: Global,
@@ -162,6 +163,7 @@ impl Stretch {
     }
 
     // Keeps an accepted record. If there are then more than the span, the pieces before the stretch take the first one.
+    #[tactic(auto, using(crate::proofs::Kept::kept_more, crate::proofs::Kept::first_going, crate::proofs::Kept::first_core, crate::proofs::Kept::kept_on))]
     fn keep(&mut self, shown: &Shown<'_>, ordered: Ordered) -> Result<(), ShowFault>
         requires kept { IsKept shown.now.config.now ordered.pos self.old.before self.old.kept.items }
         requires core { ordered.core < shown.now.config.now.cores }

@@ -3,9 +3,9 @@
 ghost use Rattle.std.specs.Prelude.{◌≡◌, false, length};
 ghost use Rattle.order_cert.specs.Kept.{place_of};
 
-use crate::placed::next_placed;
 use crate::ending::Ending;
 use crate::fault::ShowFault;
+use crate::placed::next_placed;
 use crate::run::{Judgement, Run, Shown};
 use answer_words::Explainer;
 use apex_types::Ordered;

@@ -25,6 +25,7 @@ mod strip_marks;
 mod style;
 mod table;
 mod thing_bars;
+mod wrapped;
 
 pub use column::{Source, Status};
 pub use html::{PageTexts, page_foot, page_head, strip_heading};

@@ -13,6 +13,7 @@ use crate::shapes::{
 };
 use crate::strip_marks::{tell_arrow, tell_marks};
 use crate::style::{DEFINITIONS, STYLE};
+use crate::wrapped::{longest, wrapped_lines};
 use run_view::ThingKey;
 use std::alloc::AllocError;
 
@@ -21,6 +22,12 @@ const LEAST_ROOM: usize = 9;
 
 /// The height of a line of text below a picture.
 const TEXT_LINE: u64 = 17;
+
+/// The width of a character of such a line.
+const ANSWER_CHARACTER: u64 = 8;
+
+/// The space before such a line.
+const BEFORE_ANSWER: u64 = 8;
 
 /// The height of a bar whose text is in the middle. The text of a higher bar is at its top, with marks below it.
 const TALL: u64 = 19;
@@ -32,7 +39,9 @@ pub fn svg_head(
     strips: &[Strip],
     texts: &PageTexts<'_>,
 ) -> Result<(), AllocError> {
-    let (mut width, mut height) = (0u64, height_of_texts(texts));
+    let lines = wrapped_lines(picture.alloc, texts)?;
+    let mut width = width_of_lines(&lines);
+    let mut height = TEXT_LINE.saturating_mul((lines.len() as u64).saturating_add(1));
     for strip in strips {
         let layout = Layout::new(picture, *strip)?;
         width = width.max(layout.width);
@@ -50,21 +59,25 @@ pub fn svg_head(
 }
 
 /// Ends a picture by itself, whose strips end at this height, with the line of the answer and why it is not Yes.
-pub fn svg_foot(out: &mut Markup, texts: &PageTexts<'_>, y: u64) -> Result<(), AllocError> {
-    let mut y = y.saturating_add(TEXT_LINE);
+pub fn svg_foot(
+    out: &mut Markup,
+    picture: &Picture,
+    texts: &PageTexts<'_>,
+    y: u64,
+) -> Result<(), AllocError> {
+    let mut y = y;
     out.mark("<g class=\"answer\">\n")?;
-    tell_text(out, "line", 8, y, texts.line)?;
-    for line in texts.explanation.split('\n') {
+    for line in wrapped_lines(picture.alloc, texts)?.iter() {
         y = y.saturating_add(TEXT_LINE);
-        tell_text(out, "line", 8, y, line)?;
+        tell_text(out, "line", BEFORE_ANSWER, y, line)?;
     }
     out.mark("</g>\n</svg>\n")
 }
 
-// The height of the line of the answer and of what explains it.
-fn height_of_texts(texts: &PageTexts<'_>) -> u64 {
-    let lines = texts.explanation.split('\n').count() as u64;
-    TEXT_LINE.saturating_mul(lines.saturating_add(2))
+// The width of the lines of an answer.
+fn width_of_lines(lines: &[String]) -> u64 {
+    let longest = (longest(lines) as u64).saturating_mul(ANSWER_CHARACTER);
+    longest.saturating_add(2 * BEFORE_ANSWER)
 }
 
 /// Adds a strip, which begins at this height of the picture. Returns the height at which it ends.

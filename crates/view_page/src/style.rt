@@ -1,25 +1,22 @@
-// The style of pictures and pages. The colours are those of Okabe and Ito, which colour-blind people can tell apart.
+// The style of pictures and pages. The colours are those of Okabe and Ito, which colour-blind people can tell apart. A picture names each
+// colour where it is used, since programs that show pictures and are no browsers know no variables of styles.
 
 /// The style of a picture.
 pub const STYLE: &str = "
-.alone, .page { --ink: #14181d; --paper: #ffffff; --soft: #5b6570; --ground: #f1f3f5; --line: #c3cad1; --fault: #b84300; --right: #00684b; --message: #8b3a73; color-scheme: light dark; }
-@media (prefers-color-scheme: dark) { .alone, .page { --ink: #e9edf1; --paper: #14181d; --soft: #a3adb8; --ground: #20262d; --line: #46505b; --fault: #ff9a57; --right: #4fd0a5; --message: #e3a3cd; } }
-@media print { .alone, .page { --ink: #000000; --paper: #ffffff; --soft: #444444; --ground: #f1f3f5; --line: #aaaaaa; --fault: #b84300; --right: #00684b; --message: #8b3a73; } }
+.alone { color-scheme: light dark; }
 .strip, .key { font: 11px system-ui, -apple-system, 'Segoe UI', 'DejaVu Sans', sans-serif; }
-.paper { fill: var(--paper); }
-.answer text { fill: var(--ink); font: 12px ui-monospace, 'DejaVu Sans Mono', monospace; white-space: pre; }
-.strip text { fill: var(--ink); }
-.strip .place { fill: var(--soft); font-size: 9px; }
+.paper { fill: #ffffff; }
+.strip .place { fill: #5b6570; font-size: 9px; }
 .strip .name { font-weight: 600; }
 .strip .process .name, .strip .thing .name { font-weight: 400; }
-.strip .rejected .label, .strip .broken .label { fill: var(--fault); font-weight: 700; }
-.ground { fill: var(--ground); }
-.ground-rejected { fill: var(--fault); fill-opacity: .14; }
-.frame { fill: none; stroke: var(--fault); stroke-width: 2; }
+.strip .rejected .label, .strip .broken .label { fill: #b84300; font-weight: 700; }
+.ground { fill: #f1f3f5; }
+.ground-rejected { fill: #b84300; fill-opacity: .14; }
+.frame { fill: none; stroke: #b84300; stroke-width: 2; }
 .ground-after { fill: url(#after); }
 .hit { fill: transparent; }
-.record:hover .hit { fill: var(--soft); fill-opacity: .18; }
-.bar .fill { stroke: var(--paper); stroke-width: 1; }
+.record:hover .hit { fill: #5b6570; fill-opacity: .18; }
+.bar .fill { stroke: #ffffff; stroke-width: 1; }
 .bar .said { fill: #000000; pointer-events: none; }
 .strip .small { font-size: 10px; }
 .pattern { pointer-events: none; }
@@ -35,8 +32,8 @@ pub const STYLE: &str = "
 .ready .fill, .preempted .fill { fill: #9bd3f3; }
 .waiting .fill { fill: #f3bd55; }
 .suspended .fill { fill: #dfa6c6; }
-.dormant .fill { fill: none; stroke: var(--line); stroke-dasharray: 3 3; }
-.bar.dormant .said { fill: var(--soft); }
+.dormant .fill { fill: none; stroke: #c3cad1; stroke-dasharray: 3 3; }
+.bar.dormant .said { fill: #5b6570; }
 .free .fill { fill: #e9e4d8; }
 .awaited .fill { fill: #f6dca6; }
 .mark.tick line { stroke: #000000; stroke-width: 1.5; }
@@ -44,20 +41,46 @@ pub const STYLE: &str = "
 .mark.dispatch path { fill: #000000; stroke: #ffffff; }
 .mark.call circle { fill: #000000; stroke: #ffffff; }
 .mark.return circle { fill: #ffffff; stroke: #000000; stroke-width: 1.5; }
-.mark.restart line { stroke: var(--fault); stroke-width: 2; stroke-dasharray: 6 3; }
-.mark.restart line.halo { stroke: var(--paper); stroke-width: 4; stroke-dasharray: none; }
-.mark.lawful rect { fill: var(--paper); stroke: var(--right); stroke-width: 2; stroke-dasharray: 5 3; }
-.mark.lawful text { fill: var(--right); font-weight: 700; }
-.mark.unlawful rect { fill: var(--paper); stroke: var(--fault); stroke-width: 2; }
-.mark.unlawful text { fill: var(--fault); font-weight: 700; }
+.mark.restart line { stroke: #b84300; stroke-width: 2; stroke-dasharray: 6 3; }
+.mark.restart line.halo { stroke: #ffffff; stroke-width: 4; stroke-dasharray: none; }
+.mark.lawful rect { fill: #ffffff; stroke: #00684b; stroke-width: 2; stroke-dasharray: 5 3; }
+.mark.lawful text { fill: #00684b; font-weight: 700; }
+.mark.unlawful rect { fill: #ffffff; stroke: #b84300; stroke-width: 2; }
+.mark.unlawful text { fill: #b84300; font-weight: 700; }
 .arrow path { fill: none; stroke-width: 2; }
-.arrow .halo { stroke: var(--paper); stroke-width: 5; stroke-opacity: .85; }
-.arrow.wake .way { stroke: var(--right); marker-end: url(#wake-end); }
-.arrow.message .way { stroke: var(--message); stroke-dasharray: 7 3; marker-end: url(#message-end); }
-#wake-end path { fill: var(--right); }
-#message-end path { fill: var(--message); }
-#after rect { fill: var(--ground); }
-#after path { stroke: var(--line); stroke-width: 3; }
+.arrow .halo { stroke: #ffffff; stroke-width: 5; stroke-opacity: .85; }
+.arrow.wake .way { stroke: #00684b; marker-end: url(#wake-end); }
+.arrow.message .way { stroke: #8b3a73; stroke-dasharray: 7 3; marker-end: url(#message-end); }
+#wake-end path { fill: #00684b; }
+#message-end path { fill: #8b3a73; }
+#after rect { fill: #f1f3f5; }
+#after path { stroke: #c3cad1; stroke-width: 3; }
+@media screen and (prefers-color-scheme: dark) {
+.paper { fill: #14181d; }
+.strip .place { fill: #a3adb8; }
+.strip .rejected .label, .strip .broken .label { fill: #ff9a57; }
+.ground { fill: #20262d; }
+.ground-rejected { fill: #ff9a57; }
+.frame { stroke: #ff9a57; }
+.record:hover .hit { fill: #a3adb8; }
+.bar .fill { stroke: #14181d; }
+.raised .fill { stroke: #d55e00; }
+.dormant .fill { stroke: #46505b; }
+.bar.dormant .said { fill: #a3adb8; }
+.mark.restart line { stroke: #ff9a57; }
+.mark.restart line.halo { stroke: #14181d; }
+.mark.lawful rect { fill: #14181d; stroke: #4fd0a5; }
+.mark.lawful text { fill: #4fd0a5; }
+.mark.unlawful rect { fill: #14181d; stroke: #ff9a57; }
+.mark.unlawful text { fill: #ff9a57; }
+.arrow .halo { stroke: #14181d; }
+.arrow.wake .way { stroke: #4fd0a5; }
+.arrow.message .way { stroke: #e3a3cd; }
+#wake-end path { fill: #4fd0a5; }
+#message-end path { fill: #e3a3cd; }
+#after rect { fill: #20262d; }
+#after path { stroke: #46505b; }
+}
 ";
 
 /// The patterns and the heads of arrows, once for all pictures of a page.
@@ -73,6 +96,8 @@ pub const DEFINITIONS: &str = "<defs>
 
 /// The style of a page.
 pub const PAGE_STYLE: &str = "
+.page { --ink: #14181d; --paper: #ffffff; --soft: #5b6570; --ground: #f1f3f5; --line: #c3cad1; --fault: #b84300; --right: #00684b; color-scheme: light dark; }
+@media screen and (prefers-color-scheme: dark) { .page { --ink: #e9edf1; --paper: #14181d; --soft: #a3adb8; --ground: #20262d; --line: #46505b; --fault: #ff9a57; --right: #4fd0a5; } }
 body.page { margin: 0; padding: 16px 20px 40px; background: var(--paper); color: var(--ink); font: 15px/1.45 system-ui, -apple-system, 'Segoe UI', 'DejaVu Sans', sans-serif; }
 h1 { font-size: 22px; margin: 0 0 4px; }
 h2 { font-size: 17px; margin: 22px 0 6px; }

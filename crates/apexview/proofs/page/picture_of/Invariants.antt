@@ -1,4 +1,4 @@
-use Rattle.std.proofs.Common.{◌≡◌, ℕ, ◌×◌}
+use Rattle.std.proofs.Common.{◌≡◌, ℕ}
 use Rattle.apexview.specs.Going.{IsKept}
 use Rattle.apexview.proofs.page.picture_of.Given as goal
 
