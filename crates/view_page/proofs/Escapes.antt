@@ -35,6 +35,7 @@ within : (c : ℕ) → c < 2 ^ 16 → c < 16 ^ 64
 within c h = omega arith
 
 by_number : (c : ℕ) → is_shown c ≡ false → Harmless (numbered c)
+unfolding lib.Utf8.encode
 by_number c h =
     let d = digits_is_IsNumeral 16 false (lit≤ tt) (lit≤ tt) c (within c (small_number c h)) in
     NoCharPasses-append is_delimiter (codes "\\u{") (digits 16 false c ++ codes "}") (codes "\\u{", refl, search rules)
@@ -49,6 +50,7 @@ no_delimiter : (c : ℕ) → eqb c 60 ≡ false → eqb c 62 ≡ false → eqb c
 no_delimiter c a b d e = rw (a, b, d, e)
 
 one_character : (c : ℕ) → Harmless (escaped_character c)
+unfolding lib.Utf8.encode
 one_character c =
     either Harmless (eqb c 38) _ _ (λ _. (codes "&amp;", refl, search rules))
     (λ _. either Harmless (eqb c 60) _ _ (λ _. (codes "&lt;", refl, search rules))

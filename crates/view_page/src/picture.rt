@@ -109,7 +109,8 @@ impl Picture {
 
     /// Adds a record after the last one whose states are shown.
     pub fn follow(&mut self, added: &Added<'_>) -> Result<(), AllocError> {
-        self.end_bars(self.columns.len());
+        let column = self.columns.len();
+        self.end_bars(column);
         self.add_column(added, String::new(self.alloc))
     }
 

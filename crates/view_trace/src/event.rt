@@ -1,6 +1,7 @@
 // Events of the Chrome trace format as JSON, one on a line. Their members are written as they are; texts go through serde_json.
 
 ghost use Rattle.std.specs.Prelude.{◌<◌};
+ghost use Rattle.view_trace.specs.declared.event.TheConstants.{MOST_HELD};
 
 use crate::fault::TraceFault;
 use serde_json::Value;
