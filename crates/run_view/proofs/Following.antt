@@ -1,13 +1,17 @@
 -- What follows from evidence that a picture does not show.
-use Rattle.std.proofs.Common.{◌≡◌, ℕ, [], Option, refl}
+use Rattle.std.proofs.Common.{◌≡◌, ℕ, List, [], Option, refl}
 use Rattle.apex_types.specs.declared.cause.Cause.{Cause}
 use Rattle.apex_types.specs.declared.record.Body.{Body}
+use Rattle.apex_types.specs.declared.record.Ordered.{Ordered}
 use Rattle.apex_types.specs.declared.record.Who.{Who}
+use Rattle.apex_machine.specs.Configuration.{Configuration}
 use Rattle.apex_machine.specs.Pieces.{Part}
 use Rattle.wait_set.specs.declared.given.Given.{Given}
 use Rattle.piece_check.specs.declared.evidence.Evidence.{Evidence}
 use Rattle.piece_check.specs.declared.evidence.Evidence.TheVariants as evidence
-use Rattle.run_view.specs.Lawful.{FollowsFrom}
+use Rattle.piece_check.specs.Evidence.{IsEvidence}
+use Rattle.run_view.specs.declared.lawful.Lawful.{Lawful}
+use Rattle.run_view.specs.Lawful.{FollowsFrom, IsLawful}
 
 pub nothing_follows : (found : Evidence) (part : Part) (core : ℕ) (body : Body) (cause : Cause)
     → ((choice occupant : Option Who) → found ≡ evidence.Choice choice occupant → ⊥)
@@ -21,3 +25,8 @@ nothing_follows (evidence.Priority current base before owned elsewhere) part cor
 nothing_follows (evidence.Answer given) part core body cause no_choice no_priority no_answer not_named = absurd (no_answer given refl)
 nothing_follows evidence.Named part core body cause no_choice no_priority no_answer not_named = absurd (not_named refl)
 nothing_follows other part core body cause no_choice no_priority no_answer not_named = refl
+
+-- what follows from the evidence is lawful
+pub lawful_by : (configuration : Configuration) (part : Part) (ordered : Ordered) (cause : Cause) (found : Evidence) (shown : List Lawful) → IsEvidence configuration part ordered cause found
+    → FollowsFrom found part ordered.core ordered.rec.body cause shown → IsLawful configuration part ordered cause shown
+lawful_by configuration part ordered cause found shown is follows = (found, is, follows)

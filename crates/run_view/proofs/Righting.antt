@@ -1,17 +1,18 @@
 -- The processes that a record names wrongly, one more each time.
-use Rattle.std.proofs.Common.{◌≡◌, ◌<◌, ◌≤◌, ◌+◌, ◌∙◌, ℕ, zero, suc, List, [], ◌∷◌, ◌++◌, Option, Some, None, length, get_or, take, refl, sym, ap, arith}
-use Rattle.std.proofs.lemmas.List.{flat_map_more, take_more}
+use Rattle.std.proofs.Common.{◌≡◌, ◌<◌, ◌≤◌, ◌+◌, ◌∙◌, ℕ, zero, suc, List, [], ◌∷◌, ◌++◌, Some, None, length, get_or, take, refl, sym, ap, arith}
+use Rattle.std.proofs.lemmas.List.{flat_map_more, take_all, take_more}
 use Rattle.std.specs.Borrow.{Bor}
 use Rattle.std.specs.List.{flat_map, slice_get}
 use Rattle.apex_types.specs.declared.record.Who.{Who}
+use Rattle.apex_machine.specs.Answer.{NamesExactly}
 use Rattle.apex_machine.specs.Pieces.{Part, ChannelPart, ModulePart, PartitionPart}
-use Rattle.apex_machine.specs.State.{Partition}
+use Rattle.apex_machine.specs.State.{Partition, Table}
 use Rattle.dispatch_rule.specs.Clocks.{Clocks}
 use Rattle.piece_check.specs.declared.seen.Seen.{Seen}
 use Rattle.piece_check.specs.declared.seen.Seen.TheVariants as seen
 use Rattle.piece_check.specs.Seen.{IsSeen}
 use Rattle.run_view.specs.declared.lawful.Lawful.{Lawful}
-use Rattle.run_view.specs.Lawful.{all_put_right_at_tick, put_right_at_tick}
+use Rattle.run_view.specs.Lawful.{PutsRight, all_put_right, all_put_right_at_tick, put_right_at_tick}
 
 -- one more of a list
 pub one_more : {Item : Type 0} (right : Item → List Lawful) (items : List Item) (index : ℕ) (item : Item) (old shown new : List Lawful) → index < length items
@@ -52,3 +53,22 @@ not_at_tick (PartitionPart number cores partition) (seen.Module clock) core woke
 not_at_tick (PartitionPart number cores partition) (seen.Partition shown clock state) core woken is other = absurd (other shown clock state refl)
 not_at_tick (PartitionPart number cores partition) (seen.Channel times channel) core woken is other = absurd is
 not_at_tick (ChannelPart number times channel) found core woken is other = refl
+
+-- a call's wrong names: first among the processes whose waits it ends, and then among those that it names
+pub puts_right : (woken named ended first second : List Who) (none one two : List Lawful) → NamesExactly woken ended → none ≡ [] → first ≡ ended → second ≡ named
+    → one ≡ none ++ all_put_right woken named first → two ≡ one ++ all_put_right woken named second → PutsRight woken named two
+puts_right woken named ended first second none one two exactly empty of_ended of_named once twice = (
+  ended,
+  exactly,
+  twice
+      ∙ ap (λ (list : List Lawful). list ++ all_put_right woken named second)
+      (once ∙ ap (λ (list : List Lawful). list ++ all_put_right woken named first) empty ∙ ap (λ (list : List Who). all_put_right woken named list) of_ended)
+      ∙ ap (λ (list : List Who). all_put_right woken named ended ++ all_put_right woken named list) of_named,
+)
+
+-- after all processes of a partition
+pub all_at_tick : (part : Part) (number : ℕ) (clock : Bor Clocks) (state : Bor Partition) (core : ℕ) (woken : List Who) (table : Table) (index : ℕ) (shown : List Lawful)
+    → IsSeen part (seen.Partition number clock state) → table ≡ state.now.table → length table ≤ index → shown ≡ all_put_right_at_tick number part core woken (take index table)
+    → shown ≡ put_right_at_tick part core woken
+all_at_tick part number clock state core woken table index shown is held whole so =
+    so ∙ ap (λ (entries : Table). all_put_right_at_tick number part core woken entries) (take_all index table whole ∙ held) ∙ at_tick part number clock state core woken is

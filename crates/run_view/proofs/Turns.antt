@@ -8,6 +8,9 @@ use Rattle.apex_machine.specs.declared.state.Entry.{Entry}
 use Rattle.apex_machine.specs.Answer.{NamesExactly, waiters_of}
 use Rattle.apex_machine.specs.State.{is_named, is_same}
 use Rattle.apex_machine.specs.Waiting.{first_waiter, precedes, sooner_entry}
+use Rattle.std.specs.Borrow.{Bor}
+use Rattle.std.specs.Option.{option_to_list}
+use Rattle.wait_set.specs.Givens.{listed}
 use Rattle.wait_set.specs.Sets.{Waiters, without_first, without_found, without_one}
 use Rattle.wait_set.proofs.Members.{shorter}
 use Rattle.wait_set.proofs.WaitersOf.{same_is, same_itself, is_member-named}
@@ -44,7 +47,7 @@ processes_of waiters = map (λ waiter. waiter.who) waiters
 first_named : (discipline : Discipline) (entries : List Entry) (first : Entry) → first_waiter discipline entries ≡ Some first
     → is_named first.who (waiters_of entries) ≡ true
 first_named discipline [] first is = cc
-first_named discipline (entry ∷ entries) first is = by (first_waiter discipline entries) refl is
+first_named discipline (entry ∷ entries) first is = by (first_waiter discipline entries) refl is (λ same. first_named discipline entries first same)
   where
     here : entry ≡ first → (is_same first.who entry.who || is_named first.who (waiters_of entries)) ≡ true
     here same = rw (ap (λ one. is_same first.who one.who) same ∙ same_itself first.who) refl
@@ -54,14 +57,14 @@ first_named discipline (entry ∷ entries) first is = by (first_waiter disciplin
     later named false = named
 
     by : (found : Option Entry) → first_waiter discipline entries ≡ found → sooner_entry discipline entry found ≡ Some first
-        → (is_same first.who entry.who || is_named first.who (waiters_of entries)) ≡ true
-    by None none chosen = let same : entry ≡ first = cc in here same
-    by (Some other) there chosen =
+        → (first_waiter discipline entries ≡ Some first → is_named first.who (waiters_of entries) ≡ true) → (is_same first.who entry.who || is_named first.who (waiters_of entries)) ≡ true
+    by None none chosen again = let same : entry ≡ first = cc in here same
+    by (Some other) there chosen again =
         elim (cases_Bool (precedes discipline other entry)) [
           | inl sooner ↦
               let it : Some other ≡ Some first = rw sooner at chosen in
               let same : first_waiter discipline entries ≡ Some first = there ∙ it in
-              later (first_named discipline entries first same) (is_same first.who entry.who)
+              later (again same) (is_same first.who entry.who)
           | inr not_sooner ↦
               let it : Some entry ≡ Some first = rw not_sooner at chosen in
               let same : entry ≡ first = cc in
@@ -103,17 +106,37 @@ named_in_turn : (count : ℕ) (discipline : Discipline) (entries : List Entry) �
     → is_named who (processes_of (first_in_turn count discipline entries)) ≡ is_named who (waiters_of entries)
 named_in_turn zero discipline [] most who = refl
 named_in_turn zero discipline (entry ∷ entries) most who = absurd (omega (arith, most))
-named_in_turn (suc count) discipline entries most who = by (first_waiter discipline entries) refl
+named_in_turn (suc count) discipline entries most who = by (first_waiter discipline entries) refl (λ rest fewer. named_in_turn count discipline rest fewer who)
   where
     by : (found : Option Entry) → first_waiter discipline entries ≡ found
+        → ((rest : List Entry) → length rest ≤ count → is_named who (processes_of (first_in_turn count discipline rest)) ≡ is_named who (waiters_of rest))
         → is_named who (processes_of (with_first found (first_in_turn count discipline (without_found found entries)))) ≡ is_named who (waiters_of entries)
-    by None none = ap (λ all. is_named who (waiters_of all)) (sym (nobody discipline entries none))
-    by (Some first) there =
+    by None none again = ap (λ all. is_named who (waiters_of all)) (sym (nobody discipline entries none))
+    by (Some first) there again =
         let named : is_named first.who (waiters_of entries) ≡ true = first_named discipline entries first there in
         let fewer : length (without_one first.who entries) < length entries = shorter first.who entries (sym (is_member-named first.who entries) ∙ named) in
-        ap (λ rest. is_same who first.who || rest) (named_in_turn count discipline (without_one first.who entries) (omega (arith, fewer, most)) who)
+        ap (λ rest. is_same who first.who || rest) (again (without_one first.who entries) (omega (arith, fewer, most)))
         ∙ all_there first.who who entries named
 
 -- the processes that wait in a set are named exactly
 pub in_turn_exactly : (set : Waiters) → NamesExactly (waiters_of set.entries) (processes_of (in_turn set))
 in_turn_exactly set = λ who. named_in_turn (length set.entries) set.discipline set.entries (let e : length set.entries ≤ length set.entries = omega arith in e) who
+
+-- whose waits end
+
+-- the waits of all processes in a set
+pub all_end : (one : Option Who) (all : Option (Bor Waiters)) (set : Bor Waiters) (waiters : List Waiter) (ended : List Who) → all ≡ Some set → waiters ≡ in_turn set.now
+    → ended ≡ processes_of waiters → NamesExactly (listed one all) ended
+all_end one all set waiters ended is turned so = λ who.
+    ap (is_named who) (so ∙ ap processes_of turned) ∙ in_turn_exactly set.now who ∙ sym (ap (λ (found : Option (Bor Waiters)). is_named who (listed one found)) is)
+
+-- that of one process
+pub one_ends : (one : Option Who) (all : Option (Bor Waiters)) (process : Who) (ended : List Who) → all ≡ None → one ≡ Some process → ended ≡ process ∷ []
+    → NamesExactly (listed one all) ended
+one_ends one all process ended none is so = λ who.
+    ap (is_named who) (so ∙ sym (ap (λ (found : Option (Bor Waiters)). listed one found) none ∙ ap (λ (found : Option Who). option_to_list found) is))
+
+-- none
+pub none_ends : (one : Option Who) (all : Option (Bor Waiters)) (ended : List Who) → all ≡ None → one ≡ None → ended ≡ [] → NamesExactly (listed one all) ended
+none_ends one all ended none is so = λ who.
+    ap (is_named who) (so ∙ sym (ap (λ (found : Option (Bor Waiters)). listed one found) none ∙ ap (λ (found : Option Who). option_to_list found) is))

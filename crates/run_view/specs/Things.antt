@@ -22,8 +22,7 @@ use Rattle.run_view.specs.Waiters.{first_in_turn, in_turn}
 abbrev pub all_in_turn : Discipline → List Entry → List Waiter
 all_in_turn discipline entries = first_in_turn (length entries) discipline entries
 
--- all of these entries, in the order of some discipline: the order does not matter if all these waits end at once, and no clause of a buffer
--- says which one its receivers have
+-- all of these entries, in the order of some discipline: the order does not matter if all these waits end at once
 abbrev pub AreAll : List Entry → List Waiter → Type 0
 AreAll entries waiters = (discipline : Discipline) × (waiters ≡ all_in_turn discipline entries)
 
@@ -52,7 +51,7 @@ ShowsBuffer buffer view =
     (view.name.items ≡ buffer.name)
     × ShowsQueue buffer.messages buffer.capacity view.contents
     × (view.senders.items ≡ all_in_turn buffer.discipline buffer.senders)
-    × AreAll buffer.receivers view.waiters.items
+    × (view.waiters.items ≡ all_in_turn buffer.discipline buffer.receivers)
 
 -- at any other object or channel nobody waits to send
 

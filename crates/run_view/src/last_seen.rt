@@ -1,6 +1,6 @@
 // What was last seen of the pieces, and what has changed since.
 
-ghost use Rattle.std.specs.Prelude.{◌≡◌, Contains, OnOk};
+ghost use Rattle.std.specs.Prelude.{◌≡◌, ◌++◌, [], ◌∷◌, Contains, OnOk};
 ghost use Rattle.apex_machine.specs.Configuration.{Configuration};
 ghost use Rattle.apex_machine.specs.State.{Partition};
 ghost use Rattle.run_view.specs.Changes.{AddsOnly, IsOfChannel, IsOfCores, IsOfOne, IsOfPart, IsOfPartition};
@@ -102,13 +102,27 @@ impl LastSeen {
         ensures { OnOk result (AddsOnly (IsOfOne config.now pieces.now) changes.old.items changes.new.items) }
     {
         for (number, piece) in pieces.iter().enumerate() {
-            if is_touched(config, piece, record) {
-                self.look_at(config, number, piece, changes)?;
-            } else {
-                self.make_room(number)?;
-            }
+            self.look_if_touched(config, number, piece, record, changes)?;
         }
         Ok(())
+    }
+
+    // Adds what the piece of this number no longer holds as it was seen, if the record touches it.
+    fn look_if_touched(
+        &mut self,
+        config: &Config,
+        number: usize,
+        piece: &Piece,
+        record: Option<&Ordered>,
+        changes: &mut Vec<Change>,
+    ) -> Result<(), AllocError>
+        ensures { OnOk result (AddsOnly (IsOfPart config.now piece.now.part) changes.old.items changes.new.items) }
+    {
+        if is_touched(config, piece, record) {
+            self.look_at(config, number, piece, changes)
+        } else {
+            self.make_room(number)
+        }
     }
 
     // Adds what the piece of this number no longer holds as it was seen.
@@ -150,7 +164,6 @@ fn is_touched(config: &Config, piece: &Piece, record: Option<&Ordered>) -> bool 
 }
 
 // Adds the cores that are no longer as they were seen.
-#[tactic(auto, using(crate::proofs::Adding::adds_none, crate::proofs::Adding::adds_one, crate::proofs::Adding::adds_more))]
 fn look_at_cores(
     seen: &mut Vec<CoreView>,
     config: &Config,
@@ -160,24 +173,55 @@ fn look_at_cores(
     ensures { OnOk result (AddsOnly (IsOfCores config.now clock.now.cores) changes.old.items changes.new.items) }
 {
     for number in 0..config.cores() {
-        let view = core_view(config, clock, CoreId::new(number));
-        if sees_core(seen, number as usize, &view)? {
-            changes.push(Change::Core(view))?;
-        }
+        look_at_core(seen, config, clock, CoreId::new(number), changes)?;
     }
     Ok(())
 }
 
+// Adds a core, if it is no longer as it was seen.
+fn look_at_core(
+    seen: &mut Vec<CoreView>,
+    config: &Config,
+    clock: &Clock,
+    core: CoreId,
+    changes: &mut Vec<Change>,
+) -> Result<(), AllocError>
+    ensures { OnOk result (AddsOnly (IsOfCores config.now clock.now.cores) changes.old.items changes.new.items) }
+{
+    let view = core_view(config, clock, core);
+    if !sees_core(seen, core.number() as usize, &view)? {
+        return Ok(());
+    }
+    add(changes, Change::Core(view))
+}
+
+// Adds two changes.
+fn add_both(changes: &mut Vec<Change>, first: Change, second: Change) -> Result<(), AllocError>
+    ensures { OnOk result (changes.new.items ≡ changes.old.items ++ first ∷ second ∷ []) }
+{
+    changes.extend_from_slice(&[first, second])
+}
+
+// Adds a change.
+fn add(changes: &mut Vec<Change>, change: Change) -> Result<(), AllocError>
+    ensures { OnOk result (changes.new.items ≡ changes.old.items ++ change ∷ []) }
+{
+    changes.extend_from_slice(&[change])
+}
+
 // Keeps what is now seen of a core, and returns whether it is new.
 fn sees_core(seen: &mut Vec<CoreView>, index: usize, view: &CoreView) -> Result<bool, AllocError> {
-    if index >= seen.len() {
-        seen.push(*view)?;
-        return Ok(true);
+    match seen.get_mut(index) {
+        Some(last) => {
+            let is_new = *last != *view;
+            *last = *view;
+            Ok(is_new)
+        }
+        None => {
+            seen.push(*view)?;
+            Ok(true)
+        }
     }
-    let last = &mut seen[index];
-    let is_new = *last != *view;
-    *last = *view;
-    Ok(is_new)
 }
 
 impl SeenPiece {
@@ -216,7 +260,6 @@ impl SeenPiece {
     }
 
     // Adds what a partition no longer holds as it was seen.
-    #[tactic(auto, using(crate::proofs::Adding::adds_none, crate::proofs::Adding::adds_one, crate::proofs::Adding::adds_more))]
     fn look_at_partition(
         &mut self,
         alloc: Global,
@@ -232,7 +275,6 @@ impl SeenPiece {
     }
 
     // Adds the mode of a partition, if it is not the one that was seen.
-    #[tactic(auto, using(crate::proofs::Adding::adds_none, crate::proofs::Adding::adds_one, crate::proofs::Adding::adds_more))]
     fn look_at_mode(
         &mut self,
         part: PartId,
@@ -246,8 +288,7 @@ impl SeenPiece {
             return Ok(());
         }
         self.mode = Some(mode);
-        changes.push(Change::Mode(part, mode))?;
-        Ok(())
+        add(changes, Change::Mode(part, mode))
     }
 
     // Adds the channel, if it no longer holds what was seen.
@@ -264,8 +305,7 @@ impl SeenPiece {
             return Ok(());
         }
         self.channel = view;
-        changes.push(Change::Thing(ThingKey::Channel(channel.number())))?;
-        Ok(())
+        add(changes, Change::Thing(ThingKey::Channel(channel.number())))
     }
 }
 
@@ -291,7 +331,6 @@ fn look_at_processes(
 }
 
 // Adds the process with this index in the order of creation, if it is new or no longer as it was seen.
-#[tactic(auto, using(crate::proofs::Adding::adds_none, crate::proofs::Adding::adds_one, crate::proofs::Adding::adds_more))]
 fn look_at_process(
     seen: &mut Vec<SeenProcess>,
     index: usize,
@@ -303,13 +342,15 @@ fn look_at_process(
     ensures { OnOk result ((partition : Partition) → Contains partition.table (number, process.now) → AddsOnly (IsOfPartition part partition) changes.old.items changes.new.items) }
 {
     let view = process_view(process);
-    match see_process(seen, index, number, &view)? {
-        Found::AsSeen => return Ok(()),
-        Found::Changed => {}
-        Found::Replaces(before) => changes.push(Change::Ended(who_of(part, before)))?,
+    let found = see_process(seen, index, number, &view)?;
+    let change = Change::Process(Who { part, proc: number }, view);
+    match found {
+        Found::AsSeen => Ok(()),
+        Found::Changed => add(changes, change),
+        Found::Replaces(before) => {
+            add_both(changes, Change::Ended(Who { part, proc: before }), change)
+        }
     }
-    changes.push(Change::Process(who_of(part, number), view))?;
-    Ok(())
 }
 
 // Keeps what is now seen of the process with this index, and returns what it finds.
@@ -341,7 +382,6 @@ fn see_process(
 }
 
 // Adds the processes that were seen after this many, and no longer exist.
-#[tactic(auto, using(crate::proofs::Adding::adds_none, crate::proofs::Adding::adds_one, crate::proofs::Adding::adds_more))]
 fn end_processes(
     seen: &mut Vec<SeenProcess>,
     count: usize,
@@ -351,21 +391,19 @@ fn end_processes(
     ensures { OnOk result ((partition : Partition) → AddsOnly (IsOfPartition part partition) changes.old.items changes.new.items) }
 {
     'ended: for _ in count..seen.len() {
-        if let Some(last) = seen.pop() {
-            changes.push(Change::Ended(who_of(part, last.number)))?;
-        }
+        let Some(last) = seen.pop() else {
+            return Ok(());
+        };
+        let who = Who {
+            part,
+            proc: last.number,
+        };
+        add(changes, Change::Ended(who))?;
     }
     Ok(())
 }
 
-fn who_of(part: PartId, proc: ProcId) -> Who
-    ensures { result ≡ record { part = part; proc = proc } }
-{
-    Who { part, proc }
-}
-
 // Adds the objects of a partition that are new, that are no longer as they were seen, or that no longer exist.
-#[tactic(auto, using(crate::proofs::Adding::adds_none, crate::proofs::Adding::adds_one, crate::proofs::Adding::adds_more))]
 fn look_at_objects(
     alloc: Global,
     kinds: &mut [SeenKind],
@@ -382,7 +420,6 @@ fn look_at_objects(
 }
 
 // Adds the objects of a kind that are new, that are no longer as they were seen, or that no longer exist.
-#[tactic(auto, using(crate::proofs::Adding::adds_none, crate::proofs::Adding::adds_one, crate::proofs::Adding::adds_more))]
 fn look_at_kind(
     alloc: Global,
     seen: &mut SeenKind,
@@ -395,19 +432,33 @@ fn look_at_kind(
     let kind = seen.kind;
     let numbers = numbers_of(alloc, state, kind)?;
     for (index, number) in numbers.iter().enumerate() {
-        if let Some(view) = thing_view(alloc, state, kind, *number)? {
-            let now = SeenObject {
-                number: *number,
-                view,
-            };
-            look_at_object(&mut seen.objects, index, now, part, kind, changes)?;
-        }
+        look_at_number(alloc, seen, index, *number, part, state, changes)?;
     }
     end_objects(&mut seen.objects, numbers.len(), part, kind, changes)
 }
 
+// Adds the object of this number, with this index among those of its kind, if it is new or no longer as it was seen.
+fn look_at_number(
+    alloc: Global,
+    seen: &mut SeenKind,
+    index: usize,
+    number: u32,
+    part: PartId,
+    state: &PartitionState,
+    changes: &mut Vec<Change>,
+) -> Result<(), AllocError>
+    ensures { OnOk result ((partition : Partition) → AddsOnly (IsOfPartition part partition) changes.old.items changes.new.items) }
+{
+    match thing_view(alloc, state, seen.kind, number)? {
+        Some(view) => {
+            let now = SeenObject { number, view };
+            look_at_object(&mut seen.objects, index, now, part, seen.kind, changes)
+        }
+        None => Ok(()),
+    }
+}
+
 // Adds the object with this index among those of its kind, if it is new or no longer as it was seen.
-#[tactic(auto, using(crate::proofs::Adding::adds_none, crate::proofs::Adding::adds_one, crate::proofs::Adding::adds_more))]
 fn look_at_object(
     seen: &mut Vec<SeenObject>,
     index: usize,
@@ -419,13 +470,20 @@ fn look_at_object(
     ensures { OnOk result ((partition : Partition) → AddsOnly (IsOfPartition part partition) changes.old.items changes.new.items) }
 {
     let number = now.number;
-    match see_object(seen, index, now)? {
-        Found::AsSeen => return Ok(()),
-        Found::Changed => {}
-        Found::Replaces(before) => changes.push(Change::Removed(key_of(part, kind, before)))?,
+    let found = see_object(seen, index, now)?;
+    let change = Change::Thing(ThingKey::Object { part, kind, number });
+    match found {
+        Found::AsSeen => Ok(()),
+        Found::Changed => add(changes, change),
+        Found::Replaces(before) => {
+            let removed = ThingKey::Object {
+                part,
+                kind,
+                number: before,
+            };
+            add_both(changes, Change::Removed(removed), change)
+        }
     }
-    changes.push(Change::Thing(key_of(part, kind, number)))?;
-    Ok(())
 }
 
 // Keeps what is now seen of the object with this index among those of its kind, and returns what it finds.
@@ -452,7 +510,6 @@ fn see_object(
 }
 
 // Adds the objects of a kind that were seen after this many, and no longer exist.
-#[tactic(auto, using(crate::proofs::Adding::adds_none, crate::proofs::Adding::adds_one, crate::proofs::Adding::adds_more))]
 fn end_objects(
     seen: &mut Vec<SeenObject>,
     count: usize,
@@ -463,17 +520,17 @@ fn end_objects(
     ensures { OnOk result ((partition : Partition) → AddsOnly (IsOfPartition part partition) changes.old.items changes.new.items) }
 {
     'ended: for _ in count..seen.len() {
-        if let Some(last) = seen.pop() {
-            changes.push(Change::Removed(key_of(part, kind, last.number)))?;
-        }
+        let Some(last) = seen.pop() else {
+            return Ok(());
+        };
+        let removed = ThingKey::Object {
+            part,
+            kind,
+            number: last.number,
+        };
+        add(changes, Change::Removed(removed))?;
     }
     Ok(())
-}
-
-fn key_of(part: PartId, kind: ObjectKind, number: u32) -> ThingKey
-    ensures { result ≡ ThingKey.Object part kind number }
-{
-    ThingKey::Object { part, kind, number }
 }
 
 // The numbers of the objects of a kind, in the order of their creation.

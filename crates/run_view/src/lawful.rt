@@ -1,12 +1,12 @@
 // What would have been lawful if a piece rejects a record.
 
-ghost use Rattle.std.specs.Prelude.{◌≡◌, ◌++◌, IfOk, OnOk};
+ghost use Rattle.std.specs.Prelude.{◌≡◌, ◌++◌, [], ◌∷◌, IfOk, OnOk, map};
 ghost use Rattle.apex_machine.specs.Answer.{NamesExactly};
 ghost use Rattle.wait_set.specs.Givens.{answer_given};
 ghost use Rattle.piece_check.specs.Parts.{AgreesOn};
 ghost use Rattle.run_view.specs.Lawful.{IsLawful, IsLawfulCall, IsLawfulClaim, PutsRight, all_put_right, if_misnamed, lawful_names, lawful_priority, put_right, put_right_at_tick};
 
-use crate::waiter::waiters_of;
+use crate::waiter::{Waiter, waiters_of};
 use apex_types::{Body, Call, Cause, CoreId, Ordered, Out, Who, Woken};
 use module_config::Config;
 use piece_check::{Evidence, Misnaming, Piece, Seen, misnamed_by};
@@ -43,9 +43,7 @@ pub fn lawful_of(
 {
     let body = &ordered.rec.body;
     match piece.evidence(config, ordered, cause) {
-        Evidence::Choice { choice, .. } => {
-            Ok(vec![in alloc; Lawful::Runs(ordered.core, choice)]?)
-        }
+        Evidence::Choice { choice, .. } => only(alloc, Lawful::Runs(ordered.core, choice)),
         Evidence::Priority { current, .. } => lawful_priority(alloc, body, current),
         Evidence::Answer(given) => lawful_claim(alloc, &given, body, cause),
         Evidence::Named => lawful_names(alloc, piece, ordered.core, body),
@@ -53,12 +51,19 @@ pub fn lawful_of(
     }
 }
 
+// This alone.
+fn only(alloc: Global, lawful: Lawful) -> Result<Vec<Lawful>, AllocError>
+    ensures { IfOk result (λ shown. shown.items ≡ lawful ∷ []) }
+{
+    Ok(vec![in alloc; lawful]?)
+}
+
 // The current priority of the caller of a call.
 fn lawful_priority(alloc: Global, body: &Body, current: u8) -> Result<Vec<Lawful>, AllocError>
     ensures { IfOk result (λ lawful. lawful.items ≡ lawful_priority body.now current) }
 {
     match body {
-        Body::Call(call) => Ok(vec![in alloc; Lawful::HasPriority(call.who, current)]?),
+        Body::Call(call) => only(alloc, Lawful::HasPriority(call.who, current)),
         Body::Ret(_) | Body::Disp(_) | Body::Tick(_) => Ok(Vec::new(alloc)),
     }
 }
@@ -103,7 +108,7 @@ fn lawful_call(
     ensures { IfOk result (λ lawful. IsLawfulCall (answer_given given.now) call.now cause lawful.items) }
 {
     match cause {
-        Cause::Out => Ok(vec![in alloc; Lawful::Gets(call.who, given.out)]?),
+        Cause::Out => only(alloc, Lawful::Gets(call.who, given.out)),
         Cause::Woken => put_right_by(alloc, given, &call.claim.woken),
         Cause::Names
         | Cause::Skew
@@ -137,11 +142,18 @@ fn ended_by(alloc: Global, given: &Given<'_>) -> Result<Vec<Who>, AllocError>
     match (given.woken_all, given.woken) {
         (Some(set), _) => {
             let waiters = waiters_of(alloc, set)?;
-            waiters.iter().map(|waiter| waiter.who).collect(alloc)
+            processes_of(alloc, waiters.as_slice())
         }
         (None, Some(who)) => Ok(vec![in alloc; who]?),
         (None, None) => Ok(Vec::new(alloc)),
     }
+}
+
+// The processes that wait.
+fn processes_of(alloc: Global, waiters: &[Waiter]) -> Result<Vec<Who>, AllocError>
+    ensures { IfOk result (λ processes. processes.items ≡ map (λ waiter. waiter.who) waiters.now) }
+{
+    waiters.iter().map(|waiter| waiter.who).collect(alloc)
 }
 
 // Adds the processes of a list that a call names wrongly.
@@ -197,7 +209,7 @@ fn put_right_at_tick(
         return Ok(lawful);
     };
     let table = state.processes();
-    for index in 0..table.len().saturating_add(1) {
+    for index in 0..=table.len() {
         let Some((process, _)) = table.at(index) else {
             return Ok(lawful);
         };

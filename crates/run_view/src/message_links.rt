@@ -165,22 +165,24 @@ impl LinkedThing {
         })
     }
 
-    // A message comes after the others, or goes to a receiver whose wait ends.
+    // A message goes to a receiver whose wait ends, or comes after the others.
     fn send(&mut self, sent: Sent, call: &Call) -> Result<Followed, AllocError> {
-        let received = match call.claim.woken.as_slice().first() {
-            Some(who) => Some(Received {
+        if let Some(who) = call.claim.woken.as_slice().first() {
+            let received = Received {
                 sent,
                 by: *who,
                 stays: false,
-            }),
-            None => {
-                self.held.push_back(Some(sent))?;
-                None
-            }
-        };
+            };
+            return Ok(Followed {
+                is_sent: true,
+                received: Some(received),
+                ended: None,
+            });
+        }
+        self.held.push_back(Some(sent))?;
         Ok(Followed {
             is_sent: true,
-            received,
+            received: None,
             ended: None,
         })
     }

@@ -1,6 +1,6 @@
 // What an object or a channel holds, and who waits there.
 
-ghost use Rattle.std.specs.Prelude.{◌≡◌, IfOk, option_map};
+ghost use Rattle.std.specs.Prelude.{◌≡◌, ℕ, IfOk, option_map};
 ghost use Rattle.std.specs.List.{find};
 ghost use Rattle.std.specs.Option.{option_copied};
 ghost use Rattle.piece_check.specs.Parts.{Holding};
@@ -116,10 +116,29 @@ fn home_of<'a>(pieces: &'a [Piece], key: &ThingKey) -> Option<&'a Piece>
 fn holds(piece: &Piece, key: &ThingKey) -> bool
     ensures { result ≡ holds piece.now.part key.now }
 {
-    match (piece.subject(), key) {
-        (Subject::Partition(number), ThingKey::Object { part, .. }) => number == *part,
-        (Subject::Channel(number), ThingKey::Channel(channel)) => number == *channel,
-        _ => false,
+    match key {
+        ThingKey::Object { part, .. } => is_partition(piece, *part),
+        ThingKey::Channel(channel) => is_channel(piece, *channel),
+    }
+}
+
+// Whether a piece is this partition, in which its objects are.
+fn is_partition(piece: &Piece, part: PartId) -> bool
+    ensures { (kind : ObjectKind) (number : ℕ) → result ≡ holds piece.now.part (ThingKey.Object part kind number) }
+{
+    match piece.subject() {
+        Subject::Partition(number) => number.number() == part.number(),
+        Subject::Module | Subject::Channel(_) => false,
+    }
+}
+
+// Whether a piece is this channel.
+fn is_channel(piece: &Piece, channel: ChanId) -> bool
+    ensures { result ≡ holds piece.now.part (ThingKey.Channel channel) }
+{
+    match piece.subject() {
+        Subject::Channel(number) => number.number() == channel.number(),
+        Subject::Module | Subject::Partition(_) => false,
     }
 }
 
@@ -127,14 +146,34 @@ fn holds(piece: &Piece, key: &ThingKey) -> bool
 fn view_in(alloc: Global, piece: &Piece, key: &ThingKey) -> Result<Option<ThingView>, AllocError>
     ensures { IfOk result (ShowsIn piece.now.part key.now) }
 {
-    match (piece.seen(), key) {
-        (Seen::Partition { state, .. }, ThingKey::Object { kind, number, .. }) => {
-            thing_view(alloc, state, *kind, *number)
-        }
-        (Seen::Channel { channel, .. }, ThingKey::Channel(_)) => {
-            Ok(Some(channel_view(alloc, channel)?))
-        }
-        _ => Ok(None),
+    match key {
+        ThingKey::Object { kind, number, .. } => object_view(alloc, piece, *kind, *number),
+        ThingKey::Channel(_) => whole_view(alloc, piece),
+    }
+}
+
+// What an object holds that is in this piece.
+fn object_view(
+    alloc: Global,
+    piece: &Piece,
+    kind: ObjectKind,
+    number: u32,
+) -> Result<Option<ThingView>, AllocError>
+    ensures { (part : ℕ) → IfOk result (ShowsIn piece.now.part (ThingKey.Object part kind number)) }
+{
+    match piece.seen() {
+        Seen::Partition { state, .. } => thing_view(alloc, state, kind, number),
+        Seen::Module { .. } | Seen::Channel { .. } => Ok(None),
+    }
+}
+
+// What a channel holds that is this piece.
+fn whole_view(alloc: Global, piece: &Piece) -> Result<Option<ThingView>, AllocError>
+    ensures { (channel : ℕ) → IfOk result (ShowsIn piece.now.part (ThingKey.Channel channel)) }
+{
+    match piece.seen() {
+        Seen::Channel { channel, .. } => Ok(Some(channel_view(alloc, channel)?)),
+        Seen::Module { .. } | Seen::Partition { .. } => Ok(None),
     }
 }
 

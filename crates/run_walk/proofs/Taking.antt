@@ -1,16 +1,17 @@
 -- Pieces that take a record in the order of their numbers.
-use Rattle.std.proofs.Common.{below_more, ◌≡◌, ◌≢◌, ◌<◌, ◌≤◌, ◌+◌, ◌∙◌, ℕ, zero, suc, List, [], ◌∷◌, ◌++◌, Option, Some, None, true, length, set, refl, sym, ap, subst, inl, inr, arith}
+use Rattle.std.proofs.Common.{below_more, ◌≡◌, ◌≢◌, ◌<◌, ◌≤◌, ◌+◌, ◌∙◌, ℕ, zero, suc, List, [], ◌∷◌, Some, None, true, false, length, get_or, set, refl, sym, ap, subst, inl, inr, arith}
 use Rattle.std.proofs.lemmas.Bool.{cases_eq}
 use Rattle.std.proofs.lemmas.List.{length-set}
 use Rattle.apex_types.specs.declared.cause.Cause.{Cause}
 use Rattle.apex_types.specs.declared.record.Ordered.{Ordered}
 use Rattle.apex_machine.specs.Configuration.{Configuration}
-use Rattle.apex_machine.specs.Demands.{FirstFails, demands}
-use Rattle.apex_machine.specs.Pieces.{Part, Piece, pieces, touches}
+use Rattle.apex_machine.specs.Demands.{FirstFails, LocalStep, demands}
+use Rattle.apex_machine.specs.Pieces.{Piece, pieces, touches}
 use Rattle.apex_machine.specs.Runs.{Goes, PieceRun}
-use Rattle.piece_check.specs.Parts.{Holding, HoldsBefore, holder, piece_at}
-use Rattle.verdict_merge.specs.Rounds.{AllRun, AreGoing, IsGoing, IsNo, Rejects, holding_at, parts_in}
-use Rattle.run_walk.specs.declared.walk.Refusal.{Refusal}
+use Rattle.piece_check.proofs.Parting.{HoldsBefore_later}
+use Rattle.piece_check.specs.Parts.{Holding, HoldsBefore, IsOf, holder, piece_at}
+use Rattle.verdict_merge.proofs.Holdings.{holding_at-get}
+use Rattle.verdict_merge.specs.Rounds.{AllRun, AreGoing, IsGoing, Rejects, holding_at, parts_in}
 use Rattle.run_walk.specs.Walks.{HasTaken, Takes}
 
 -- a piece by its number, once one of them is another
@@ -27,6 +28,43 @@ set_elsewhere (holding ∷ others) zero (suc other) new apart = refl
 set_elsewhere (holding ∷ others) (suc number) zero new apart = refl
 set_elsewhere (holding ∷ others) (suc number) (suc other) new apart = set_elsewhere others number other new (λ same. apart (ap suc same))
 
+-- the piece with a number
+pub at_number : (holdings : List Holding) (number : ℕ) (holding : Holding) → number < length holdings → holding ≡ get_or holdings number holding → holding_at holdings number ≡ holding
+at_number holdings number holding within is = holding_at-get holdings number holding within ∙ sym is
+
+-- it may judge records from a place on, as all do
+pub going_at : (configuration : Configuration) (place : ℕ) (holdings : List Holding) (number : ℕ) (piece : Holding) → AreGoing configuration place holdings → number < length holdings
+    → piece ≡ get_or holdings number piece → IsGoing configuration number place piece
+going_at configuration place holdings number piece going within is =
+    let there : number < length (pieces configuration) = omega (arith, within, going.whole) in
+    subst (λ (holding : Holding). IsGoing configuration number place holding) (at_number holdings number piece within is) (going.each number there)
+
+-- one piece
+
+-- a piece that a record does not touch may take the next one
+pub passed : (configuration : Configuration) (ordered : Ordered) (holding : Holding) → touches configuration (holder holding.part) ordered ≡ false → IsOf configuration holding
+    → HoldsBefore ordered.pos holding.part → HasTaken configuration ordered holding None holding
+passed configuration ordered holding untouched of before = (
+  subst (λ touched. Goes touched configuration holding.part ordered holding.part) (sym untouched) refl,
+  refl,
+  of,
+  HoldsBefore_later ordered.pos (ordered.pos + 1) holding.part (omega arith) before,
+)
+
+-- a piece makes its step
+pub stepped : (configuration : Configuration) (ordered : Ordered) (old new : Holding) → touches configuration (holder old.part) ordered ≡ true
+    → LocalStep configuration old.part ordered new.part → holder new.part ≡ holder old.part → IsOf configuration new → HoldsBefore (ordered.pos + 1) new.part
+    → HasTaken configuration ordered old None new
+stepped configuration ordered old new touched step whose of before =
+    (subst (λ one. Goes one configuration old.part ordered new.part) (sym touched) step, whose, of, before)
+
+-- a piece rejects it
+pub rejected : (configuration : Configuration) (ordered : Ordered) (cause : Cause) (old new : Holding) → touches configuration (holder old.part) ordered ≡ true
+    → FirstFails (demands configuration old.part ordered) cause → new.part ≡ old.part → HasTaken configuration ordered old (Some cause) new
+rejected configuration ordered cause old new touched fails same = ((touched, fails), same)
+
+-- all pieces, one after another
+
 -- this many pieces have taken a record, and the others are as they were
 pub record HaveTaken (configuration : Configuration) (ordered : Ordered) (count : ℕ) (old new : List Holding) : Type 0 where
   pub whole : length new ≡ length old
@@ -35,6 +73,20 @@ pub record HaveTaken (configuration : Configuration) (ordered : Ordered) (count 
 
 pub none_taken : (configuration : Configuration) (ordered : Ordered) (old : List Holding) → HaveTaken configuration ordered 0 old old
 none_taken configuration ordered old = record { whole = refl; taken = λ number none. absurd (omega (arith, none)); left = λ number any. refl }
+
+-- the next piece is as it was
+pub as_it_was : (configuration : Configuration) (ordered : Ordered) (count : ℕ) (old now : List Holding) (piece : Holding) → HaveTaken configuration ordered count old now
+    → count < length now → piece ≡ get_or now count piece → holding_at old count ≡ piece
+as_it_was configuration ordered count old now piece have within is =
+    let same : count ≤ count = omega arith in
+    sym (have.left count same) ∙ at_number now count piece within is
+
+-- the next piece may take it
+pub may_take : (configuration : Configuration) (ordered : Ordered) (count : ℕ) (old now : List Holding) (piece : Holding) → AreGoing configuration ordered.pos old
+    → HaveTaken configuration ordered count old now → count < length now → piece ≡ get_or now count piece → IsGoing configuration count ordered.pos piece
+may_take configuration ordered count old now piece going have within is =
+    let there : count < length (pieces configuration) = omega (arith, within, have.whole, going.whole) in
+    subst (λ (holding : Holding). IsGoing configuration count ordered.pos holding) (as_it_was configuration ordered count old now piece have within is) (going.each count there)
 
 -- one more piece has taken it
 pub one_taken : (configuration : Configuration) (ordered : Ordered) (count : ℕ) (old now new : List Holding) (piece : Holding) → HaveTaken configuration ordered count old now

@@ -1,13 +1,13 @@
 -- The view that the pieces have of a record.
-use Rattle.std.proofs.Common.{◌≡◌, ◌<◌, ◌∙◌, ℕ, List, Option, Some, None, length, sym, ap, subst, arith}
+use Rattle.std.proofs.Common.{◌≡◌, ◌<◌, ℕ, List, Some, length, arith}
 use Rattle.apex_types.specs.declared.record.Ordered.{Ordered}
 use Rattle.apex_types.specs.declared.view.View.{View}
 use Rattle.apex_machine.specs.Configuration.{Configuration}
 use Rattle.apex_machine.specs.Pieces.{pieces}
-use Rattle.apex_machine.specs.Views.{judge, view_in}
+use Rattle.apex_machine.specs.Views.{view_in}
 use Rattle.piece_check.proofs.Viewing.{view_is_of_judge}
 use Rattle.piece_check.specs.Parts.{Holding, piece_at}
-use Rattle.verdict_merge.specs.Rounds.{AreGoing, holding_at, parts_in}
+use Rattle.verdict_merge.specs.Rounds.{AreGoing, holding_at}
 use Rattle.run_walk.specs.Walks.{IsViewAt}
 
 -- a view that a piece has is that of the piece that judges the record

@@ -4,6 +4,7 @@ use Rattle.std.proofs.lemmas.Result.{on_ok_weaker}
 use Rattle.apex_machine.specs.Configuration.{Configuration}
 use Rattle.apex_machine.specs.Pieces.{Part}
 use Rattle.run_view.specs.Changes.{AddsOnly, IsOfCores, IsOfPart}
+use Rattle.run_view.proofs.Adding.{adds_none}
 use Rattle.run_view.proofs.Parts.{module_seen}
 use Rattle.run_view.proofs.last_seen.LastSeen.look_at.Goals as goal
 
@@ -22,3 +23,6 @@ returns-in-Some c =
     on_ok_weaker c.look_at.result
     (λ (adds : (configuration : Configuration) → AddsOnly (IsOfPart configuration c.args.piece.now.part) c.args.changes.now.items c.look_at.new.changes.items). adds c.args.config.now)
     c.look_at.ensures
+
+pub returns-in-None : goal.returns-in-None
+returns-in-None c = adds_none (IsOfPart c.args.config.now c.args.piece.now.part) c.args.changes.now.items
