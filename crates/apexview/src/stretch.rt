@@ -177,10 +177,15 @@ impl Stretch {
         let judgement = run.judge(&ordered)?;
         let verdict = run.verdict(alloc, &ordered, &judgement, explainer);
         match verdict {
-            None => self.keep(shown, ordered)?,
-            Some(_) => self.decide(alloc, shown, run, ordered, &judgement)?,
+            None => {
+                self.keep(shown, ordered)?;
+                Ok(None)
+            }
+            Some(_) => {
+                self.decide(alloc, shown, run, ordered, &judgement)?;
+                Ok(verdict)
+            }
         }
-        Ok(verdict)
     }
 
     // Keeps an accepted record. If there are then more than the span, the pieces before the stretch take the first one.
