@@ -1,7 +1,7 @@
 // Why a run is not shown completely.
 
 use crate::ending::{Ending, out_of_memory};
-use apex_types::Ordered;
+use apex_types::{Cause, Ordered, Place};
 use placement::{InputFault, PlacingFault};
 use report::{CheckFault, Verdict};
 use run_walk::{Refusal, WalkFault};
@@ -15,7 +15,11 @@ pub enum ShowFault {
     /// The certificate, the order or a recording is refused.
     Input(InputFault),
     /// A piece rejects a record in the second walk, over the records that the first walk accepted.
-    Rejected(Verdict),
+    Rejected {
+        pos: Place,
+        piece: usize,
+        cause: Cause,
+    },
     /// Memory was refused.
     Memory,
     /// Standard output could not be written.
@@ -27,7 +31,9 @@ impl ShowFault {
     pub fn ending(self) -> Ending {
         match self {
             ShowFault::Input(fault) => Ending::Checked(Err(CheckFault::Input(fault))),
-            ShowFault::Rejected(verdict) => Ending::Checked(Ok(verdict)),
+            ShowFault::Rejected { pos, piece, cause } => {
+                Ending::Checked(Ok(Verdict::No { pos, piece, cause }))
+            }
             ShowFault::Memory => out_of_memory(),
             ShowFault::Unwritten => Ending::Unwritten,
         }
@@ -36,11 +42,11 @@ impl ShowFault {
 
 /// The fault of a rejected record.
 pub fn rejected(ordered: &Ordered, refusal: &Refusal) -> ShowFault {
-    ShowFault::Rejected(Verdict::No {
+    ShowFault::Rejected {
         pos: ordered.pos,
         piece: refusal.piece,
         cause: refusal.cause,
-    })
+    }
 }
 
 impl From<PlacingFault> for ShowFault {

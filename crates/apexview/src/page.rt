@@ -1,8 +1,9 @@
 // A run as a picture.
 
-ghost use Rattle.std.specs.Prelude.{◌≡◌, ◌<◌, ◌+◌, IfOk, OnOk, false, length};
+ghost use Rattle.std.specs.Prelude.{◌≡◌, ◌<◌, ◌+◌, ℕ, IfOk, OnOk, false, length};
 ghost use Rattle.order_cert.specs.Kept.{place_of};
 ghost use Rattle.verdict_merge.specs.Rounds.{AreGoing};
+ghost use Rattle.apexview.specs.Going.{IsKept};
 ghost use Rattle.apexview.specs.Stretches.{IsWhole};
 
 use crate::ending::{Ending, Line};
@@ -21,6 +22,7 @@ use run_view::{Change, LastSeen, MessageLinks};
 use run_walk::Walk;
 use sink::{Sink, put_all};
 use std::alloc::{AllocError, Global};
+use std::collections::VecDeque;
 use std::fs::{File, Files};
 use std::sync::Wait;
 use view_page::{
@@ -162,38 +164,39 @@ fn picture_of<R: Files<File = File>>(
     let rows = rows_of(rt, alloc, shown, &stretch)?;
     let Stretch {
         before,
-        mut kept,
+        kept,
         rejected,
         is_broken,
         after,
     } = stretch;
     let mut drawing = Drawing::begin(alloc, shown.config, before)?;
-    'records: for _ in 0..kept.len() {
-        let Some(ordered) = kept.pop_front() else {
-            break;
-        };
-        let status = if is_broken && kept.is_empty() {
-            Status::Broken
-        } else {
-            Status::Accepted
-        };
-        drawing.accept(&rows, &ordered, status)?;
-    }
+    drawing.accept_all(&rows, kept, is_broken)?;
     let mut picture = drawing.end();
-    if let Some(rejected) = &rejected {
+    let is_judged = rejected.is_none() && !is_broken;
+    if let Some(rejected) = rejected {
         let added = added(&rows, &rejected.ordered, Status::Rejected);
         picture.reject(&added, rejected.cause_name(), rejected.lawful.as_slice())?;
     }
-    let is_judged = rejected.is_none() && !is_broken;
+    follow_all(&mut picture, &rows, after.as_slice(), is_judged)?;
+    Ok(picture)
+}
+
+// Adds the records after those that were judged, or after the one that decided.
+fn follow_all(
+    picture: &mut Picture,
+    rows: &ShownRows<'_>,
+    after: &[Ordered],
+    is_judged: bool,
+) -> Result<(), ShowFault> {
     let status = if is_judged {
         Status::Beyond
     } else {
         Status::After
     };
-    for ordered in after.iter() {
-        picture.follow(&added(&rows, ordered, status))?;
+    for ordered in after {
+        picture.follow(&added(rows, ordered, status))?;
     }
-    Ok(picture)
+    Ok(())
 }
 
 // The rows of the records of a stretch.
@@ -262,6 +265,26 @@ impl<'a> Drawing<'a> {
         picture
     }
 
+    // Adds records that follow one another and were accepted. The last of them may break a rule.
+    #[tactic(auto, using(crate::proofs::Kept::first_going, crate::proofs::Kept::first_core, crate::proofs::Kept::kept_on))]
+    fn accept_all(
+        &mut self,
+        rows: &ShownRows<'_>,
+        mut kept: VecDeque<Ordered>,
+        is_broken: bool,
+    ) -> Result<(), ShowFault>
+        requires { (next : ℕ) × IsKept self.old.config.now next self.old.walk kept.items }
+    {
+        'records: for _ in 0..kept.len() {
+            let Some(ordered) = kept.pop_front() else {
+                break;
+            };
+            let status = status_of(is_broken, kept.is_empty());
+            self.accept(rows, &ordered, status)?;
+        }
+        Ok(())
+    }
+
     // Adds a record that was accepted, or that breaks a rule.
     fn accept(
         &mut self,
@@ -286,6 +309,15 @@ impl<'a> Drawing<'a> {
         self.picture
             .accept(pieces, &added, self.changes.as_slice(), followed.received)?;
         Ok(())
+    }
+}
+
+// How a record was judged that a stretch keeps.
+fn status_of(is_broken: bool, is_last: bool) -> Status {
+    if is_broken && is_last {
+        Status::Broken
+    } else {
+        Status::Accepted
     }
 }
 

@@ -1,6 +1,6 @@
 // The next record at its place.
 
-ghost use Rattle.std.specs.Prelude.{◌≡◌, ◌<◌, IfOk, IfSome, false, length, suc};
+ghost use Rattle.std.specs.Prelude.{◌≡◌, ◌<◌, ◌+◌, IfOk, IfSome, false, length};
 ghost use Rattle.order_cert.specs.Kept.{place_of};
 
 use apex_types::Ordered;
@@ -17,7 +17,7 @@ pub fn next_placed<R: Wait, S: TextSource, C: TextSource>(
 ) -> Result<Option<Ordered>, PlacingFault>
     requires going { placer.old.ended ≡ false }
     ensures going { IfOk result (λ ordered. IfSome ordered (λ _. placer.new.ended ≡ false)) }
-    ensures place { IfOk result (λ ordered. IfSome ordered (λ found. (found.pos ≡ place_of placer.old.kept) × (place_of placer.new.kept ≡ suc (place_of placer.old.kept)))) }
+    ensures place { IfOk result (λ ordered. IfSome ordered (λ found. (found.pos ≡ place_of placer.old.kept) × (place_of placer.new.kept ≡ found.pos + 1))) }
     ensures core { IfOk result (λ ordered. IfSome ordered (λ found. found.core < length placer.old.lanes)) }
     ensures lanes { length placer.new.lanes ≡ length placer.old.lanes }
 {

@@ -132,6 +132,22 @@ impl<'a> Run<'a> {
         Ok(Judgement::Accepted)
     }
 
+    /// Judges the next record. The verdict if it decides; then the explainer receives what explains it.
+    pub fn verdict_of_next(
+        &mut self,
+        alloc: Global,
+        ordered: &Ordered,
+        explainer: &mut Explainer,
+    ) -> Result<Option<Verdict>, WalkFault>
+        requires going { AreGoing self.old.shown.now.config.now ordered.now.pos self.old.walk }
+        requires core { ordered.now.core < self.old.shown.now.config.now.cores }
+        ensures going { result ≡ Ok None → AreGoing self.old.shown.now.config.now (ordered.now.pos + 1) self.new.walk }
+        ensures shown { self.new.shown ≡ self.old.shown }
+    {
+        let judgement = self.judge(ordered)?;
+        Ok(self.verdict(alloc, ordered, &judgement, explainer))
+    }
+
     // What the rules see of the next record. Without rules no view is made.
     fn view(&self, ordered: &Ordered) -> Option<View>
         requires { AreGoing self.now.shown.now.config.now ordered.now.pos self.now.walk }

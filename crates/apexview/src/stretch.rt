@@ -1,6 +1,6 @@
 // The stretch of a run that a picture shows.
 
-ghost use Rattle.std.specs.Prelude.{◌≡◌, ◌<◌, ◌+◌, [], IfOk, OnOk, false, length};
+ghost use Rattle.std.specs.Prelude.{◌≡◌, ◌<◌, ◌+◌, [], IfOk, None, Ok, OnOk, false, length};
 ghost use Rattle.order_cert.specs.Kept.{place_of};
 ghost use Rattle.verdict_merge.specs.Rounds.{AreGoing};
 ghost use Rattle.apexview.specs.Going.{IsKept};
@@ -86,14 +86,9 @@ pub fn gather<R: Wait, S: TextSource, C: TextSource>(
             )?;
             return Ok((verdict, stretch));
         }
-        let judgement = run.judge(&ordered)?;
-        match run.verdict(alloc, &ordered, &judgement, explainer) {
-            None => stretch.keep(shown, ordered)?,
-            Some(verdict) => {
-                stretch.decide(alloc, shown, &run, ordered, &judgement)?;
-                stretch.add_after(rt, alloc, placer)?;
-                return Ok((verdict, stretch));
-            }
+        if let Some(verdict) = stretch.judge(alloc, shown, &mut run, ordered, explainer)? {
+            stretch.add_after(rt, alloc, placer)?;
+            return Ok((verdict, stretch));
         }
     }
     Err(ShowFault::Memory)
@@ -119,8 +114,7 @@ fn judge_after<R: Wait, S: TextSource, C: TextSource>(
     let mut placed = Vec::new(alloc);
     let mut next = first;
     'records: for _ in 0..u64::MAX {
-        let judgement = run.judge(&next)?;
-        let verdict = run.verdict(alloc, &next, &judgement, explainer);
+        let verdict = run.verdict_of_next(alloc, &next, explainer)?;
         stretch.keep_after(next)?;
         if let Some(verdict) = verdict {
             stretch.add_after(rt, alloc, placer)?;
@@ -159,6 +153,38 @@ impl Stretch {
             rejected: None,
             is_broken: false,
             after: Vec::new(alloc),
+        }
+    }
+
+    // Judges the next record, and keeps it.
+    fn judge(
+        &mut self,
+        alloc: Global,
+        shown: &Shown<'_>,
+        run: &mut Run<'_>,
+        ordered: Ordered,
+        explainer: &mut Explainer,
+    ) -> Result<Option<Verdict>, ShowFault>
+        requires shown { run.old.shown.now ≡ shown.now }
+        requires pieces { AreGoing shown.now.config.now ordered.pos run.old.walk }
+        requires kept { IsKept shown.now.config.now ordered.pos self.old.before self.old.kept.items }
+        requires core { ordered.core < shown.now.config.now.cores }
+        ensures shown { run.new.shown ≡ run.old.shown }
+        ensures pieces { result ≡ Ok None → AreGoing shown.now.config.now (ordered.pos + 1) run.new.walk }
+        ensures kept { result ≡ Ok None → IsKept shown.now.config.now (ordered.pos + 1) self.new.before self.new.kept.items }
+        ensures whole { OnOk result (IsWhole shown.now.config.now self.new) }
+    {
+        let judgement = run.judge(&ordered)?;
+        let verdict = run.verdict(alloc, &ordered, &judgement, explainer);
+        match verdict {
+            None => {
+                self.keep(shown, ordered)?;
+                Ok(None)
+            }
+            Some(_) => {
+                self.decide(alloc, shown, run, ordered, &judgement)?;
+                Ok(verdict)
+            }
         }
     }
 

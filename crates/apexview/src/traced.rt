@@ -1,7 +1,8 @@
 // A whole run as a trace.
 
-ghost use Rattle.std.specs.Prelude.{◌≡◌, false, length};
+ghost use Rattle.std.specs.Prelude.{◌≡◌, ◌<◌, ◌+◌, None, Ok, false, length};
 ghost use Rattle.order_cert.specs.Kept.{place_of};
+ghost use Rattle.verdict_merge.specs.Rounds.{AreGoing};
 
 use crate::ending::Ending;
 use crate::fault::ShowFault;
@@ -68,11 +69,9 @@ fn trace_all<R: Wait, S: TextSource, C: TextSource, W: Sink>(
         let Some(ordered) = next_placed(rt, placer, &mut placed)? else {
             return Ok(run.yes());
         };
-        let judgement = run.judge(&ordered)?;
-        if !shown.is_past(&ordered) {
-            following.add(shown, &run, &ordered, &judgement, tracer)?;
-        }
-        if let Some(verdict) = run.verdict(alloc, &ordered, &judgement, explainer) {
+        if let Some(verdict) = following.judge(
+            alloc, shown, &mut run, &ordered, explainer, tracer,
+        )? {
             return Ok(verdict);
         }
     }
@@ -107,6 +106,29 @@ impl Following {
             .look(shown.config, pieces, None, &mut self.changes)?;
         tracer.begin(pieces, self.changes.as_slice())?;
         Ok(())
+    }
+
+    // Judges the next record, and traces it unless it is after the requested place.
+    fn judge<W: Sink>(
+        &mut self,
+        alloc: Global,
+        shown: &Shown<'_>,
+        run: &mut Run<'_>,
+        ordered: &Ordered,
+        explainer: &mut Explainer,
+        tracer: &mut Tracer<'_, W>,
+    ) -> Result<Option<Verdict>, ShowFault>
+        requires shown { run.old.shown.now ≡ shown.now }
+        requires pieces { AreGoing shown.now.config.now ordered.now.pos run.old.walk }
+        requires core { ordered.now.core < shown.now.config.now.cores }
+        ensures shown { run.new.shown ≡ run.old.shown }
+        ensures pieces { result ≡ Ok None → AreGoing shown.now.config.now (ordered.now.pos + 1) run.new.walk }
+    {
+        let judgement = run.judge(ordered)?;
+        if !shown.is_past(ordered) {
+            self.add(shown, run, ordered, &judgement, tracer)?;
+        }
+        Ok(run.verdict(alloc, ordered, &judgement, explainer))
     }
 
     fn add<W: Sink>(
