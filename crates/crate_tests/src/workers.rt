@@ -1,7 +1,8 @@
 // What no clause says: that several threads claim pieces at the same time, and what a board says when it refuses.
 
-ghost use Rattle.std.specs.Prelude.{◌≡◌, [], IfOk, IfSome};
+ghost use Rattle.std.specs.Prelude.{◌≡◌, [], IfOk, IfSome, map};
 ghost use Rattle.apex_machine.specs.Runs.{ArePlaced, AreOfCores};
+ghost use Rattle.piece_check.specs.Quiet.{quiet_core};
 ghost use Rattle.piece_check.specs.Touching.{AreSortedOut, indices_of};
 ghost use Rattle.partition_workers.specs.Contents.{AreGoingFrom, IsOpen, content_of, parts_held};
 
@@ -76,7 +77,8 @@ fn refused_records(alloc: Global) -> Result<Vec<Ordered>, AllocError>
 
 // Which records touch each piece.
 fn sort_out(alloc: Global, config: &Config, records: &[Ordered]) -> Option<Touched>
-    ensures { IfSome result (λ touched. AreSortedOut config.now records.now (indices_of touched)) }
+    ensures sorted { IfSome result (λ touched. AreSortedOut config.now records.now (indices_of touched)) }
+    ensures quiet { IfSome result (λ touched. touched.quiet ≡ map quiet_core records.now) }
 {
     let mut touched = Touched::new(alloc).ok()?;
     touched.sort_out(config, records).ok()?;

@@ -9,7 +9,7 @@ ghost use Rattle.apex_machine.specs.After.{channel_after};
 ghost use Rattle.apex_machine.specs.Channels.{has_channel};
 ghost use Rattle.apex_machine.specs.Demands.{Judges, LocalStep, demands};
 ghost use Rattle.apex_machine.specs.Configuration.{Configuration};
-ghost use Rattle.apex_machine.specs.Pieces.{OfChannel, one_more, part};
+ghost use Rattle.apex_machine.specs.Pieces.{OfChannel, one_more, part, time_at};
 ghost use Rattle.apex_machine.specs.State.{cold_channel, cold_state};
 ghost use Rattle.apex_machine.specs.Waiting.{stops};
 ghost use Rattle.channel.specs.Held.{IsConfigured};
@@ -85,22 +85,13 @@ impl ChannelPiece {
         Ok(())
     }
 
-    /// Passes by a tick that ends no wait: the time of its core rises. Returns whether the record is one. Takes no memory.
-    pub(crate) fn pass_by(&mut self, ordered: &Ordered) -> bool
-        requires core { ordered.now.core < length self.old.times }
-        requires place { ordered.now.pos < PLACE_COUNT }
-        requires holds_before { HoldsBefore ordered.now.pos (channel_part self.old) }
-        ensures value { result ≡ is_quiet ordered.now.rec.body }
-        ensures after { self.new ≡ (if result then record self.old { times = one_more ordered.now.core self.old.times } else self.old) }
+    /// Passes by a tick of this core that ends no wait: the time of the core rises. Takes no memory.
+    pub(crate) fn pass_by(&mut self, core: CoreId)
+        requires core { core < length self.old.times }
+        requires time { time_at self.old.times core < PLACE_COUNT }
+        ensures { self.new ≡ record self.old { times = one_more core self.old.times } }
     {
-        let Body::Tick(woken) = &ordered.rec.body else {
-            return false;
-        };
-        if !woken.as_slice().is_empty() {
-            return false;
-        }
-        self.times.advance(ordered.core);
-        true
+        self.times.advance(core);
     }
 
     /// Judges a record. A call through the channel must meet what the channel demands; of any other record the channel demands nothing.

@@ -1,8 +1,7 @@
 // What a piece holds: the part of the module, of a partition or of a channel.
 
-ghost use Rattle.std.specs.Prelude.{◌<◌, IfErr, IfOk, IfSome, OnErr, OnOk, ◌≡◌, false, true, length};
+ghost use Rattle.std.specs.Prelude.{◌<◌, ◌↔◌, IfErr, IfOk, IfSome, IsTrue, OnErr, OnOk, Some, ◌≡◌, false, true, length};
 ghost use Rattle.apex_types.specs.declared.limits.TheConstants.{PLACE_COUNT};
-ghost use Rattle.apex_machine.specs.Configuration.{Configuration};
 ghost use Rattle.apex_machine.specs.Demands.{Judges, LocalStep, demands};
 ghost use Rattle.apex_machine.specs.Pieces.{part, pieces};
 ghost use Rattle.apex_machine.specs.State.{cold_state, time_of};
@@ -10,7 +9,7 @@ ghost use Rattle.apex_machine.specs.Views.{view_in};
 ghost use Rattle.partition_state.specs.Calls.{RefusesOrWants};
 ghost use Rattle.piece_check.specs.Held.{part_of, settings_of};
 ghost use Rattle.piece_check.specs.Parts.{AgreesOn, HoldsBefore, WantsAtCalls, cores_of, holder, piece_at};
-ghost use Rattle.piece_check.specs.Quiet.{passes_by};
+ghost use Rattle.piece_check.specs.Quiet.{PassesBy, quiet_core};
 ghost use Rattle.piece_check.specs.Found.{IsWindowAt};
 
 use crate::channel_piece::ChannelPiece;
@@ -18,7 +17,7 @@ use crate::module_piece::ModulePiece;
 use crate::partition_piece::PartitionPiece;
 use crate::subject::{Subject, subject_of};
 use crate::windows::WindowAt;
-use apex_types::{Cause, Ordered, View};
+use apex_types::{Cause, CoreId, Ordered, View};
 use module_config::Config;
 use std::alloc::{AllocError, Global};
 use wait_set::ObjFault;
@@ -80,20 +79,34 @@ impl Held {
         }
     }
 
-    /// Lets a channel pass by a tick that ends no wait, and says whether it did. Takes no memory.
-    pub(crate) fn pass_by(&mut self, ordered: &Ordered) -> bool
-        requires core { ordered.now.core < length (cores_of (part_of self.old)) }
+    /// Passes by a tick of this core that ends no wait, if the piece passes by such ticks and all that it demands of this one holds. Returns
+    /// whether it did. Takes no memory.
+    pub(crate) fn pass_by(
+        &mut self,
+        config: &Config,
+        core: CoreId,
+        ordered: &Ordered,
+        window: Option<WindowAt>,
+    ) -> bool
+        requires quiet { quiet_core ordered.now ≡ Some core }
+        requires window { IfSome window (IsWindowAt config.now) }
+        requires core { core < length (cores_of (part_of self.old)) }
         requires place { ordered.now.pos < PLACE_COUNT }
         requires holds_before { HoldsBefore ordered.now.pos (part_of self.old) }
-        ensures value { result ≡ passes_by (part_of self.old) ordered.now }
-        ensures passed { result ≡ true → (configuration : Configuration) → LocalStep configuration (part_of self.old) ordered.now (part_of self.new) }
+        ensures value { IsTrue result ↔ PassesBy config.now (part_of self.old) ordered.now }
+        ensures passed { result ≡ true → LocalStep config.now (part_of self.old) ordered.now (part_of self.new) }
         ensures unchanged { result ≡ false → self.new ≡ self.old }
         ensures settings { settings_of self.new ≡ settings_of self.old }
         ensures whose { holder (part_of self.new) ≡ holder (part_of self.old) }
     {
+        let _place = ordered.pos.number();
         match self {
-            Held::Channel(piece) => piece.pass_by(ordered),
-            Held::Module(_) | Held::Partition(_) => false,
+            Held::Module(_) => false,
+            Held::Partition(piece) => piece.pass_by(config, core, window),
+            Held::Channel(piece) => {
+                piece.pass_by(core);
+                true
+            }
         }
     }
 

@@ -1,17 +1,18 @@
 // The piece of a partition: its windows, its choices, and the claims of its own calls and returns.
 
-ghost use Rattle.std.specs.Prelude.{◌≡◌, ◌<◌, ◌↔◌, [], nat_eq, IfErr, IfOk, IfSome, IsTrue, Some, None, OnOk, OnErr, length, false};
+ghost use Rattle.std.specs.Prelude.{◌≡◌, ◌<◌, ◌↔◌, [], nat_eq, IfErr, IfOk, IfSome, IsTrue, Some, None, OnOk, OnErr, length, false, true};
 ghost use Rattle.std.specs.Option.{option_copied};
 ghost use Rattle.apex_types.specs.declared.limits.TheConstants.{PLACE_COUNT};
 ghost use Rattle.apex_types.specs.declared.record.Body.TheVariants as body;
-ghost use Rattle.apex_machine.specs.State.{cold_state, item_at, time_of};
+ghost use Rattle.apex_machine.specs.State.{cold_state, item_at, occupant_of, time_of};
 ghost use Rattle.apex_machine.specs.Step.{HasNoneDue, HasPriority, due_of};
-ghost use Rattle.apex_machine.specs.Demands.{AllHold, FirstFails, IsRunning, LocalStep, ReturnsValues, WakesHere, demands, foreign_call_demands, window_now};
+ghost use Rattle.apex_machine.specs.Demands.{AllHold, FirstFails, InWindowOf, IsRunning, LocalStep, ReturnsValues, WakesHere, demands, foreign_call_demands, window_now};
 ghost use Rattle.apex_machine.specs.After.{partition_by};
 ghost use Rattle.apex_machine.specs.Pieces.{OfPartition, PartitionPart, part};
 ghost use Rattle.apex_machine.specs.Ports.{channel_of};
 ghost use Rattle.apex_machine.specs.ServiceConditions as services;
 ghost use Rattle.apex_machine.specs.Views.{view_in};
+ghost use Rattle.dispatch_rule.specs.Clocks.{advanced};
 ghost use Rattle.wait_set.specs.declared.object.ObjFault.TheVariants.{Memory};
 ghost use Rattle.partition_state.specs.Calls.{LeavesObjects, RefusesOrWants};
 ghost use Rattle.piece_check.specs.Held.{partition_part};
@@ -123,6 +124,32 @@ impl PartitionPiece {
                 Err(cause) => Err(ObjFault::Unlawful(cause)),
             },
         }
+    }
+
+    /// Passes by a tick of this core that ends no wait, if all that the partition demands of it holds: the time of the core rises. Returns
+    /// whether it did. Takes no memory.
+    pub(crate) fn pass_by(
+        &mut self,
+        config: &Config,
+        core: CoreId,
+        window: Option<WindowAt>,
+    ) -> bool
+        requires window { IfSome window (IsWindowAt config.now) }
+        requires core { core < length self.old.clock.cores }
+        requires time { time_of self.old.clock.cores core < PLACE_COUNT }
+        ensures value { IsTrue result ↔ AllHold (asked_by_partition config.now self.old core (body.Tick [])) }
+        ensures passed { result ≡ true → self.new ≡ record self.old { clock = advanced core self.old.clock } }
+        ensures unchanged { result ≡ false → self.new ≡ self.old }
+    {
+        if !self.runs_its_choice(config, core, window) {
+            return false;
+        }
+        let next = self.clock.now(core) + 1;
+        if !self.state.processes().none_due(self.number, core, next) {
+            return false;
+        }
+        self.clock.advance(config, core);
+        true
     }
 
     /// Judges a record. Takes no memory.
@@ -380,10 +407,7 @@ impl PartitionPiece {
         requires time { time_of self.now.clock.cores core < PLACE_COUNT }
         ensures { Judges (asked_by_partition config.now self.now core (body.Tick woken.now)) result }
     {
-        let occupant = self.clock.on(core);
-        if self.is_in_window(config, core, window)
-            && self.state.processes().ready_on(self.number, core) != occupant
-        {
+        if !self.runs_its_choice(config, core, window) {
             return Err(Cause::Choice);
         }
         let next = self.clock.now(core) + 1;
@@ -477,6 +501,15 @@ impl PartitionPiece {
         ensures { IsTrue result ↔ (window_now config.now self.now.clock.cores core ≡ Some self.now.number) }
     {
         window_by(config, &self.clock, core, window) == Some(self.number)
+    }
+
+    // Whether the core's occupant is the partition's choice, if the core's present window is the partition's.
+    fn runs_its_choice(&self, config: &Config, core: CoreId, window: Option<WindowAt>) -> bool
+        requires { IfSome window (IsWindowAt config.now) }
+        ensures { IsTrue result ↔ InWindowOf self.now.number (window_now config.now self.now.clock.cores core) (choice_in self.now.number core self.now.state.table ≡ occupant_of self.now.clock.cores core) }
+    {
+        !self.is_in_window(config, core, window)
+            || self.state.processes().ready_on(self.number, core) == self.clock.on(core)
     }
 
     // Whether this process is the core's occupant and the partition's choice.

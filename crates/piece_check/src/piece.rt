@@ -1,21 +1,20 @@
 // A piece: its start and its step.
 
-ghost use Rattle.std.specs.Prelude.{◌≡◌, ◌<◌, ◌+◌, ◌↔◌, ◌⊎◌, Err, IsTrue, IfOk, OnOk, OnErr, IfErr, IfSome, None, false, true, length};
-ghost use Rattle.apex_machine.specs.Configuration.{Configuration};
+ghost use Rattle.std.specs.Prelude.{◌≡◌, ◌<◌, ◌+◌, ◌↔◌, ◌⊎◌, Err, IsTrue, IfOk, OnOk, OnErr, IfErr, IfSome, None, Some, false, true, length};
 ghost use Rattle.apex_machine.specs.State.{cold_state};
 ghost use Rattle.apex_machine.specs.Demands.{AllHold, LocalStep, demands};
 ghost use Rattle.apex_machine.specs.Pieces.{part, pieces};
 ghost use Rattle.apex_machine.specs.Views.{view_in};
 ghost use Rattle.apex_laws.specs.PartBounds.{PeriodFits};
 ghost use Rattle.piece_check.specs.Parts.{CallerFits, HoldsBefore, IsCall, IsOf, IsPartOf, cores_of, holder, piece_at};
-ghost use Rattle.piece_check.specs.Quiet.{passes_by};
+ghost use Rattle.piece_check.specs.Quiet.{PassesBy, quiet_core};
 ghost use Rattle.piece_check.specs.Refused.{IsRefused};
 ghost use Rattle.piece_check.specs.Found.{IsWindowAt};
 
 use crate::fault::PieceFault;
 use crate::held::Held;
 use crate::windows::WindowAt;
-use apex_types::{Body, Ordered, Request, View};
+use apex_types::{Body, CoreId, Ordered, Request, View};
 use module_config::Config;
 use std::alloc::{AllocError, Global};
 use std::marker::Model;
@@ -89,23 +88,33 @@ impl Piece {
         Err(PieceFault::Memory)
     }
 
-    /// Lets a channel pass by a tick that ends no wait: the time of the tick's core rises, and nothing else changes. Returns whether it
-    /// did. Takes no memory.
+    /// Passes by a tick of this core that ends no wait: the time of the core rises, and nothing else changes. A channel passes by each such
+    /// tick, a partition by one of which all that it demands holds, and the module by none. Returns whether the piece did. The window of the
+    /// core may have been looked up before. Reads nothing of the record, and takes no memory.
     ///
-    /// Leaves any other piece as it was, and the channel at any other record: `step` judges the record.
-    pub fn pass_by(&mut self, ordered: &Ordered) -> bool
-        requires core { ordered.now.core < length (cores_of self.old.part) }
+    /// Leaves the piece as it was otherwise: `step` judges the record.
+    pub fn pass_by(
+        &mut self,
+        config: &Config,
+        core: CoreId,
+        ordered: &Ordered,
+        window: Option<WindowAt>,
+    ) -> bool
+        requires quiet { quiet_core ordered.now ≡ Some core }
+        requires core { core < config.now.cores }
+        requires window { IfSome window (IsWindowAt config.now) }
+        requires of_module { IsOf config.now self.old }
         requires holds_before { HoldsBefore ordered.now.pos self.old.part }
-        ensures value { result ≡ passes_by self.old.part ordered.now }
-        ensures passed { result ≡ true → (configuration : Configuration) → LocalStep configuration self.old.part ordered.now self.new.part }
+        ensures value { IsTrue result ↔ PassesBy config.now self.old.part ordered.now }
+        ensures passed { result ≡ true → LocalStep config.now self.old.part ordered.now self.new.part }
         ensures silent { result ≡ true → view_in self.old.part ordered.now ≡ None }
         ensures unchanged { result ≡ false → self.new ≡ self.old }
-        ensures of_module { (configuration : Configuration) → IsOf configuration self.old → IsOf configuration self.new }
+        ensures of_module { IsOf config.now self.new }
         ensures whose { holder self.new.part ≡ holder self.old.part }
         ensures holds_before { result ≡ true → HoldsBefore (ordered.now.pos + 1) self.new.part }
     {
         let _place = ordered.pos.number();
-        self.held.pass_by(ordered)
+        self.held.pass_by(config, core, ordered, window)
     }
 
     /// Judges a record that touches the piece, and changes the part as the record says.

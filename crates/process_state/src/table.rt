@@ -171,8 +171,15 @@ impl ProcTable {
     pub fn names_those_due(&self, part: PartId, core: CoreId, time: u64, woken: &Woken) -> bool
         ensures { IsTrue result ↔ due_times.NamesThoseDue part core time self.now.table woken.now }
     {
-        let named = woken.as_slice();
-        self.named_fall_due(part, core, time, named) && self.due_are_named(part, core, time, named)
+        self.names_just_those(part, core, time, woken.as_slice())
+    }
+
+    /// Whether no process of the core has a wait that is over once the core reaches this time, in ticks: whether an empty list names exactly
+    /// those.
+    pub fn none_due(&self, part: PartId, core: CoreId, time: u64) -> bool
+        ensures { IsTrue result ↔ due_times.NamesThoseDue part core time self.now.table [] }
+    {
+        self.names_just_those(part, core, time, &[])
     }
 
     /// Whether a claimed value is a number that a new process can take: it is from 1 to 2,147,483,647, and no process has it.
@@ -226,6 +233,14 @@ impl ProcTable {
             Some(process) => process.alive && wait::is_in(process.wait, wanted),
             None => false,
         }
+    }
+
+    // Whether, of this partition, the list names exactly the processes that fall due, if it names none twice.
+    fn names_just_those(&self, part: PartId, core: CoreId, time: u64, woken: &[Who]) -> bool
+        requires { IsRising woken.now }
+        ensures { IsTrue result ↔ due_times.NamesThoseDue part core time self.now.table woken.now }
+    {
+        self.named_fall_due(part, core, time, woken) && self.due_are_named(part, core, time, woken)
     }
 
     // Whether each process of this partition that the list names falls due.

@@ -1,10 +1,11 @@
 // One piece judges the records of a round.
 
-ghost use Rattle.std.specs.Prelude.{◌≡◌, ◌<◌, All, IfOk, IfSome, OnErr, IsTrue, length};
+ghost use Rattle.std.specs.Prelude.{◌≡◌, ◌<◌, All, IfOk, IfSome, OnErr, IsTrue, length, map};
 ghost use Rattle.apex_machine.specs.Pieces.{pieces};
 ghost use Rattle.apex_machine.specs.Runs.{ArePlaced, AreOfCores};
 ghost use Rattle.apex_machine.specs.Views.{view_in};
 ghost use Rattle.piece_check.specs.Parts.{HoldsBefore, IsOf, holder};
+ghost use Rattle.piece_check.specs.Quiet.{quiet_at, quiet_core};
 ghost use Rattle.piece_check.specs.Touching.{AreSortedOut, indices_of};
 ghost use Rattle.piece_check.specs.Found.{IsWindowAt};
 ghost use Rattle.user_rules.specs.Rules.{relations_of};
@@ -32,6 +33,7 @@ pub struct Lent<'a> {
     /// Windows that were looked up, those of a record under its index. A piece looks up what is not there.
     pub windows: &'a [WindowAt],
     pub ghost sorted: { AreSortedOut config.now records.now (indices_of touched.now) },
+    pub ghost quiet: { touched.now.quiet ≡ map quiet_core records.now },
     pub ghost found: { All (IsWindowAt config.now) windows.now },
 }
 
@@ -43,7 +45,8 @@ impl<'a> Lent<'a> {
         records: &'a [Ordered],
         touched: &'a Touched,
     ) -> Lent<'a>
-        requires { AreSortedOut config.now records.now (indices_of touched.now) }
+        requires sorted { AreSortedOut config.now records.now (indices_of touched.now) }
+        requires quiet { touched.now.quiet ≡ map quiet_core records.now }
         ensures config { result.config.now ≡ config.now }
         ensures first { result.first ≡ first }
         ensures records { result.records.now ≡ records.now }
@@ -60,6 +63,7 @@ impl<'a> Lent<'a> {
         windows: &'a [WindowAt],
     ) -> Lent<'a>
         requires sorted { AreSortedOut config.now records.now (indices_of touched.now) }
+        requires quiet { touched.now.quiet ≡ map quiet_core records.now }
         requires found { All (IsWindowAt config.now) windows.now }
         ensures config { result.config.now ≡ config.now }
         ensures first { result.first ≡ first }
@@ -143,6 +147,7 @@ fn judge_one(
     breach: &mut Option<Breach>,
 ) -> Result<Option<Refused>, Memory>
     requires core { ordered.now.core < lent.now.config.now.cores }
+    requires quiet { quiet_at lent.now.touched.now.quiet index ≡ quiet_core ordered.now }
     requires of_module { IsOf lent.now.config.now piece.old }
     requires holds_before { HoldsBefore ordered.now.pos piece.old.part }
     ensures judged { IfOk result (λ refused. HasJudged lent.now.config.now number ordered.now piece.old refused piece.new) }
@@ -151,8 +156,11 @@ fn judge_one(
     ensures whose { holder piece.new.part ≡ holder piece.old.part }
     ensures memory { OnErr result (IsTrue piece.new.exhausted) }
 {
-    if piece.pass_by(ordered) {
-        return Ok(None);
+    if let Some(core) = lent.touched.quiet_at(index) {
+        let window = window_found(lent.config, lent.windows, index);
+        if piece.pass_by(lent.config, core, ordered, window) {
+            return Ok(None);
+        }
     }
     if rules.is_empty() {
         return step_over(lent, number, piece, index, ordered);
