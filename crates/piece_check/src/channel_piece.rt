@@ -20,7 +20,7 @@ ghost use Rattle.piece_check.specs.Quiet.{is_quiet};
 ghost use Rattle.piece_check.specs.Subjects.{is_the};
 
 use apex_types::{
-    Body, Call, Cause, ChanId, Code, Ordered, Out, Place, ProcId, ProcessOperation, Request, Who,
+    Body, Call, Cause, ChanId, Code, CoreId, Ordered, Out, Place, ProcId, ProcessOperation, Request, Who,
 };
 use channel::Channel;
 use dispatch_rule::Times;
