@@ -19,6 +19,7 @@ ghost use Rattle.piece_check.specs.Parts.{HoldsBefore, WaitBefore, WantsAtCalls}
 ghost use Rattle.piece_check.specs.Quiet.{is_quiet};
 ghost use Rattle.piece_check.specs.Subjects.{is_the};
 
+use crate::touched::TickMark;
 use apex_types::{
     Body, Call, Cause, ChanId, Code, Ordered, Out, Place, ProcId, ProcessOperation, Request, Who,
 };
@@ -83,6 +84,19 @@ impl ChannelPiece {
             Body::Ret(_) | Body::Disp(_) => {}
         }
         Ok(())
+    }
+
+    /// Passes over the first of these ticks, as long as they end no wait and come before this index. Returns how many they were.
+    pub(crate) fn pass_over(&mut self, ticks: &[TickMark], before: usize) -> usize {
+        let mut passed = 0;
+        for tick in ticks {
+            if tick.index >= before || !tick.is_quiet {
+                break;
+            }
+            self.times.advance(tick.core);
+            passed += 1;
+        }
+        passed
     }
 
     /// Passes by a tick that ends no wait: the time of its core rises. Returns whether the record is one. Takes no memory.

@@ -17,6 +17,7 @@ use crate::channel_piece::ChannelPiece;
 use crate::module_piece::ModulePiece;
 use crate::partition_piece::PartitionPiece;
 use crate::subject::{Subject, subject_of};
+use crate::touched::TickMark;
 use crate::windows::WindowAt;
 use apex_types::{Cause, Ordered, View};
 use module_config::Config;
@@ -94,6 +95,14 @@ impl Held {
         match self {
             Held::Channel(piece) => piece.pass_by(ordered),
             Held::Module(_) | Held::Partition(_) => false,
+        }
+    }
+
+    /// Passes over the first of these ticks.
+    pub(crate) fn pass_over(&mut self, ticks: &[TickMark], before: usize) -> usize {
+        match self {
+            Held::Channel(piece) => piece.pass_over(ticks, before),
+            Held::Module(_) | Held::Partition(_) => 0,
         }
     }
 

@@ -65,5 +65,5 @@ pub use misnaming::{Misnaming, is_ready, misnamed_by};
 pub use piece::Piece;
 pub use seen::Seen;
 pub use subject::{Subject, count, subject_of, touches};
-pub use touched::{Indices, Touched};
+pub use touched::{Indices, TickMark, Touched};
 pub use windows::{WindowAt, Windows};

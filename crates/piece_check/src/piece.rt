@@ -14,6 +14,7 @@ ghost use Rattle.piece_check.specs.Found.{IsWindowAt};
 
 use crate::fault::PieceFault;
 use crate::held::Held;
+use crate::touched::TickMark;
 use crate::windows::WindowAt;
 use apex_types::{Body, Ordered, Request, View};
 use module_config::Config;
@@ -87,6 +88,11 @@ impl Piece {
                 .map_err(|cause| PieceFault::Rejected { pos, cause });
         }
         Err(PieceFault::Memory)
+    }
+
+    /// Passes over the first of these ticks.
+    pub fn pass_over(&mut self, ticks: &[TickMark], before: usize) -> usize {
+        self.held.pass_over(ticks, before)
     }
 
     /// Lets a channel pass by a tick that ends no wait: the time of the tick's core rises, and nothing else changes. Returns whether it

@@ -104,7 +104,13 @@ pub fn go_over(
     let subject = subject_of(lent.config, number);
     let records = lent.records;
     let mut breach = None;
-    for index in lent.touched.of(&subject) {
+    let mut indices = lent.touched.of(&subject);
+    for _ in 0..u64::MAX {
+        let passed = piece.pass_over(indices.ticks(), indices.next_other());
+        indices.skip_ticks(passed);
+        let Some(index) = indices.next() else {
+            break;
+        };
         match judge_one(
             lent,
             rules,
@@ -151,9 +157,6 @@ fn judge_one(
     ensures whose { holder piece.new.part ≡ holder piece.old.part }
     ensures memory { OnErr result (IsTrue piece.new.exhausted) }
 {
-    if piece.pass_by(ordered) {
-        return Ok(None);
-    }
     if rules.is_empty() {
         return step_over(lent, number, piece, index, ordered);
     }
