@@ -52,18 +52,36 @@ fn note_run(text: &[u8], at: usize, ends: &mut Vec<usize>) -> Result<Option<usiz
     ensures seen { IfOk result (λ found. IfSome found (λ stop. IsSeen text.now ends.new.items stop)) }
     ensures passed { IfOk result (λ found. found ≡ None → IsSeen text.now ends.new.items (at + 32)) }
 {
+    ends.try_reserve(RUN)?;
+    let end = lowest(stop_marks(text, at) | BEYOND);
     let mut place = at;
-    let mut left = low_marks(text, at);
+    let mut left = comma_marks(text, at) & !(u64::MAX << end);
     'marks: while left != 0 {
         let passed = lowest(left);
         place += passed;
-        if stops_at(text, place, ends)? {
-            return Ok(Some(place));
-        }
+        ends.push_reserved(place);
         place += 1;
         left = shifted_down(left, passed + 1);
     }
+    if end < RUN {
+        return Ok(Some(at + end));
+    }
     Ok(None)
+}
+
+const BEYOND: u64 = 1 << 32;
+
+fn comma_marks(text: &[u8], at: usize) -> u64 {
+    u8x32::from_slice(&text[at..])
+        .simd_eq(u8x32::splat(b','))
+        .to_bitmask()
+}
+
+fn stop_marks(text: &[u8], at: usize) -> u64 {
+    let bytes = u8x32::from_slice(&text[at..]);
+    bytes.simd_eq(u8x32::splat(b'"')).to_bitmask()
+        | bytes.simd_eq(u8x32::splat(b'\r')).to_bitmask()
+        | bytes.simd_eq(u8x32::splat(b'\n')).to_bitmask()
 }
 
 // The same of the bytes from a place on, one by one.
