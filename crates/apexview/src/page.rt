@@ -50,17 +50,22 @@ where
         Ok(gathered) => gathered,
         Err(fault) => return fault.ending(),
     };
-    match write_picture(rt, alloc, shown, verdict, stretch, explainer, output) {
-        Ok(()) => Ending::Checked(Ok(verdict)),
+    match write_picture(rt, alloc, shown, &verdict, stretch, explainer, output) {
+        Ok(()) => checked(verdict),
         Err(fault) => fault.ending(),
     }
+}
+
+// The ending of a run with this verdict.
+fn checked(verdict: Verdict) -> Ending {
+    Ending::Checked(Ok(verdict))
 }
 
 fn write_picture<R, W: Sink>(
     rt: &R,
     alloc: Global,
     shown: &Shown<'_>,
-    verdict: Verdict,
+    verdict: &Verdict,
     stretch: Stretch,
     explainer: &Explainer,
     output: &mut W,
@@ -69,8 +74,8 @@ where
     R: Files<File = File>,
     requires { IsWhole shown.now.config.now stretch }
 {
-    let heading = heading_of(alloc, shown, &verdict, &stretch)?;
-    let outcome = Ok(verdict);
+    let heading = heading_of(alloc, shown, verdict, &stretch)?;
+    let outcome = Ok(*verdict);
     let names = &shown.asked.names;
     let files = RunFiles { rt, alloc, names };
     let explanation = explanation_of(alloc, &files, &outcome, explainer)?;
@@ -182,10 +187,10 @@ fn picture_of<R: Files<File = File>>(
 }
 
 // Adds the records after those that were judged, or after the one that decided.
-fn follow_all(
+fn follow_all<'a>(
     picture: &mut Picture,
-    rows: &ShownRows<'_>,
-    after: &[Ordered],
+    rows: &'a ShownRows<'a>,
+    after: &'a [Ordered],
     is_judged: bool,
 ) -> Result<(), ShowFault> {
     let status = if is_judged {
@@ -307,7 +312,7 @@ impl<'a> Drawing<'a> {
         let followed = self.links.follow(pieces, ordered)?;
         let added = added(rows, ordered, status);
         self.picture
-            .accept(pieces, &added, self.changes.as_slice(), followed.received)?;
+            .accept(pieces, &added, self.changes.as_slice(), &followed)?;
         Ok(())
     }
 }
