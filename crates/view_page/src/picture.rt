@@ -12,7 +12,7 @@ use crate::marks::actor_of;
 use crate::process_bars::Hold;
 use apex_types::{Body, CoreId, Ordered, Who};
 use piece_check::Piece;
-use run_view::{Change, CoreView, Lawful, ProcessView, Received};
+use run_view::{Change, CoreView, Followed, Lawful, ProcessView};
 use std::alloc::{AllocError, Global};
 
 /// A stretch of a run as a picture.
@@ -72,14 +72,14 @@ impl Picture {
         pieces: &[Piece],
         added: &Added<'_>,
         changes: &[Change],
-        received: Option<Received>,
+        followed: &Followed,
     ) -> Result<(), AllocError> {
         let column = self.columns.len();
         let mut told = String::new(self.alloc);
         self.apply(pieces, changes, column, &mut told)?;
         self.mark_record(column, added.ordered)?;
         self.add_wakes(column, added.ordered)?;
-        if let Some(received) = &received {
+        if let Some(received) = &followed.received {
             self.add_message(column, added.ordered, &received.sent)?;
         }
         self.add_column(added, told)
