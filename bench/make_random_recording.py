@@ -399,17 +399,8 @@ class Sim:
                     emit("SIGNAL_SEMAPHORE", "NO_ACTION", n1=n)
                     answer("SIGNAL_SEMAPHORE", 'NO_ACTION')
                 return
-            to = self.timeout(q)
-            if s['value'] > 0 and not (own and to != 0):
-                emit("WAIT_SEMAPHORE", "NO_ERROR", n1=n, n2=to)
+            if self.waits_for(core, q, s['wait'], "WAIT_SEMAPHORE", n, lambda to: s['value'] > 0 and not (own and to != 0), emit, answer):
                 s['value'] -= 1
-                answer("WAIT_SEMAPHORE")
-            elif to == 0:
-                emit("WAIT_SEMAPHORE", "NOT_AVAILABLE", n1=n, n2=0)
-                answer("WAIT_SEMAPHORE", 'NOT_AVAILABLE')
-            else:
-                place = emit("WAIT_SEMAPHORE", "wait", n1=n, n2=to)
-                self.enter(q, s['wait'], place, to, core)
             return
         if o == 'event' and p.events:
             n = r.choice(list(p.events))
@@ -426,16 +417,7 @@ class Sim:
                 s['up'] = False
                 answer("RESET_EVENT")
             else:
-                to = self.timeout(q)
-                if s['up']:
-                    emit("WAIT_EVENT", "NO_ERROR", n1=n, n2=to)
-                    answer("WAIT_EVENT")
-                elif to == 0:
-                    emit("WAIT_EVENT", "NOT_AVAILABLE", n1=n, n2=0)
-                    answer("WAIT_EVENT", 'NOT_AVAILABLE')
-                else:
-                    place = emit("WAIT_EVENT", "wait", n1=n, n2=to)
-                    self.enter(q, s['wait'], place, to, core)
+                self.waits_for(core, q, s['wait'], "WAIT_EVENT", n, lambda to: s['up'], emit, answer)
             return
         if o == 'buffer' and p.buffers:
             n = r.choice(list(p.buffers))
@@ -543,6 +525,21 @@ class Sim:
         # few different messages, so that they may be mistaken for one another
         self.msg += 1
         return "%04x" % (self.msg % 65536) if self.r.random() < 0.7 else "%04x" % self.r.randrange(3)
+
+    def waits_for(self, core, q, entries, service, n, is_so, emit, answer):
+        """A call that waits at object n until something is so, or enters these entries. Returns whether it was so at once."""
+        to = self.timeout(q)
+        met = is_so(to)
+        if met:
+            emit(service, "NO_ERROR", n1=n, n2=to)
+            answer(service)
+        elif to == 0:
+            emit(service, "NOT_AVAILABLE", n1=n, n2=0)
+            answer(service, 'NOT_AVAILABLE')
+        else:
+            place = emit(service, "wait", n1=n, n2=to)
+            self.enter(q, entries, place, to, core)
+        return met
 
     def enter(self, q, entries, place, to, core, msg=''):
         entries.append(dict(who=q, prio=q.prio, place=place, msg=msg))
