@@ -224,17 +224,27 @@ fn refusal_by<J: Naming>(board: &mut Board<J>, done: Done<J>) -> Option<RefusedP
 }
 
 // The outcome of the next piece of the board, claimed by this worker.
-fn finish_next<J: Naming>(board: &mut Board<J>, worker: usize) -> Option<Done<J>>
+fn finish_next<J: Naming, R: Threads + Sync>(
+    rt: &R,
+    alloc: Global,
+    board: &mut Board<J>,
+    worker: usize,
+) -> Option<Done<J>>
     requires { J.round.relations ≡ [] }
 {
-    board.claim(worker)?.run(&[]).ok()
+    board.claim(worker)?.run(rt, alloc, &[]).ok()
 }
 
 // Claims the next piece of the board by this worker, and posts its outcome.
-fn post_next<J: Naming>(board: &mut Board<J>, worker: usize) -> bool
+fn post_next<J: Naming, R: Threads + Sync>(
+    rt: &R,
+    alloc: Global,
+    board: &mut Board<J>,
+    worker: usize,
+) -> bool
     requires { J.round.relations ≡ [] }
 {
-    match finish_next(board, worker) {
+    match finish_next(rt, alloc, board, worker) {
         Some(done) => refusal_by(board, done).is_none(),
         None => false,
     }
@@ -242,12 +252,17 @@ fn post_next<J: Naming>(board: &mut Board<J>, worker: usize) -> bool
 
 // Posts to a board what another board's worker 1 made of the first piece, before and after that piece is claimed and posted by a
 // worker 1 of its own.
-fn refuse_first<J: Naming>(board: &mut Board<J>, other: &mut Board<J>) -> Option<[RefusedPost; 2]>
+fn refuse_first<J: Naming, R: Threads + Sync>(
+    rt: &R,
+    alloc: Global,
+    board: &mut Board<J>,
+    other: &mut Board<J>,
+) -> Option<[RefusedPost; 2]>
     requires { J.round.relations ≡ [] }
 {
-    let done = finish_next(other, 1)?;
+    let done = finish_next(rt, alloc, other, 1)?;
     let (not_claimed, PostFault { refusal: _, done }) = refuse(board, done)?;
-    let posted = post_next(board, 1);
+    let posted = post_next(rt, alloc, board, 1);
     match refusal_by(board, done) {
         Some(repeated) if posted => Some([not_claimed, repeated]),
         _ => None,
@@ -255,16 +270,22 @@ fn refuse_first<J: Naming>(board: &mut Board<J>, other: &mut Board<J>) -> Option
 }
 
 // Posts to a board, where worker 3 has claimed the next piece, what another board's worker 2 made of it.
-fn refuse_next<J: Naming>(board: &mut Board<J>, other: &mut Board<J>) -> Option<RefusedPost>
+fn refuse_next<J: Naming, R: Threads + Sync>(
+    rt: &R,
+    alloc: Global,
+    board: &mut Board<J>,
+    other: &mut Board<J>,
+) -> Option<RefusedPost>
     requires { J.round.relations ≡ [] }
 {
     drop(board.claim(3)?);
-    let done = finish_next(other, 2)?;
+    let done = finish_next(rt, alloc, other, 2)?;
     refusal_by(board, done)
 }
 
 // The three refusals, by two boards of one round under no rule.
-fn refuse_all<J: Naming>(
+fn refuse_all<J: Naming, R: Threads + Sync>(
+    rt: &R,
     alloc: Global,
     lent: &Lent,
     pieces: Vec<Piece>,
@@ -278,13 +299,13 @@ fn refuse_all<J: Naming>(
 {
     let mut board = Board::new(alloc, Round::<J>::new(*lent, pieces)).ok()?;
     let mut other = Board::new(alloc, Round::<J>::new(*lent, others)).ok()?;
-    let [not_claimed, repeated] = refuse_first(&mut board, &mut other)?;
-    let foreign = refuse_next(&mut board, &mut other)?;
+    let [not_claimed, repeated] = refuse_first(rt, alloc, &mut board, &mut other)?;
+    let foreign = refuse_next(rt, alloc, &mut board, &mut other)?;
     Some([not_claimed, repeated, foreign])
 }
 
 // The same, for the round that the tests judge.
-fn refuse_in_round(alloc: Global) -> Option<[RefusedPost; 3]> {
+fn refuse_in_round<R: Threads + Sync>(rt: &R, alloc: Global) -> Option<[RefusedPost; 3]> {
     let config = config_of(alloc, MODULE, 2)?;
     let records = refused_records(alloc).ok()?;
     let touched = sort_out(alloc, &config, &records)?;
@@ -295,12 +316,12 @@ fn refuse_in_round(alloc: Global) -> Option<[RefusedPost; 3]> {
         return None;
     };
     let lent = Lent::new(&config, 0, &records, &touched);
-    refuse_all::<Brand>(alloc, &lent, pieces, others)
+    refuse_all::<Brand, R>(rt, alloc, &lent, pieces, others)
 }
 
 #[test]
 fn a_board_gives_back_what_it_refuses(rt: HostRuntime) -> Result<(), Fail> {
-    let refused = refuse_in_round(rt.alloc());
+    let refused = refuse_in_round(&rt, rt.alloc());
     let wanted = [
         (PostRefusal::NotClaimed, 1, 0, 0),
         (PostRefusal::Repeated, 1, 0, 2),

@@ -95,7 +95,7 @@ fn judge_named<J: Naming + Send + Sync, G: Gate + Sync, R: Threads + Wait + Sync
         workers,
         &|worker: usize|
             requires { relations_of rules.now ≡ J.round.relations }
-        { work(rt, shared, rules, worker, gate) },
+        { work(rt, alloc, shared, rules, worker, gate) },
     );
     if worked.is_err() {
         return Err(Memory);
@@ -105,8 +105,9 @@ fn judge_named<J: Naming + Send + Sync, G: Gate + Sync, R: Threads + Wait + Sync
 
 // Claims a piece, lets it judge the records, tests its views by the rules and posts its result, until no piece is left. Memory if
 // memory was refused; the piece is then never posted.
-fn work<J: Naming, G: Gate, R: Wait>(
+fn work<J: Naming, G: Gate, R: Threads + Wait + Sync>(
     rt: &R,
+    alloc: Global,
     board: &Mutex<Board<J>>,
     rules: &[Rule],
     worker: usize,
@@ -121,7 +122,7 @@ fn work<J: Naming, G: Gate, R: Wait>(
         };
         let number = job.number();
         gate.at_claim(worker, number);
-        let done = match job.run(rules) {
+        let done = match job.run(rt, alloc, rules) {
             Ok(done) => done,
             Err(memory) => return Err(memory),
         };
