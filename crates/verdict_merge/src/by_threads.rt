@@ -156,6 +156,7 @@ fn go_over_untested(
 
 // Lets the piece of this number judge a record that touches it. Returns its refusal if it rejects the record. Else the record's view is
 // kept, if the piece has one. Memory if the piece was refused memory.
+#[tactic(auto, using(crate::proofs::Keeping::none_more))]
 fn judge_and_keep(
     lent: &Lent,
     number: usize,
@@ -182,9 +183,12 @@ fn judge_and_keep(
         return Ok(None);
     }
     let view = piece.view(ordered);
-    let judged = step_over(lent, number, piece, index, ordered);
-    if let Ok(None) = judged {
-        kept.keep(index, view);
+    match step_over(lent, number, piece, index, ordered) {
+        Ok(None) => {
+            kept.keep(index, view);
+            Ok(None)
+        }
+        Ok(Some(refused)) => Ok(Some(refused)),
+        Err(memory) => Err(memory),
     }
-    judged
 }
