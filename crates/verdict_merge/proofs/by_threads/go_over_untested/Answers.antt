@@ -18,7 +18,7 @@ use Rattle.verdict_merge.proofs.Seeing.{seen_less}
 use Rattle.verdict_merge.proofs.by_threads.go_over_untested.Goals as goal
 
 pub loop-index-init : goal.loop-index-init
-loop-index-init g c =
+loop-index-init c =
     let old = c.args.piece.now in
     let number = c.args.number in
     let lent = c.args.lent.now in
@@ -40,28 +40,28 @@ loop-index-init g c =
     )
 
 pub bounds-records-index : goal.bounds-records-index
-bounds-records-index g c =
+bounds-records-index c =
     let lent = c.args.lent.now in
     let at = next_within lent.config.now c.args.number lent.records.now c.loop-index.invariant.0 c.loop-index.invariant.1 c.in-Some.ensures.steps in
     rw at.1 (reached_within lent.config.now (piece_at lent.config.now c.args.number) lent.records.now (length c.loop-index.invariant.0) at.0)
 
 pub offset_bounds-records-index : goal.offset_bounds-records-index
-offset_bounds-records-index g c = let within = bounds-records-index g c in search rules
+offset_bounds-records-index c = let within = bounds-records-index c in search rules
 
 pub judge_and_keep-requires-clause-core : goal.judge_and_keep-requires-clause-core
-judge_and_keep-requires-clause-core g c =
+judge_and_keep-requires-clause-core c =
     let lent = c.args.lent.now in
     let at = is_shown lent.config.now c.args.number lent.first lent.records.now c.loop-index.invariant.0 c.loop-index.invariant.1 c.in-Some.ensures.steps c.index-records-index.is c.requires.placed c.requires.cores in
     at.core
 
 pub judge_and_keep-requires-clause-holds_before : goal.judge_and_keep-requires-clause-holds_before
-judge_and_keep-requires-clause-holds_before g c =
+judge_and_keep-requires-clause-holds_before c =
     let lent = c.args.lent.now in
     let at = is_shown lent.config.now c.args.number lent.first lent.records.now c.loop-index.invariant.0 c.loop-index.invariant.1 c.in-Some.ensures.steps c.index-records-index.is c.requires.placed c.requires.cores in
     subst (λ place. HoldsBefore place c.loop-index.piece.part) (sym at.place) (c.loop-index.invariant.2.holds_before lent.first c.requires.placed c.requires.going.holds_before)
 
 pub judge_and_keep-requires-clause-room_of_indices : goal.judge_and_keep-requires-clause-room_of_indices
-judge_and_keep-requires-clause-room_of_indices g c =
+judge_and_keep-requires-clause-room_of_indices c =
     let config = c.args.lent.now.config.now in
     let records = c.args.lent.now.records.now in
     let piece = piece_at config c.args.number in
@@ -74,7 +74,7 @@ judge_and_keep-requires-clause-room_of_indices g c =
     omega (arith, most, counted, taken, at.within, c.loop-index.invariant.4, c.loop-index.invariant.5)
 
 pub judge_and_keep-requires-clause-room_of_views : goal.judge_and_keep-requires-clause-room_of_views
-judge_and_keep-requires-clause-room_of_views g c =
+judge_and_keep-requires-clause-room_of_views c =
     let config = c.args.lent.now.config.now in
     let records = c.args.lent.now.records.now in
     let piece = piece_at config c.args.number in
@@ -87,7 +87,7 @@ judge_and_keep-requires-clause-room_of_views g c =
     omega (arith, most, counted, taken, at.within, c.loop-index.invariant.6)
 
 pub returns-in-Ok-Some-clause-outcome : goal.returns-in-Ok-Some-clause-outcome
-returns-in-Ok-Some-clause-outcome g c = λ relations breach first.
+returns-in-Ok-Some-clause-outcome c = λ relations breach first.
     let lent = c.args.lent.now in
     let kept = c.loop-index.kept in
     let seen = seen_in kept.indices.items kept.views.items in
@@ -98,17 +98,17 @@ returns-in-Ok-Some-clause-outcome g c = λ relations breach first.
     refl c.loop-index.invariant.2 (subst (λ list. IsFirstBreach relations list breach) (none.seen ∙ append-nil seen) first) c.requires.placed c.requires.going.holds_before at.within at.is at.touched (rw c.in-Ok-Some.field-0-is at c.in-Ok-Some.ensures.judged) c.in-Ok-Some.ensures.of_module
 
 pub returns-in-Ok-Some-clause-even : goal.returns-in-Ok-Some-clause-even
-returns-in-Ok-Some-clause-even g c = c.in-Ok-Some.ensures.kept.even
+returns-in-Ok-Some-clause-even c = c.in-Ok-Some.ensures.kept.even
 
 pub returns-in-Ok-Some-clause-rising : goal.returns-in-Ok-Some-clause-rising
-returns-in-Ok-Some-clause-rising g c =
+returns-in-Ok-Some-clause-rising c =
     let kept = c.loop-index.kept in
     let seen = seen_in kept.indices.items kept.views.items in
     let none = rw c.in-Ok-Some.field-0-is at c.in-Ok-Some.ensures.kept in
     subst AreRising (sym (none.seen ∙ append-nil seen)) c.loop-index.invariant.3
 
 pub loop-index-preserved : goal.loop-index-preserved
-loop-index-preserved g c =
+loop-index-preserved c =
     let lent = c.args.lent.now in
     let config = lent.config.now in
     let records = lent.records.now in
@@ -148,7 +148,7 @@ loop-index-preserved g c =
     )
 
 pub returns-clause-outcome : goal.returns-clause-outcome
-returns-clause-outcome g c = λ relations breach first.
+returns-clause-outcome c = λ relations breach first.
     let lent = c.args.lent.now in
     let records = lent.records.now in
     let outcome = c.loop-index.invariant.0 in
@@ -161,7 +161,13 @@ returns-clause-outcome g c = λ relations breach first.
     (reached lent.config.now piece records (length outcome)) refl c.loop-index.invariant.2 first end c.requires.placed c.requires.going.holds_before
 
 pub returns-clause-even : goal.returns-clause-even
-returns-clause-even g c = c.loop-index.invariant.4
+returns-clause-even c = c.loop-index.invariant.4
 
 pub returns-clause-rising : goal.returns-clause-rising
-returns-clause-rising g c = c.loop-index.invariant.3
+returns-clause-rising c = c.loop-index.invariant.3
+
+pub judge_and_keep-requires-clause-even : goal.judge_and_keep-requires-clause-even
+judge_and_keep-requires-clause-even c = c.loop-index.invariant.4
+
+pub judge_and_keep-requires-clause-of_module : goal.judge_and_keep-requires-clause-of_module
+judge_and_keep-requires-clause-of_module c = c.loop-index.invariant.2.of_module

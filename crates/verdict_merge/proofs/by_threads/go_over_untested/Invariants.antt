@@ -8,7 +8,7 @@ use Rattle.verdict_merge.proofs.by_threads.go_over_untested.Given as goal
 
 -- the kept views are those that the piece has seen so far
 abbrev pub invariant-loop-index : goal.invariant-loop-index
-invariant-loop-index g l =
+invariant-loop-index l =
     (outcome : List ℕ)
     × (touching l.lent.config.now (piece_at l.lent.config.now l.number) 0 l.lent.records.now ≡ outcome ++ l.index-iterator)
     × HasCome l.lent.config.now l.number l.fn.piece l.lent.records.now l.piece (seen_in l.kept.indices.items l.kept.views.items)

@@ -4,4 +4,4 @@ use Rattle.verdict_merge.proofs.by_threads.Kept.keep.Goals as goal
 
 pub returns-in-Some-clause-kept : goal.returns-in-Some-clause-kept
 returns-in-Some-clause-kept c =
-    has_kept c.args.view c.args.index c.in-Some.one c.args.self.now _ (search rules) c.requires.even c.push_reserved.ensures.items c.push_reserved-2.ensures.items
+    has_kept c.args.view c.args.index c.in-Some.one c.args.self.now _ (search rules) c.requires.even c.push_reserved.ensures.items c.push_reserved-in-Some.ensures.items
