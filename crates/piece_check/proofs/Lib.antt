@@ -12,3 +12,4 @@ pub mod Viewing
 pub mod Shown
 pub mod Quiet
 pub mod Found
+pub mod Over

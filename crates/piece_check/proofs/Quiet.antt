@@ -57,7 +57,7 @@ stays_of_module configuration true old new settings settings' ordered cores agre
 stays_of_module configuration false old new settings settings' ordered cores agrees same steps left = rw (left refl, same) (cores, agrees)
 
 -- any configuration: the times and the queues of a channel are the same in all
-nothing : Configuration
+pub nothing : Configuration
 nothing = record { cores = 0; frame = 0; skew = 0; partitions = []; windows = []; sampling = []; queuing = [] }
 
 -- a piece that has passed a record by holds before the next place

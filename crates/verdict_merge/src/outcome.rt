@@ -103,8 +103,9 @@ pub fn go_over(
 {
     let subject = subject_of(lent.config, number);
     let records = lent.records;
+    let mut indices = lent.touched.of(&subject);
     let mut breach = None;
-    for index in lent.touched.of(&subject) {
+    'records: while let Some(index) = indices.next_for(records, piece) {
         match judge_one(
             lent,
             rules,
@@ -151,17 +152,13 @@ fn judge_one(
     ensures whose { holder piece.new.part ≡ holder piece.old.part }
     ensures memory { OnErr result (IsTrue piece.new.exhausted) }
 {
-    if piece.pass_by(ordered) {
-        return Ok(None);
-    }
     if rules.is_empty() {
         return step_over(lent, number, piece, index, ordered);
     }
     judge_and_test(lent, rules, number, piece, index, ordered, breach)
 }
 
-// The same for a record that is not passed by, with the test of its view. It is a function of its own, so that no room is made for a view
-// if there are no rules.
+// The same with the test of the record's view. It is a function of its own, so that no room is made for a view if there are no rules.
 fn judge_and_test(
     lent: &Lent,
     rules: &[Rule],
