@@ -1,5 +1,6 @@
 -- A piece passes by records one after another.
-use Rattle.std.proofs.Common.{◌≡◌, ◌∙◌, ◌<◌, ◌≤◌, ◌+◌, ◌++◌, ℕ, suc, List, [], ◌∷◌, Bool, true, false, if◌then◌else◌, length, get_or, refl, ap, sym, subst, arith}
+use Rattle.std.proofs.Common.{◌≡◌, ◌∙◌, ◌<◌, ◌≤◌, ◌+◌, ◌++◌, ℕ, suc, List, [], ◌∷◌, Bool, true, false, if◌then◌else◌, Some, length, get_or, refl, ap, sym, subst, arith}
+use Rattle.std.specs.Prelude.{slice_get}
 use Rattle.apex_types.specs.declared.record.Ordered.{Ordered}
 use Rattle.apex_machine.specs.Configuration.{Configuration}
 use Rattle.apex_machine.specs.Pieces.{Piece, touches}
@@ -19,7 +20,7 @@ merged_first tick greatest ticks (other ∷ others) most = tick_first tick other
 
 -- one more record is passed by
 pub over_more : (records : List Ordered) (old now next : Holding) (passed : List ℕ) (index : ℕ) (ordered : Ordered) → PassesOver records old passed now
-    → get_or records index ordered ≡ ordered → HasPassedBy ordered now next → PassesOver records old (passed ++ index ∷ []) next
+    → slice_get records index ≡ Some ordered → HasPassedBy ordered now next → PassesOver records old (passed ++ index ∷ []) next
 over_more records old now next [] index ordered over is passes = (ordered, next, is, subst (λ one. HasPassedBy ordered one next) over passes, refl)
 over_more records old now next (first ∷ passed) index ordered (one, between, at, by, rest) is passes =
     (one, between, at, by, over_more records between now next passed index ordered rest is passes)

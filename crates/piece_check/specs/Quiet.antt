@@ -1,5 +1,5 @@
 -- The records that a piece passes by without judging them.
-use Rattle.std.specs.Prelude.{◌≡◌, ◌<◌, ◌≤◌, ◌+◌, ◌++◌, ℕ, suc, List, [], ◌∷◌, Bool, true, false, Option, Some, None, length, slice_index_or}
+use Rattle.std.specs.Prelude.{◌≡◌, ◌<◌, ◌≤◌, ◌+◌, ◌++◌, ℕ, suc, List, [], ◌∷◌, Bool, true, false, Option, Some, None, length, slice_get}
 use Rattle.apex_types.specs.declared.record.Body.{Body}
 use Rattle.apex_types.specs.declared.record.Body.TheVariants.{Tick}
 use Rattle.apex_types.specs.declared.record.Ordered.{Ordered}
@@ -33,7 +33,7 @@ pub record HasPassedBy (ordered : Ordered) (old new : Holding) : Type 0 where
 abbrev pub PassesOver : List Ordered → Holding → List ℕ → Holding → Type 0
 PassesOver records old [] new = new ≡ old
 PassesOver records old (index ∷ others) new =
-    (ordered : Ordered) × (next : Holding) × (slice_index_or records index ordered ≡ ordered) × HasPassedBy ordered old next × PassesOver records next others new
+    (ordered : Ordered) × (next : Holding) × (slice_get records index ≡ Some ordered) × HasPassedBy ordered old next × PassesOver records next others new
 
 -- indices that rise from this one on, and stay below the end
 abbrev pub RisesFrom : ℕ → ℕ → List ℕ → Type 0

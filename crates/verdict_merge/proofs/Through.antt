@@ -1,6 +1,7 @@
 -- A piece passes over the records that come before the next one that it has to judge.
 use Rattle.std.proofs.Common.{◌≡◌, ◌<◌, ◌+◌, ◌∙◌, ℕ, suc, List, [], ◌∷◌, ◌++◌, Option, None, length, get_or, refl, sym, ap, subst, arith, append_assoc}
 use Rattle.std.proofs.lemmas.List.{append-nil, length-append}
+use Rattle.std.proofs.lemmas.Option.{get_or_from_slice_get}
 use Rattle.apex_types.specs.declared.record.Ordered.{Ordered}
 use Rattle.apex_machine.specs.Configuration.{Configuration}
 use Rattle.apex_machine.specs.Pieces.{touches}
@@ -73,7 +74,7 @@ pub come_through : (configuration : Configuration) (number first : ℕ) (old : H
 come_through configuration number first old records now next seen [] left on placed over = subst (λ one. IsOn configuration number old records one seen left) (sym over) on
 come_through configuration number first old records now next seen (index ∷ passed) left on placed (ordered, between, is, by, rest) =
     come_through configuration number first old records between next seen passed left
-    (come_by configuration number first old records now between seen index (passed ++ left) ordered on placed is by) placed rest
+    (come_by configuration number first old records now between seen index (passed ++ left) ordered on placed (get_or_from_slice_get records index ordered ordered is) by) placed rest
 
 -- up to the next one that it has to judge, or to the end
 pub come_to : (configuration : Configuration) (number first : ℕ) (old : Holding) (records : List Ordered) (now next : Holding) (seen : List Seen) (indices : List ℕ) (found : Option ℕ) (later : List ℕ)
