@@ -61,6 +61,12 @@ judge_one-requires-clause-core g c =
     let at = is_shown lent.config.now c.args.number lent.first lent.records.now on.outcome on.listed c.in-Some.ensures.begins c.index-records-index.is c.requires.placed c.requires.cores in
     at.core
 
+pub judge_one-requires-clause-of_module : goal.judge_one-requires-clause-of_module
+judge_one-requires-clause-of_module g c =
+    let lent = c.args.lent.now in
+    let on = come_to lent.config.now c.args.number lent.first c.args.piece.now lent.records.now c.records.piece c.next_for.new.piece c.records.invariant.0 c.records.indices _ _ c.records.invariant.1 c.requires.placed c.in-Some.ensures in
+    on.come.of_module
+
 pub judge_one-requires-clause-holds_before : goal.judge_one-requires-clause-holds_before
 judge_one-requires-clause-holds_before g c =
     let lent = c.args.lent.now in
