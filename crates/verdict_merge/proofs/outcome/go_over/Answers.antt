@@ -132,10 +132,10 @@ pub returns-clause-outcome : goal.returns-clause-outcome
 returns-clause-outcome g c =
     let lent = c.args.lent.now in
     let records = lent.records.now in
-    let on = come_to lent.config.now c.args.number lent.first c.args.piece.now lent.records.now c.records.piece c.next_for.new.piece c.records.invariant.0 c.records.indices _ _ c.records.invariant.1 c.requires.placed c.in-None.ensures in
+    let on = come_to lent.config.now c.args.number lent.first c.args.piece.now lent.records.now c.records.piece c.next_for.new.piece c.records.invariant.0 c.records.indices _ _ c.records.invariant.1 c.requires.placed c.in_default.ensures in
     let outcome = on.outcome in
     let piece = piece_at lent.config.now c.args.number in
-    let all : touching lent.config.now piece 0 records ≡ outcome = on.listed ∙ ap (λ left. outcome ++ left) c.in-None.ensures.begins.0 ∙ append-nil outcome in
+    let all : touching lent.config.now piece 0 records ≡ outcome = on.listed ∙ ap (λ left. outcome ++ left) c.in_default.ensures.begins.0 ∙ append-nil outcome in
     let end : reached lent.config.now piece records (length on.outcome) ≡ length records =
     get_or_past (touching lent.config.now piece 0 records) (length on.outcome) (length records) (omega (arith, ap length all)) in
     goes_through lent.config.now c.args.number lent.first records (relations_of c.args.rules.now) c.args.piece.now c.next_for.new.piece _ c.records.invariant.0
