@@ -86,7 +86,6 @@ impl ChannelPiece {
     }
 
     /// Passes by a tick that ends no wait: the time of its core rises. Returns whether the record is one. Takes no memory.
-    #[inline(always)]
     pub(crate) fn pass_by(&mut self, ordered: &Ordered) -> bool
         requires core { ordered.now.core < length self.old.times }
         requires place { ordered.now.pos < PLACE_COUNT }

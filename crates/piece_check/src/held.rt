@@ -81,7 +81,6 @@ impl Held {
     }
 
     /// Lets a channel pass by a tick that ends no wait, and says whether it did. Takes no memory.
-    #[inline(always)]
     pub(crate) fn pass_by(&mut self, ordered: &Ordered) -> bool
         requires core { ordered.now.core < length (cores_of (part_of self.old)) }
         requires place { ordered.now.pos < PLACE_COUNT }

@@ -93,7 +93,6 @@ impl Piece {
     /// did. Takes no memory.
     ///
     /// Leaves any other piece as it was, and the channel at any other record: `step` judges the record.
-    #[inline(always)]
     pub fn pass_by(&mut self, ordered: &Ordered) -> bool
         requires core { ordered.now.core < length (cores_of self.old.part) }
         requires holds_before { HoldsBefore ordered.now.pos self.old.part }
