@@ -1,9 +1,8 @@
 // The front of a text, cut at its commas.
 
-ghost use Rattle.std.specs.Prelude.{◌≡◌, ◌≢◌, ◌<◌, ◌≤◌, ◌+◌, ℕ, [], IfOk, IfSome, None, length, slice_index, take};
+ghost use Rattle.std.specs.Prelude.{◌≡◌, ◌≢◌, ◌<◌, ◌≤◌, ◌+◌, ◌↔◌, ℕ, [], IfOk, IfSome, None, length, slice_index, take};
 ghost use Rattle.std.specs.Int.{bit_at};
-ghost use Rattle.memchr.specs.Lanes.{Marks};
-ghost use Rattle.csv_rows.specs.Line.{is_special as is_special_of, split};
+ghost use Rattle.csv_rows.specs.Line.{IsPlain, is_special as is_special_of, split};
 ghost use Rattle.csv_rows.specs.Pieces.{AreEnds, IsLookedAt, IsSeen, StopsAt, pieces_from};
 
 use std::alloc::AllocError;
@@ -11,6 +10,9 @@ use std::simd::prelude::*;
 
 // How many bytes are looked at together.
 const RUN: usize = 32;
+
+// The mark after those of a run, which a search for the first mark finds where the run has none.
+const END_OF_RUN: u64 = 1 << RUN;
 
 /// Notes where the fields of the plain front of a text end, and answers with the place where the front does: that of the first quote,
 /// carriage return or line feed, or the end of the text.
@@ -25,8 +27,8 @@ pub fn cut_front(text: &[u8], ends: &mut Vec<usize>) -> Result<usize, AllocError
     Ok(stop)
 }
 
-// Notes the commas of the plain front of a text, and answers with the place where it ends. As most bytes of a row are digits and letters,
-// only those that are no greater than a comma are looked at one by one.
+// Notes the commas of the plain front of a text, and answers with the place where it ends. Only at the end of a text, where fewer than
+// 32 bytes are left, is each byte looked at by itself.
 #[inline(always)]
 fn note_commas(text: &[u8], ends: &mut Vec<usize>) -> Result<usize, AllocError>
     requires { ends.old.items ≡ [] }
@@ -43,7 +45,8 @@ fn note_commas(text: &[u8], ends: &mut Vec<usize>) -> Result<usize, AllocError>
     note_rest(text, at, ends)
 }
 
-// The same of the next 32 bytes: the place where the front ends, if it is one of them.
+// The same of the next 32 bytes: the place where the front ends, if it is one of them. Most bytes of a row are digits and letters. One mask
+// finds where the front ends and another the commas before that, so no test of a byte is left in the loop over the commas.
 #[inline(always)]
 fn note_run(text: &[u8], at: usize, ends: &mut Vec<usize>) -> Result<Option<usize>, AllocError>
     requires room { at + 32 ≤ length text.now }
@@ -52,16 +55,19 @@ fn note_run(text: &[u8], at: usize, ends: &mut Vec<usize>) -> Result<Option<usiz
     ensures seen { IfOk result (λ found. IfSome found (λ stop. IsSeen text.now ends.new.items stop)) }
     ensures passed { IfOk result (λ found. found ≡ None → IsSeen text.now ends.new.items (at + 32)) }
 {
+    ends.try_reserve(RUN)?;
+    let plain = plain_count(text, at);
     let mut place = at;
-    let mut left = low_marks(text, at);
+    let mut left = marks_before(marks_of(text, at, b','), plain);
     'marks: while left != 0 {
         let passed = lowest(left);
         place += passed;
-        if stops_at(text, place, ends)? {
-            return Ok(Some(place));
-        }
+        ends.push_reserved(place);
         place += 1;
         left = shifted_down(left, passed + 1);
+    }
+    if plain < RUN {
+        return Ok(Some(at + plain));
     }
     Ok(None)
 }
@@ -103,15 +109,38 @@ fn is_special(byte: u8) -> bool
     byte == b'"' || byte == b'\r' || byte == b'\n'
 }
 
-// The marks of those of 32 bytes that are no greater than a comma.
+// How many of the next 32 bytes are before the first that is a quote, a carriage return or a line feed.
 #[inline(always)]
-fn low_marks(text: &[u8], at: usize) -> u64
+fn plain_count(text: &[u8], at: usize) -> usize
     requires { at + 32 ≤ length text.now }
-    ensures { Marks (λ place. slice_index text.now place ≤ 44) at (at + 32) result }
+    ensures most { result ≤ 32 }
+    ensures plain { (k : ℕ) → k < result → IsPlain (slice_index text.now (at + k)) }
+    ensures special { result < 32 → ¬ IsPlain (slice_index text.now (at + result)) }
+{
+    let quotes = marks_of(text, at, b'"');
+    let returns = marks_of(text, at, b'\r');
+    let feeds = marks_of(text, at, b'\n');
+    lowest(quotes | returns | feeds | END_OF_RUN)
+}
+
+// The marks of those of the next 32 bytes that are this one.
+#[inline(always)]
+fn marks_of(text: &[u8], at: usize, byte: u8) -> u64
+    requires { at + 32 ≤ length text.now }
+    ensures { (k : ℕ) → (bit_at result k ≡ 1) ↔ ((k < 32) × (slice_index text.now (at + k) ≡ byte)) }
 {
     u8x32::from_slice(&text[at..])
-        .simd_le(u8x32::splat(b','))
+        .simd_eq(u8x32::splat(byte))
         .to_bitmask()
+}
+
+// The marks before a place.
+#[inline(always)]
+fn marks_before(marks: u64, end: usize) -> u64
+    requires { end < 64 }
+    ensures { (k : ℕ) → (bit_at result k ≡ 1) ↔ ((k < end) × (bit_at marks k ≡ 1)) }
+{
+    marks & ((1 << end) - 1)
 }
 
 // The place of the first mark.
