@@ -71,6 +71,13 @@ impl Words {
             self.end_without_memory();
             return;
         };
+        // Most words need no change, and are added at once.
+        if self.has_room_for(said.as_str())
+            && said.chars().all(|character| !character.is_control())
+        {
+            self.add(said.as_str());
+            return;
+        }
         for character in said.chars() {
             if character.is_control() {
                 self.add(character.escape_default());
@@ -151,6 +158,11 @@ impl Words {
         }
     }
 
+    // Whether this text can be added without being cut off.
+    fn has_room_for(&self, text: &str) -> bool {
+        self.text.len().saturating_add(text.len()) <= LONGEST
+    }
+
     // Adds a text unchanged.
     fn add(&mut self, text: impl Display + Drop) {
         self.ended |= self.text.len() >= LONGEST;
@@ -179,16 +191,14 @@ impl Display for Shown<'_> {
             // A text that is cut off does not end in a colour either.
             return write!(f, "{}{PLAIN}", self.text);
         }
-        let mut is_mark = false;
-        for character in self.text.chars() {
-            if character == MARK {
-                is_mark = true;
-            }
-            if !is_mark {
-                f.write_char(character)?;
-            }
-            if character == MARK_END {
-                is_mark = false;
+        let mut parts = self.text.split(MARK);
+        if let Some(words) = parts.next() {
+            f.write_str(words)?;
+        }
+        for part in parts {
+            // What comes first is the rest of a mark.
+            if let Some((_, words)) = part.split_once(MARK_END) {
+                f.write_str(words)?;
             }
         }
         Ok(())
