@@ -1,11 +1,9 @@
 -- How a run takes its records.
-use Rattle.std.specs.Prelude.{◌≡◌, ◌+◌, ℕ, List, Option, Some, None, length}
+use Rattle.std.specs.Prelude.{List, Option, Some, None}
 use Rattle.apex_types.specs.declared.record.Ordered.{Ordered}
 use Rattle.apex_machine.specs.Configuration.{Configuration}
-use Rattle.apex_machine.specs.Runs.{AreOfCores, ArePlaced}
 use Rattle.piece_check.specs.Parts.{Holding}
 use Rattle.run_walk.specs.Walks.{Takes}
-use Rattle.verdict_merge.specs.Rounds.{AreGoing}
 use Rattle.verdict_merge.specs.declared.verdict.Verdict.{Verdict}
 use Rattle.verdict_merge.specs.declared.verdict.Verdict.TheVariants as verdict
 use Rattle.apexview.specs.declared.run.Judgement.{Judgement}
@@ -22,11 +20,3 @@ abbrev pub verdict_of : Ordered → Judgement → Option Verdict
 verdict_of ordered Accepted = None
 verdict_of ordered (Rejected refusal) = Some (verdict.No ordered.pos refusal.piece refusal.cause)
 verdict_of ordered (Broken rule view) = Some (verdict.Broken ordered.pos rule)
-
--- records that are kept follow one another up to this place, and these pieces may judge the first of them
-pub record IsKept (configuration : Configuration) (next : ℕ) (before : List Holding) (kept : List Ordered) : Type 0 where
-  pub first : ℕ
-  pub going : AreGoing configuration first before
-  pub placed : ArePlaced first kept
-  pub cores : AreOfCores configuration.cores kept
-  pub reaches : first + length kept ≡ next

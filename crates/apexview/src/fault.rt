@@ -1,7 +1,7 @@
 // Why a run is not shown completely.
 
 use crate::ending::{Ending, out_of_memory};
-use apex_types::{Cause, Ordered, Place};
+use apex_types::{Cause, Place};
 use placement::{InputFault, PlacingFault};
 use report::{CheckFault, Verdict};
 use run_walk::{Refusal, WalkFault};
@@ -40,10 +40,10 @@ impl ShowFault {
     }
 }
 
-/// The fault of a rejected record.
-pub fn rejected(ordered: &Ordered, refusal: &Refusal) -> ShowFault {
+/// The fault of a record that is rejected at this place.
+pub fn rejected_at(pos: Place, refusal: &Refusal) -> ShowFault {
     ShowFault::Rejected {
-        pos: ordered.pos,
+        pos,
         piece: refusal.piece,
         cause: refusal.cause,
     }

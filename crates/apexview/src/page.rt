@@ -3,11 +3,11 @@
 ghost use Rattle.std.specs.Prelude.{◌≡◌, ◌<◌, ◌+◌, ℕ, IfOk, OnOk, false, length};
 ghost use Rattle.order_cert.specs.Kept.{place_of};
 ghost use Rattle.verdict_merge.specs.Rounds.{AreGoing};
-ghost use Rattle.apexview.specs.Going.{IsKept};
+ghost use Rattle.run_walk.specs.Kept.{IsKept};
 ghost use Rattle.apexview.specs.Stretches.{IsWhole};
 
 use crate::ending::{Ending, Line};
-use crate::fault::{ShowFault, rejected};
+use crate::fault::{ShowFault, rejected_at};
 use crate::rows::ShownRows;
 use crate::run::Shown;
 use crate::stretch::{Stretch, gather};
@@ -271,7 +271,7 @@ impl<'a> Drawing<'a> {
     }
 
     // Adds records that follow one another and were accepted. The last of them may break a rule.
-    #[tactic(auto, using(crate::proofs::Kept::first_going, crate::proofs::Kept::first_core, crate::proofs::Kept::kept_on))]
+    #[tactic(auto, using(run_walk::proofs::Kept::first_going, run_walk::proofs::Kept::first_core, run_walk::proofs::Kept::kept_on))]
     fn accept_all(
         &mut self,
         rows: &ShownRows<'_>,
@@ -303,7 +303,7 @@ impl<'a> Drawing<'a> {
         ensures going { OnOk result (AreGoing self.old.config.now (ordered.now.pos + 1) self.new.walk) }
     {
         if let Some(refusal) = self.walk.take(self.config, ordered)? {
-            return Err(rejected(ordered, &refusal));
+            return Err(rejected_at(ordered.pos, &refusal));
         }
         let pieces = self.walk.pieces();
         self.changes.clear();

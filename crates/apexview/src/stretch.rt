@@ -1,12 +1,12 @@
 // The stretch of a run that a picture shows.
 
-ghost use Rattle.std.specs.Prelude.{◌≡◌, ◌<◌, ◌+◌, [], IfOk, None, Ok, OnOk, false, length};
+ghost use Rattle.std.specs.Prelude.{◌≡◌, ◌<◌, ◌+◌, IfOk, None, Ok, OnOk, false, length};
 ghost use Rattle.order_cert.specs.Kept.{place_of};
 ghost use Rattle.verdict_merge.specs.Rounds.{AreGoing};
-ghost use Rattle.apexview.specs.Going.{IsKept};
-ghost use Rattle.apexview.specs.Stretches.{IsWhole, KeepsSame};
+ghost use Rattle.run_walk.specs.Kept.{AreRecent, HasRoom};
+ghost use Rattle.apexview.specs.Stretches.{IsGathered, IsWhole, KeepsSame};
 
-use crate::fault::{ShowFault, rejected};
+use crate::fault::{ShowFault, rejected_at};
 use crate::placed::next_placed;
 use crate::run::{Judgement, Run, Shown};
 use answer_words::Explainer;
@@ -16,7 +16,7 @@ use module_config::Config;
 use placement::{Placer, PlacingFault};
 use report::Verdict;
 use run_view::{Lawful, lawful_of};
-use run_walk::{Refusal, Walk};
+use run_walk::{Recent, Refusal, Span, Walk, WalkFault};
 use sarif_report::name_of_cause;
 use std::alloc::{AllocError, Global};
 use std::collections::VecDeque;
@@ -52,8 +52,16 @@ impl Rejected {
     }
 }
 
+// What is kept of a run while it is judged.
+#[derive(Drop)]
+struct Gathering {
+    recent: Recent,
+    rejected: Option<Rejected>,
+    is_broken: bool,
+    after: Vec<Ordered>,
+}
+
 /// Judges a run, and keeps the requested stretch. The explainer receives what explains the end.
-#[tactic(auto, using(crate::proofs::Kept::none_kept))]
 pub fn gather<R: Wait, S: TextSource, C: TextSource>(
     rt: &R,
     alloc: Global,
@@ -66,13 +74,30 @@ pub fn gather<R: Wait, S: TextSource, C: TextSource>(
     requires cores { length placer.old.lanes ≡ shown.now.config.now.cores }
     ensures { IfOk result (λ found. IsWhole shown.now.config.now found.1) }
 {
+    let (verdict, gathering) = gather_all(rt, alloc, shown, placer, explainer)?;
+    Ok((verdict, gathering.end(shown)?))
+}
+
+// The same, with more records than are requested.
+fn gather_all<R: Wait, S: TextSource, C: TextSource>(
+    rt: &R,
+    alloc: Global,
+    shown: &Shown<'_>,
+    placer: &mut Placer<S, C>,
+    explainer: &mut Explainer,
+) -> Result<(Verdict, Gathering), ShowFault>
+    requires going { placer.old.ended ≡ false }
+    requires first { place_of placer.old.kept ≡ 0 }
+    requires cores { length placer.old.lanes ≡ shown.now.config.now.cores }
+    ensures { IfOk result (λ found. IsGathered shown.now.config.now found.1) }
+{
     let mut run = Run::start(alloc, shown)?;
-    let mut stretch = Stretch::new(alloc, Walk::start(alloc, shown.config)?);
+    let mut gathering = Gathering::start(alloc, shown)?;
     let mut placed = Vec::new(alloc);
     // There are fewer places than this many rounds.
     'records: for _ in 0..u64::MAX {
         let Some(ordered) = next_placed(rt, placer, &mut placed)? else {
-            return Ok((run.yes(), stretch));
+            return Ok((run.yes(), gathering));
         };
         if shown.is_past(&ordered) {
             let verdict = judge_after(
@@ -82,13 +107,13 @@ pub fn gather<R: Wait, S: TextSource, C: TextSource>(
                 ordered,
                 placer,
                 explainer,
-                &mut stretch,
+                &mut gathering,
             )?;
-            return Ok((verdict, stretch));
+            return Ok((verdict, gathering));
         }
-        if let Some(verdict) = stretch.judge(alloc, shown, &mut run, ordered, explainer)? {
-            stretch.add_after(rt, alloc, placer)?;
-            return Ok((verdict, stretch));
+        if let Some(verdict) = gathering.judge(alloc, shown, &mut run, ordered, explainer)? {
+            gathering.add_after(rt, alloc, placer)?;
+            return Ok((verdict, gathering));
         }
     }
     Err(ShowFault::Memory)
@@ -102,22 +127,22 @@ fn judge_after<R: Wait, S: TextSource, C: TextSource>(
     first: Ordered,
     placer: &mut Placer<S, C>,
     explainer: &mut Explainer,
-    stretch: &mut Stretch,
+    gathering: &mut Gathering,
 ) -> Result<Verdict, ShowFault>
     requires going { placer.old.ended ≡ false }
     requires pieces { AreGoing run.old.shown.now.config.now first.pos run.old.walk }
     requires place { place_of placer.old.kept ≡ first.pos + 1 }
     requires core { first.core < run.old.shown.now.config.now.cores }
     requires cores { length placer.old.lanes ≡ run.old.shown.now.config.now.cores }
-    ensures { KeepsSame stretch.old stretch.new }
+    ensures { KeepsSame gathering.old gathering.new }
 {
     let mut placed = Vec::new(alloc);
     let mut next = first;
     'records: for _ in 0..u64::MAX {
         let verdict = run.verdict_of_next(alloc, &next, explainer)?;
-        stretch.keep_after(next)?;
+        gathering.keep_after(next)?;
         if let Some(verdict) = verdict {
-            stretch.add_after(rt, alloc, placer)?;
+            gathering.add_after(rt, alloc, placer)?;
             return Ok(verdict);
         }
         next = match next_placed(rt, placer, &mut placed)? {
@@ -142,18 +167,43 @@ fn lawful_at(
     }
 }
 
-impl Stretch {
-    fn new(alloc: Global, before: Walk) -> Stretch
-        ensures before { result.before ≡ before }
-        ensures kept { result.kept.items ≡ [] }
+impl Gathering {
+    // What is kept before the first record.
+    fn start(alloc: Global, shown: &Shown<'_>) -> Result<Gathering, WalkFault>
+        ensures recent { IfOk result (λ gathering. AreRecent shown.now.config.now 0 gathering.recent) }
+        ensures room { IfOk result (λ gathering. HasRoom gathering.recent) }
     {
-        Stretch {
-            before,
-            kept: VecDeque::new(alloc),
+        Ok(Gathering {
+            recent: Recent::start(alloc, shown.config, shown.asked.span)?,
             rejected: None,
             is_broken: false,
             after: Vec::new(alloc),
+        })
+    }
+
+    // The requested stretch.
+    fn end(self, shown: &Shown<'_>) -> Result<Stretch, ShowFault>
+        requires { IsGathered shown.now.config.now self }
+        ensures { IfOk result (IsWhole shown.now.config.now) }
+    {
+        let Gathering {
+            recent,
+            rejected,
+            is_broken,
+            after,
+        } = self;
+        let mut span = recent.into_span()?;
+        if let Some((pos, refusal)) = span.shorten(shown.config, shown.asked.span)? {
+            return Err(rejected_at(pos, &refusal));
         }
+        let Span { before, records } = span;
+        Ok(Stretch {
+            before,
+            kept: records,
+            rejected,
+            is_broken,
+            after,
+        })
     }
 
     // Judges the next record, and keeps it.
@@ -167,44 +217,26 @@ impl Stretch {
     ) -> Result<Option<Verdict>, ShowFault>
         requires shown { run.old.shown.now ≡ shown.now }
         requires pieces { AreGoing shown.now.config.now ordered.pos run.old.walk }
-        requires kept { IsKept shown.now.config.now ordered.pos self.old.before self.old.kept.items }
+        requires recent { AreRecent shown.now.config.now ordered.pos self.old.recent }
+        requires room { HasRoom self.old.recent }
         requires core { ordered.core < shown.now.config.now.cores }
         ensures shown { run.new.shown ≡ run.old.shown }
         ensures pieces { result ≡ Ok None → AreGoing shown.now.config.now (ordered.pos + 1) run.new.walk }
-        ensures kept { result ≡ Ok None → IsKept shown.now.config.now (ordered.pos + 1) self.new.before self.new.kept.items }
-        ensures whole { OnOk result (IsWhole shown.now.config.now self.new) }
+        ensures recent { result ≡ Ok None → AreRecent shown.now.config.now (ordered.pos + 1) self.new.recent }
+        ensures room { result ≡ Ok None → HasRoom self.new.recent }
+        ensures gathered { OnOk result (IsGathered shown.now.config.now self.new) }
     {
         let judgement = run.judge(&ordered)?;
         let verdict = run.verdict(alloc, &ordered, &judgement, explainer);
         match verdict {
             None => {
-                self.keep(shown, ordered)?;
+                self.recent.keep(alloc, ordered, run.walk())?;
                 Ok(None)
             }
             Some(_) => {
                 self.decide(alloc, shown, run, ordered, &judgement)?;
                 Ok(verdict)
             }
-        }
-    }
-
-    // Keeps an accepted record. If there are then more than the span, the pieces before the stretch take the first one.
-    #[tactic(auto, using(crate::proofs::Kept::kept_more, crate::proofs::Kept::first_going, crate::proofs::Kept::first_core, crate::proofs::Kept::kept_on))]
-    fn keep(&mut self, shown: &Shown<'_>, ordered: Ordered) -> Result<(), ShowFault>
-        requires kept { IsKept shown.now.config.now ordered.pos self.old.before self.old.kept.items }
-        requires core { ordered.core < shown.now.config.now.cores }
-        ensures { OnOk result (IsKept shown.now.config.now (ordered.pos + 1) self.new.before self.new.kept.items) }
-    {
-        self.kept.push_back(ordered)?;
-        if self.kept.len() <= shown.asked.span {
-            return Ok(());
-        }
-        let Some(first) = self.kept.pop_front() else {
-            return Ok(());
-        };
-        match self.before.take(shown.config, &first)? {
-            None => Ok(()),
-            Some(refusal) => Err(rejected(&first, &refusal)),
         }
     }
 
@@ -217,9 +249,10 @@ impl Stretch {
         ordered: Ordered,
         judgement: &Judgement,
     ) -> Result<(), ShowFault>
-        requires kept { IsKept shown.now.config.now ordered.pos self.old.before self.old.kept.items }
+        requires recent { AreRecent shown.now.config.now ordered.pos self.old.recent }
+        requires room { HasRoom self.old.recent }
         requires core { ordered.core < shown.now.config.now.cores }
-        ensures { OnOk result (IsWhole shown.now.config.now self.new) }
+        ensures { OnOk result (IsGathered shown.now.config.now self.new) }
     {
         match judgement {
             Judgement::Rejected(refusal) => {
@@ -231,10 +264,10 @@ impl Stretch {
                 });
                 Ok(())
             }
-            Judgement::Accepted => self.keep(shown, ordered),
+            Judgement::Accepted => Ok(self.recent.keep_last(ordered)?),
             Judgement::Broken { .. } => {
                 self.is_broken = true;
-                self.keep(shown, ordered)
+                Ok(self.recent.keep_last(ordered)?)
             }
         }
     }

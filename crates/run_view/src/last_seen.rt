@@ -10,7 +10,7 @@ use crate::cores::{CoreView, core_view};
 use crate::process::{ProcessView, process_view};
 use crate::thing::{ThingKey, ThingView, channel_view, thing_view};
 use apex_machine::{Mode, Process};
-use apex_types::{CoreId, ObjectKind, Ordered, PartId, ProcId, Who};
+use apex_types::{Body, CoreId, ObjectKind, Ordered, PartId, ProcId, Who};
 use channel::Channel;
 use dispatch_rule::Clock;
 use module_config::Config;
@@ -155,11 +155,21 @@ impl LastSeen {
     }
 }
 
-// Whether a record touches a piece, if there is a record.
+// Whether a piece may have changed: by this record, or at all if there is no record. A tick that ends no wait changes the time of its core,
+// and nothing else.
 fn is_touched(config: &Config, piece: &Piece, record: Option<&Ordered>) -> bool {
     match record {
+        Some(ordered) if ends_no_wait(ordered) => matches!(piece.seen(), Seen::Module { .. }),
         Some(ordered) => piece.subject().is_touched(config, ordered),
         None => true,
+    }
+}
+
+// Whether a record is a tick that ends no wait.
+fn ends_no_wait(ordered: &Ordered) -> bool {
+    match &ordered.rec.body {
+        Body::Tick(woken) => woken.as_slice().is_empty(),
+        _ => false,
     }
 }
 

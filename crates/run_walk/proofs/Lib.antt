@@ -1,2 +1,4 @@
+mod Copies
+pub mod Kept
 pub mod Taking
 pub mod Viewing

@@ -9,7 +9,7 @@ ghost use Rattle.run_walk.specs.Walks.{HasTaken, IsViewAt, Takes};
 use apex_types::{Cause, Ordered, View};
 use module_config::Config;
 use piece_check::{Piece, PieceFault};
-use std::alloc::Global;
+use std::alloc::{AllocError, Global};
 use std::marker::Model;
 use thiserror::Error;
 use verdict_merge::start_pieces;
@@ -84,6 +84,18 @@ impl Walk {
         ensures takes { IfOk result (λ refusal. Takes config.now ordered.now self.old refusal self.new) }
     {
         take_in_turn(self.pieces.as_mut_slice(), config, ordered)
+    }
+}
+
+impl Clone for Walk {
+    // A copy has the same pieces.
+    ghost is_clone = { λ walk copy. copy ≡ walk };
+
+    #[tactic(auto, using(crate::proofs::Copies::same_all))]
+    fn clone(&self) -> Result<Walk, AllocError> {
+        Ok(Walk {
+            pieces: self.pieces.clone()?,
+        })
     }
 }
 

@@ -11,5 +11,5 @@ invariant-records g l = record {
   pieces : AreGoing l.run.shown.now.config.now l.next.pos l.run.walk;
   place : place_of l.placer.kept ≡ l.next.pos + 1;
   core : l.next.core < l.run.shown.now.config.now.cores;
-  same : KeepsSame l.fn.stretch l.stretch;
+  same : KeepsSame l.fn.gathering l.gathering;
 }

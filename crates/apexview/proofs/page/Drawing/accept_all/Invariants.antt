@@ -1,5 +1,5 @@
 use Rattle.std.proofs.Common.{ℕ}
-use Rattle.apexview.specs.Going.{IsKept}
+use Rattle.run_walk.specs.Kept.{IsKept}
 use Rattle.apexview.proofs.page.Drawing.accept_all.Given as goal
 
 abbrev pub invariant-records : goal.invariant-records

@@ -1,0 +1,110 @@
+-- Records that are kept, with more of them or fewer.
+use Rattle.std.proofs.Common.{◌≡◌, ◌<◌, ◌+◌, ◌∙◌, ℕ, suc, List, [], ◌∷◌, ◌++◌, length, ap, arith, length-append, subst, sym}
+use Rattle.apex_types.specs.declared.record.Ordered.{Ordered}
+use Rattle.apex_machine.specs.Configuration.{Configuration}
+use Rattle.apex_machine.specs.Runs.{AreOfCores, ArePlaced}
+use Rattle.piece_check.specs.Parts.{Holding}
+use Rattle.verdict_merge.specs.Rounds.{AreGoing}
+use Rattle.run_walk.specs.Kept.{AreRecent, IsKept}
+use Rattle.run_walk.specs.declared.recent.Recent.{Recent}
+use Rattle.run_walk.specs.declared.span.Span.{Span}
+
+placed_joined : (place : ℕ) (front back : List Ordered) → ArePlaced place front → ArePlaced (place + length front) back → ArePlaced place (front ++ back)
+placed_joined place [] back placed after = subst (λ n. ArePlaced n back) (let e : place + 0 ≡ place = omega arith in e) after
+placed_joined place (one ∷ front) back (here, placed) after =
+    (here, placed_joined (suc place) front back placed (subst (λ n. ArePlaced n back) (let e : place + suc (length front) ≡ suc place + length front = omega arith in e) after))
+
+cores_joined : (cores : ℕ) (front back : List Ordered) → AreOfCores cores front → AreOfCores cores back → AreOfCores cores (front ++ back)
+cores_joined cores [] back of_cores after = after
+cores_joined cores (one ∷ front) back (here, of_cores) after = (here, cores_joined cores front back of_cores after)
+
+-- one more record is kept, after the others
+kept_more : (configuration : Configuration) (before : List Holding) (kept : List Ordered) (ordered : Ordered) → IsKept configuration ordered.pos before kept
+    → ordered.core < configuration.cores → IsKept configuration (ordered.pos + 1) before (kept ++ ordered ∷ [])
+kept_more configuration before kept ordered is below =
+    let long : length (kept ++ ordered ∷ []) ≡ length kept + 1 = length-append kept (ordered ∷ []) in
+    record {
+      first = is.first;
+      going = is.going;
+      placed = placed_joined is.first kept (ordered ∷ []) is.placed (sym is.reaches, tt);
+      cores = cores_joined configuration.cores kept (ordered ∷ []) is.cores (below, tt);
+      reaches = omega (arith, is.reaches, long);
+    }
+
+-- no record is kept before the first one
+pub recent_none : (configuration : Configuration) (recent : Recent) → AreGoing configuration 0 recent.earlier.before → recent.earlier.records.items ≡ []
+    → AreGoing configuration 0 recent.later.before → recent.later.records.items ≡ [] → AreRecent configuration 0 recent
+recent_none configuration recent earlier no_earlier later no_later =
+    record {
+      later = record { first = 0; going = later; placed = rw no_later tt; cores = rw no_later tt; reaches = rw no_later (omega arith) };
+      earlier = record { first = 0; going = earlier; placed = rw no_earlier tt; cores = rw no_earlier tt; reaches = rw no_earlier (omega arith) };
+    }
+
+-- one more record is kept, after the others
+pub recent_more : (configuration : Configuration) (old new : Recent) (ordered : Ordered) → new.earlier ≡ old.earlier → new.later.before ≡ old.later.before
+    → new.later.records.items ≡ old.later.records.items ++ ordered ∷ [] → AreRecent configuration ordered.pos old → ordered.core < configuration.cores
+    → AreRecent configuration (ordered.pos + 1) new
+recent_more configuration old new ordered same before items are below =
+    let kept = old.later.records.items in
+    let first = are.later.first in
+    let long : length (kept ++ ordered ∷ []) ≡ length kept + 1 = length-append kept (ordered ∷ []) in
+    record {
+      later = record {
+        first = first;
+        going = subst (λ (holdings : List Holding). AreGoing configuration first holdings) (sym before) are.later.going;
+        placed = subst (λ (records : List Ordered). ArePlaced first records) (sym items) (placed_joined first kept (ordered ∷ []) are.later.placed (sym are.later.reaches, tt));
+        cores = subst (λ (records : List Ordered). AreOfCores configuration.cores records) (sym items) (cores_joined configuration.cores kept (ordered ∷ []) are.later.cores (below, tt));
+        reaches = omega (arith, are.later.reaches, ap (λ (records : List Ordered). length records) items, long);
+      };
+      earlier = subst (λ (span : Span). IsKept configuration first span.before span.records.items) (sym same) are.earlier;
+    }
+
+-- one more record is kept after the others, and another span begins with pieces that may judge the next record
+pub recent_turned : (configuration : Configuration) (old new : Recent) (ordered : Ordered) → new.earlier.before ≡ old.later.before
+    → new.earlier.records.items ≡ old.later.records.items ++ ordered ∷ [] → AreGoing configuration (ordered.pos + 1) new.later.before → new.later.records.items ≡ []
+    → AreRecent configuration ordered.pos old → ordered.core < configuration.cores → AreRecent configuration (ordered.pos + 1) new
+recent_turned configuration old new ordered before items going none are below =
+    let next = ordered.pos + 1 in
+    record {
+      later = record { first = next; going = going; placed = rw none tt; cores = rw none tt; reaches = rw none (omega arith) };
+      earlier = subst (λ (holdings : List Holding). IsKept configuration next holdings new.earlier.records.items) (sym before)
+          (subst (λ (records : List Ordered). IsKept configuration next old.later.before records) (sym items)
+          (kept_more configuration old.later.before old.later.records.items ordered are.later below));
+    }
+
+-- the records of both spans are those of one
+pub joined : (configuration : Configuration) (next : ℕ) (recent : Recent) (records : List Ordered) → records ≡ recent.earlier.records.items ++ recent.later.records.items
+    → AreRecent configuration next recent → IsKept configuration next recent.earlier.before records
+joined configuration next recent records items are =
+    let front = recent.earlier.records.items in
+    let back = recent.later.records.items in
+    let first = are.earlier.first in
+    record {
+      first = first;
+      going = are.earlier.going;
+      placed = subst (λ (list : List Ordered). ArePlaced first list) (sym items)
+          (placed_joined first front back are.earlier.placed (subst (λ n. ArePlaced n back) (sym are.earlier.reaches) are.later.placed));
+      cores = subst (λ (list : List Ordered). AreOfCores configuration.cores list) (sym items) (cores_joined configuration.cores front back are.earlier.cores are.later.cores);
+      reaches = omega (arith, are.earlier.reaches, are.later.reaches, ap (λ (list : List Ordered). length list) items, length-append front back);
+    }
+
+-- the pieces may judge the first record that is kept
+pub first_going : (configuration : Configuration) (next : ℕ) (before : List Holding) (first : Ordered) (kept : List Ordered) → IsKept configuration next before (first ∷ kept)
+    → AreGoing configuration first.pos before
+first_going configuration next before first kept is = subst (λ place. AreGoing configuration place before) (sym is.placed.0) is.going
+
+pub first_core : (configuration : Configuration) (next : ℕ) (before : List Holding) (first : Ordered) (kept : List Ordered) → IsKept configuration next before (first ∷ kept)
+    → first.core < configuration.cores
+first_core configuration next before first kept is = is.cores.0
+
+-- after they take it, the others are kept
+pub kept_on : (configuration : Configuration) (next : ℕ) (before after : List Holding) (first : Ordered) (kept : List Ordered) → IsKept configuration next before (first ∷ kept)
+    → AreGoing configuration (first.pos + 1) after → IsKept configuration next after kept
+kept_on configuration next before after first kept is going =
+    record {
+      first = first.pos + 1;
+      going = going;
+      placed = subst (λ place. ArePlaced place kept) (omega (arith, is.placed.0)) is.placed.1;
+      cores = is.cores.1;
+      reaches = omega (arith, is.reaches, is.placed.0);
+    }

@@ -1,0 +1,71 @@
+// How the records that were taken last are kept.
+
+ghost use Rattle.std.specs.Prelude.{◌≡◌, ◌<◌, ◌+◌, ℕ, IfOk, OnOk};
+ghost use Rattle.apex_machine.specs.Configuration.{Configuration};
+ghost use Rattle.verdict_merge.specs.Rounds.{AreGoing};
+ghost use Rattle.run_walk.specs.Kept.{AreRecent, HasRoom, IsKept};
+
+use crate::recent::Recent;
+use crate::span::Span;
+use crate::walk::{Walk, WalkFault};
+use apex_types::Ordered;
+use module_config::Config;
+use std::alloc::{AllocError, Global};
+use std::mem;
+
+/// How many records are worth a copy of the pieces.
+const LEAST_SPAN: usize = 200;
+
+impl Recent {
+    /// No records: those before the first one of a run. Each span will have at most so many records, or 200 if that is more.
+    ///
+    /// `Memory` if it is refused.
+    #[tactic(auto, using(crate::proofs::Kept::recent_none))]
+    pub fn start(alloc: Global, config: &Config, most: usize) -> Result<Recent, WalkFault>
+        ensures recent { IfOk result (AreRecent config.now 0) }
+        ensures room { IfOk result HasRoom }
+    {
+        Ok(Recent {
+            most: most.max(LEAST_SPAN),
+            earlier: Span::new(alloc, Walk::start(alloc, config)?),
+            later: Span::new(alloc, Walk::start(alloc, config)?),
+        })
+    }
+
+    /// Keeps the next record, which these pieces have taken.
+    pub fn keep(&mut self, alloc: Global, ordered: Ordered, pieces: &Walk) -> Result<(), AllocError>
+        requires room { HasRoom self.old }
+        ensures recent { OnOk result ((configuration : Configuration) → AreRecent configuration ordered.pos self.old → ordered.core < configuration.cores → AreGoing configuration (ordered.pos + 1) pieces.now → AreRecent configuration (ordered.pos + 1) self.new) }
+        ensures room { OnOk result (HasRoom self.new) }
+    {
+        self.later.records.push_back(ordered)?;
+        if self.later.records.len() < self.most {
+            return Ok(());
+        }
+        let next = Span::new(alloc, pieces.clone()?);
+        self.earlier = mem::replace(&mut self.later, next);
+        Ok(())
+    }
+
+    /// Keeps the last record, after which there is none.
+    pub fn keep_last(&mut self, ordered: Ordered) -> Result<(), AllocError>
+        requires room { HasRoom self.old }
+        ensures { OnOk result ((configuration : Configuration) → AreRecent configuration ordered.pos self.old → ordered.core < configuration.cores → AreRecent configuration (ordered.pos + 1) self.new) }
+    {
+        self.later.records.push_back(ordered)?;
+        Ok(())
+    }
+
+    /// The records of both spans, as one.
+    pub fn into_span(self) -> Result<Span, AllocError>
+        ensures { IfOk result (λ span. (configuration : Configuration) (next : ℕ) → AreRecent configuration next self → IsKept configuration next span.before span.records.items) }
+    {
+        let Recent {
+            most: _,
+            mut earlier,
+            mut later,
+        } = self;
+        earlier.records.append(&mut later.records)?;
+        Ok(earlier)
+    }
+}
