@@ -16,6 +16,7 @@ use answer_words::{Explainer, RunFiles};
 use apex_types::Ordered;
 use csv_rows::TextSource;
 use module_config::Config;
+use piece_check::Piece;
 use placement::Placer;
 use report::{CheckFault, Verdict};
 use run_view::{Change, LastSeen, MessageLinks};
@@ -309,12 +310,31 @@ impl<'a> Drawing<'a> {
         self.changes.clear();
         self.seen
             .look(self.config, pieces, Some(ordered), &mut self.changes)?;
-        let followed = self.links.follow(pieces, ordered)?;
         let added = added(rows, ordered, status);
-        self.picture
-            .accept(pieces, &added, self.changes.as_slice(), &followed)?;
-        Ok(())
+        let changes = self.changes.as_slice();
+        draw(
+            &mut self.picture,
+            &mut self.links,
+            pieces,
+            ordered,
+            &added,
+            changes,
+        )
     }
+}
+
+// Draws a record that was accepted: what it changed, and what it did with messages.
+fn draw(
+    picture: &mut Picture,
+    links: &mut MessageLinks,
+    pieces: &[Piece],
+    ordered: &Ordered,
+    added: &Added<'_>,
+    changes: &[Change],
+) -> Result<(), ShowFault> {
+    let followed = links.follow(pieces, ordered)?;
+    picture.accept(pieces, added, changes, &followed)?;
+    Ok(())
 }
 
 // How a record was judged that a stretch keeps.
