@@ -19,7 +19,7 @@ use module_config::Config;
 use piece_check::Piece;
 use placement::Placer;
 use report::{CheckFault, Verdict};
-use run_view::{Change, LastSeen, MessageLinks};
+use run_view::{Change, Followed, LastSeen, MessageLinks, Received, Sent};
 use run_walk::Walk;
 use sink::{Sink, put_all};
 use std::alloc::{AllocError, Global};
@@ -332,7 +332,18 @@ fn draw(
     added: &Added<'_>,
     changes: &[Change],
 ) -> Result<(), ShowFault> {
-    let followed = links.follow(pieces, ordered)?;
+    let Followed {
+        is_sent,
+        received,
+        ended,
+    } = links.follow(pieces, ordered)?;
+    let received: Option<Received> = received;
+    let ended: Option<Sent> = ended;
+    let followed = Followed {
+        is_sent,
+        received,
+        ended,
+    };
     picture.accept(pieces, added, changes, &followed)?;
     Ok(())
 }
