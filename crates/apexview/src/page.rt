@@ -337,6 +337,7 @@ fn draw(
         received,
         ended,
     } = links.follow(pieces, ordered)?;
+    // The prover looks for the types of these values in this file.
     let received: Option<Received> = received;
     let ended: Option<Sent> = ended;
     let followed = Followed {
