@@ -7,9 +7,8 @@ use apex_types::Format;
 use csv_rows::{CsvRows, RowFields, StreamFault, TextSource, Watched};
 use record_read::format_by;
 use std::alloc::{AllocError, Global};
-use std::io;
 use std::io::Read;
-use std::mem;
+use std::{io, mem};
 
 /// The most bytes of a text that are read.
 const MOST_BYTES: u64 = 536_870_912;
