@@ -150,3 +150,28 @@ fn each_call_tests_rules(rt: HostRuntime) -> Result<(), Fail> {
     }
     Ok(())
 }
+
+// What breaks a rule first under one rule breaks it first under many, the last of which is that rule, by one worker and by four.
+#[test]
+fn many_rules_find_what_one_finds(rt: HostRuntime) -> Result<(), Fail> {
+    let alloc = rt.alloc();
+    for (others, workers) in [(0, 1), (0, 4), (199, 1), (199, 4)] {
+        let mut rules = Vec::new(alloc);
+        for _ in 0..others {
+            rules.push(rule!(alloc, Relation::Less(Field::Elapsed, 4)))?;
+        }
+        let settings = Settings { workers, depth: 4 };
+        let readers = vec![in alloc; RECORDING.as_bytes()]?;
+        let answer = check(rt, alloc, CONFIG, readers, ORDER, &rules, settings, &Open);
+        assert_eq!(rt; answer, Ok(WAITED), "{others} {workers}");
+        rules.push(rule!(alloc, Relation::Less(Field::Elapsed, 3)))?;
+        let readers = vec![in alloc; RECORDING.as_bytes()]?;
+        let answer = check(rt, alloc, CONFIG, readers, ORDER, &rules, settings, &Open);
+        let broken = Verdict::Broken {
+            pos: Place::new(13),
+            rule: others,
+        };
+        assert_eq!(rt; answer, Ok(broken), "{others} {workers}");
+    }
+    Ok(())
+}

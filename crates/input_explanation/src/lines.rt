@@ -1,5 +1,6 @@
 // The lines of a text, counted from 1. Each line feed, each carriage return and each pair of them ends a line.
 
+use memchr::memchr3;
 use std::io::Read;
 
 // How many bytes are read at once.
@@ -35,6 +36,22 @@ impl<R: Read> Lines<R> {
         }
     }
 
+    /// How many bytes of the text have been passed.
+    pub fn passed(&self) -> u64 {
+        self.passed
+    }
+
+    /// Passes whole lines, at most this many, and returns how many. It stops before a line that is empty, has a quote or a carriage
+    /// return, or is longer than 8 KiB: any other line is a row.
+    pub fn pass_rows(&mut self, most: u64) -> u64 {
+        'lines: for count in 0..most {
+            if !self.pass_row() {
+                return count;
+            }
+        }
+        most
+    }
+
     /// The line of the first byte, after this many bytes of the text, that does not end a line. Later calls must ask for later bytes.
     pub fn first_filled(&mut self, bytes: u64) -> u64 {
         for _ in 0..u64::MAX {
@@ -49,18 +66,52 @@ impl<R: Read> Lines<R> {
         self.line
     }
 
+    // Passes the next line if it is a row by itself, and returns whether it is.
+    fn pass_row(&mut self) -> bool {
+        let mut length = row_length(self.rest());
+        if length.is_none() {
+            self.read_more();
+            length = row_length(self.rest());
+        }
+        let Some(length) = length else {
+            return false;
+        };
+        let end = length.saturating_add(1);
+        self.at = self.at.saturating_add(end);
+        self.passed = self.passed.saturating_add(end as u64);
+        self.line = self.line.saturating_add(1);
+        self.is_after_return = false;
+        true
+    }
+
+    // The bytes that have been read and not passed.
+    fn rest(&self) -> &[u8] {
+        self.piece[..self.filled.min(PIECE)]
+            .get(self.at..)
+            .unwrap_or(&[])
+    }
+
     // The next byte, if there is one that can be read.
     fn next_byte(&mut self) -> Option<u8> {
         if self.at >= self.filled {
-            self.at = 0;
-            self.filled = self.reader.read(&mut self.piece).unwrap_or(0);
-            if self.passed == 0 && self.piece[..self.filled.min(PIECE)].starts_with(&MARK) {
-                self.at = MARK.len();
-                self.passed = MARK.len() as u64;
-            }
+            self.read_more();
         }
+        self.rest().first().copied()
+    }
+
+    // Reads further bytes behind those that have not been passed.
+    fn read_more(&mut self) {
         let filled = self.filled.min(PIECE);
-        self.piece[..filled].get(self.at).copied()
+        let at = self.at.min(filled);
+        self.piece.copy_within(at..filled, 0);
+        let kept = filled - at;
+        let count = self.reader.read(&mut self.piece[kept..]).unwrap_or(0);
+        self.at = 0;
+        self.filled = kept.saturating_add(count);
+        if self.passed == 0 && self.rest().starts_with(&MARK) {
+            self.at = MARK.len();
+            self.passed = MARK.len() as u64;
+        }
     }
 
     // Continues after this byte.
@@ -71,5 +122,16 @@ impl<R: Read> Lines<R> {
         self.is_after_return = byte == b'\r';
         self.at = self.at.saturating_add(1);
         self.passed = self.passed.saturating_add(1);
+    }
+}
+
+// How many bytes the row has that these bytes begin with, up to the line feed that ends it. None if the first line is empty, has a quote
+// or a carriage return, or does not end in these bytes.
+fn row_length(bytes: &[u8]) -> Option<usize> {
+    let end = memchr3(b'\n', b'\r', b'"', bytes)?;
+    if end > 0 && bytes.get(end).copied() == Some(b'\n') {
+        Some(end)
+    } else {
+        None
     }
 }

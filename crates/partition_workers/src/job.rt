@@ -7,9 +7,11 @@ ghost use Rattle.partition_workers.specs.Contents.{IsJudged};
 use crate::done::Done;
 use crate::round::Naming;
 use piece_check::Piece;
+use std::alloc::Global;
 use std::marker::{Model, PhantomData};
+use std::thread::Threads;
 use user_rules::Rule;
-use verdict_merge::{Lent, Memory, judge_piece};
+use verdict_merge::{Lent, Memory, judge_piece, judge_piece_by_threads};
 
 /// A piece of the round that a worker has claimed.
 #[derive(Drop)]
@@ -43,7 +45,7 @@ impl<'a, J: Naming> Job<'a, J> {
 
     /// Lets the piece judge the records of the round, and tests its views by the rules, which must mean the same as those of the round.
     ///
-    /// Memory if memory was refused; the piece is then given up.
+    /// Memory if the piece was refused memory; it is then given up.
     pub fn run(self, rules: &[Rule]) -> Result<Done<J>, Memory>
         requires { relations_of rules.now ≡ J.round.relations }
         ensures worker { IfOk result (λ done. done.worker ≡ self.entry.worker) }
@@ -58,6 +60,39 @@ impl<'a, J: Naming> Job<'a, J> {
             of: _,
         } = self;
         match judge_piece(&lent, rules, number, piece) {
+            Ok(judged) => Ok(Done {
+                worker,
+                number,
+                judged,
+                of: PhantomData,
+            }),
+            Err(memory) => Err(memory),
+        }
+    }
+
+    /// What `run` does. If there are many rules, several threads test the views.
+    ///
+    /// Memory if the piece was refused memory; it is then given up.
+    pub fn run_by_threads<R: Threads + Sync>(
+        self,
+        rt: &R,
+        alloc: Global,
+        rules: &[Rule],
+    ) -> Result<Done<J>, Memory>
+        requires { relations_of rules.now ≡ J.round.relations }
+        ensures worker { IfOk result (λ done. done.worker ≡ self.entry.worker) }
+        ensures number { IfOk result (λ done. done.number ≡ self.entry.number) }
+        ensures judged { IfOk result (λ done. IsJudged J.round done.number done.judged) }
+    {
+        let Job {
+            worker,
+            number,
+            piece,
+            lent,
+            of: _,
+        } = self;
+        let judged = judge_piece_by_threads(rt, alloc, &lent, rules, number, piece);
+        match judged {
             Ok(judged) => Ok(Done {
                 worker,
                 number,

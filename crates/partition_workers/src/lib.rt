@@ -15,9 +15,10 @@
 //! goes on with the pieces as they were left. `breach` gives the first view of the last round that breaks a rule.
 //!
 //! A worker claims a piece at the board, lets it go over the records and tests its views outside the lock, and posts its result, until no
-//! piece is left. The board keeps the history of claims and posts and a place for each piece. Whenever its lock is free, a place is filled
-//! exactly if its piece is posted. Claims and posts take no memory: the room is reserved when the board is made. `run_round` starts the
-//! workers, joins them and takes the values out by number; with one worker it starts no thread.
+//! piece is left. If there are several workers and many rules, further threads help to test the views of a piece (`judge_piece_by_threads`). The board
+//! keeps the history of claims and posts and a place for each piece. Whenever its lock is free, a place is filled exactly if its piece is
+//! posted. Claims and posts take no memory: the room is reserved when the board is made. `run_round` starts the workers, joins them and
+//! takes the values out by number; with one worker it starts no thread.
 //!
 //! The types of a round's board, jobs and values name the round by what it is: the module, the place of its first record, the records, what
 //! the rules say, and the parts of the pieces. The rules themselves are lent beside a job, and a job is run only under rules that say the

@@ -95,7 +95,7 @@ fn judge_named<J: Naming + Send + Sync, G: Gate + Sync, R: Threads + Wait + Sync
         workers,
         &|worker: usize|
             requires { relations_of rules.now ≡ J.round.relations }
-        { work(rt, shared, rules, worker, gate) },
+        { work(rt, alloc, shared, rules, workers, worker, gate) },
     );
     if worked.is_err() {
         return Err(Memory);
@@ -103,12 +103,14 @@ fn judge_named<J: Naming + Send + Sync, G: Gate + Sync, R: Threads + Wait + Sync
     board.into_inner().finish(alloc)
 }
 
-// Claims a piece, lets it judge the records, tests its views by the rules and posts its result, until no piece is left. Memory if
-// memory was refused; the piece is then never posted.
-fn work<J: Naming, G: Gate, R: Wait>(
+// One of this number of workers claims a piece, lets it judge the records, tests its views by the rules and posts its result, until no
+// piece is left. If it is the only worker, no thread is started. Memory if memory was refused; the piece is then never posted.
+fn work<J: Naming, G: Gate, R: Threads + Wait + Sync>(
     rt: &R,
+    alloc: Global,
     board: &Mutex<Board<J>>,
     rules: &[Rule],
+    workers: usize,
     worker: usize,
     gate: &G,
 ) -> Result<(), Memory>
@@ -121,7 +123,12 @@ fn work<J: Naming, G: Gate, R: Wait>(
         };
         let number = job.number();
         gate.at_claim(worker, number);
-        let done = match job.run(rules) {
+        let judged = if workers > 1 {
+            job.run_by_threads(rt, alloc, rules)
+        } else {
+            job.run(rules)
+        };
+        let done = match judged {
             Ok(done) => done,
             Err(memory) => return Err(memory),
         };

@@ -25,6 +25,10 @@ pub record AreRecent (configuration : Configuration) (next : ℕ) (recent : Rece
   pub later : IsKept configuration next recent.later.before recent.later.records.items
   pub earlier : IsKept configuration later.first recent.earlier.before recent.earlier.records.items
 
+-- the most records that a span may have
+abbrev pub most_of : Recent → ℕ
+most_of recent = recent.most
+
 -- the later span can take one more record
 abbrev pub HasRoom : Recent → Type 0
-HasRoom recent = length recent.later.records.items < recent.most
+HasRoom recent = length recent.later.records.items < most_of recent

@@ -1,9 +1,9 @@
 // How the records that were taken last are kept.
 
-ghost use Rattle.std.specs.Prelude.{◌≡◌, ◌<◌, ◌+◌, ℕ, IfOk, OnOk};
+ghost use Rattle.std.specs.Prelude.{◌≡◌, ◌<◌, ◌+◌, ℕ, IfOk, OnOk, max};
 ghost use Rattle.apex_machine.specs.Configuration.{Configuration};
 ghost use Rattle.verdict_merge.specs.Rounds.{AreGoing};
-ghost use Rattle.run_walk.specs.Kept.{AreRecent, HasRoom, IsKept};
+ghost use Rattle.run_walk.specs.Kept.{AreRecent, HasRoom, IsKept, most_of};
 
 use crate::recent::Recent;
 use crate::span::Span;
@@ -14,16 +14,17 @@ use std::alloc::{AllocError, Global};
 use std::mem;
 
 /// How many records are worth a copy of the pieces.
-const LEAST_SPAN: usize = 200;
+const LEAST_SPAN: usize = 1_000;
 
 impl Recent {
-    /// No records: those before the first one of a run. Each span will have at most so many records, or 200 if that is more.
+    /// No records: those before the first one of a run. Each span will have at most this many records, or 1,000 if that is more.
     ///
     /// `Memory` if it is refused.
     #[tactic(auto, using(crate::proofs::Kept::recent_none))]
     pub fn start(alloc: Global, config: &Config, most: usize) -> Result<Recent, WalkFault>
         ensures recent { IfOk result (AreRecent config.now 0) }
         ensures room { IfOk result HasRoom }
+        ensures most { IfOk result (λ recent. most_of recent ≡ max most 1000) }
     {
         Ok(Recent {
             most: most.max(LEAST_SPAN),
@@ -33,10 +34,13 @@ impl Recent {
     }
 
     /// Keeps the next record, which these pieces have taken.
+    ///
+    /// If memory is refused, nothing is promised of the records that are kept, which must be given up.
     pub fn keep(&mut self, alloc: Global, ordered: Ordered, pieces: &Walk) -> Result<(), AllocError>
         requires room { HasRoom self.old }
         ensures recent { OnOk result ((configuration : Configuration) → AreRecent configuration ordered.pos self.old → ordered.core < configuration.cores → AreGoing configuration (ordered.pos + 1) pieces.now → AreRecent configuration (ordered.pos + 1) self.new) }
         ensures room { OnOk result (HasRoom self.new) }
+        ensures most { most_of self.new ≡ most_of self.old }
     {
         self.later.records.push_back(ordered)?;
         if self.later.records.len() < self.most {
@@ -48,6 +52,8 @@ impl Recent {
     }
 
     /// Keeps the last record, after which there is none.
+    ///
+    /// If memory is refused, nothing is promised of the records that are kept, which must be given up.
     pub fn keep_last(&mut self, ordered: Ordered) -> Result<(), AllocError>
         requires room { HasRoom self.old }
         ensures { OnOk result ((configuration : Configuration) → AreRecent configuration ordered.pos self.old → ordered.core < configuration.cores → AreRecent configuration (ordered.pos + 1) self.new) }
@@ -57,6 +63,8 @@ impl Recent {
     }
 
     /// The records of both spans, as one.
+    ///
+    /// If memory is refused, the records are given up.
     pub fn into_span(self) -> Result<Span, AllocError>
         ensures { IfOk result (λ span. (configuration : Configuration) (next : ℕ) → AreRecent configuration next self → IsKept configuration next span.before span.records.items) }
     {

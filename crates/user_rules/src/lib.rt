@@ -7,7 +7,8 @@
 //! A `Relation` compares fields of a view with numbers, and relations can be combined; a definition by cases says which views meet it. A
 //! `Rule` is a relation with a boxed test. It is made only if the two are proved to agree. No struct that holds rules can have a model of
 //! its own, so rules are lent as slices. `first_broken` shares the views among threads if the number of rules times views is worth it, and
-//! takes no memory. The pieces use `first_rule_broken`; the other two are for callers of the library.
+//! takes no memory. The pieces use `first_rule_broken`, and `first_broken` if there are many rules; `first_broken_in_turn` is for callers of
+//! the library.
 //!
 //! A rule is made of any test that agrees with its relation. A caller without a test of its own takes the relation itself, over a clone,
 //! and boxes it where the rule is made, since a function may not return a box that it made:

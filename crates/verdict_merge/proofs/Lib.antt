@@ -20,3 +20,4 @@ pub mod Working
 pub mod Breaking
 pub mod Gathered
 pub mod Untested
+pub mod Keeping

@@ -3,3 +3,4 @@ pub mod Rounds
 pub mod Verdicts
 pub mod Refusals
 pub mod Views
+pub mod Keeping

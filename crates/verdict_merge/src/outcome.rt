@@ -193,7 +193,7 @@ fn judge_and_test(
 
 // Lets the piece of this number make its step over a record that touches it. Returns its refusal if it rejects the record. Memory if the
 // piece was refused memory.
-fn step_over(
+pub(crate) fn step_over(
     lent: &Lent,
     number: usize,
     piece: &mut Piece,

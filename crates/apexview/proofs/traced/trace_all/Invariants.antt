@@ -1,0 +1,12 @@
+use Rattle.std.proofs.Common.{◌≡◌, length, false}
+use Rattle.order_cert.specs.Kept.{place_of}
+use Rattle.verdict_merge.specs.Rounds.{AreGoing}
+use Rattle.apexview.proofs.traced.trace_all.Given as goal
+
+abbrev pub invariant-records : goal.invariant-records
+invariant-records g l = record {
+  going : l.placer.ended ≡ false;
+  lanes : length l.placer.lanes ≡ l.shown.config.now.cores;
+  shown : l.run.shown.now ≡ l.shown;
+  pieces : AreGoing l.shown.config.now (place_of l.placer.kept) l.run.walk;
+}

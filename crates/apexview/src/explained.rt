@@ -1,0 +1,100 @@
+// The answer on standard error: its line, and why it is not Yes.
+
+ghost use Rattle.std.specs.Prelude.{◌≡◌, ◌⊎◌};
+ghost use Rattle.apexview.specs.Endings.{out_of_memory};
+
+use crate::ending::{Ending, Line, out_of_memory};
+use crate::usage::{Asked, UsageFault, tell_usage};
+use answer_words::{Explainer, InputNames, RunFiles};
+use std::alloc::Global;
+use std::fs::{File, Files};
+use wording::Words;
+
+/// Prints the line of an end, and explains it to a person. The end is the given one, or `Memory` if memory was refused to what explains
+/// it.
+pub fn explain<R: Files<File = File> + Eprint>(
+    rt: &R,
+    alloc: Global,
+    asked: &Result<Asked, UsageFault>,
+    ending: Ending,
+    explainer: &Explainer,
+) -> Ending
+    ensures { (result ≡ ending) ⊎ (result ≡ out_of_memory) }
+{
+    match asked {
+        Ok(Asked::Files(asked)) => {
+            let explained = Explained::of(rt, alloc, &asked.names, &ending, explainer);
+            if explained.lacks_memory() {
+                let ending = out_of_memory();
+                tell_line(rt, &ending);
+                return ending;
+            }
+            tell_line(rt, &ending);
+            explained.tell(rt);
+        }
+        Ok(Asked::Version) | Err(UsageFault::Memory) => tell_line(rt, &ending),
+        Err(UsageFault::Usage) => {
+            tell_line(rt, &ending);
+            tell_usage(rt);
+        }
+    }
+    ending
+}
+
+// What is said of an end after its line: what was noted, which keys of the configuration are ignored, and why the answer is not Yes.
+#[derive(Drop)]
+struct Explained<'a> {
+    noted: &'a Words,
+    unknown_keys: Words,
+    reason: Words,
+}
+
+impl<'a> Explained<'a> {
+    fn of<R: Files<File = File>>(
+        rt: &R,
+        alloc: Global,
+        names: &InputNames,
+        ending: &Ending,
+        explainer: &'a Explainer,
+    ) -> Explained<'a> {
+        let mut explained = Explained {
+            noted: explainer.noted(),
+            unknown_keys: Words::new(alloc),
+            reason: Words::new(alloc),
+        };
+        if let Ending::Checked(outcome) = ending {
+            let files = RunFiles { rt, alloc, names };
+            explained.unknown_keys = files.unknown_keys(explainer);
+            if let Some(told) = files.told_of(outcome, explainer) {
+                explained.reason = told.words;
+            }
+        }
+        explained
+    }
+
+    // Whether memory was refused to it.
+    fn lacks_memory(&self) -> bool {
+        self.noted.lacks_memory() || self.unknown_keys.lacks_memory() || self.reason.lacks_memory()
+    }
+
+    fn tell(&self, rt: &impl Eprint) {
+        tell_words(rt, self.noted);
+        tell_words(rt, &self.unknown_keys);
+        tell_words(rt, &self.reason);
+    }
+}
+
+// Prints the line of an end, if it has one. A failure there changes nothing.
+fn tell_line(rt: &impl Eprint, ending: &Ending) {
+    let line = Line::of(ending);
+    if !line.text().is_empty() {
+        let _ = rt.eprintln(line.text());
+    }
+}
+
+// Prints words, if there are any.
+fn tell_words(rt: &impl Eprint, words: &Words) {
+    if !words.is_empty() {
+        let _ = rt.eprintln(format_args!("apexview: {}", words.shown(false)));
+    }
+}

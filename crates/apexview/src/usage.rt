@@ -1,0 +1,230 @@
+// The words of the command line.
+
+use answer_words::InputNames;
+use clap::error::ErrorKind;
+use clap::{Arg, ArgAction, ArgMatches, Command};
+use csv_rows::read_decimal;
+use rule_options::RuleOptions;
+use std::alloc::{AllocError, Global};
+use std::rt::Env;
+use std::{env, io};
+
+/// What is printed for a person whose command line is refused.
+pub const USAGE: &str = "usage: apexview --config FILE --order FILE [OPTION]... CORE...
+       apexview --version
+
+Shows a recording of the cores of an ARINC 653 module, in one proposed order,
+as a picture on standard output: the records before the first that is unlawful
+or breaks a rule, or before the end.
+
+Inputs:
+  --config FILE      the configuration of the module (required)
+  --order FILE       the certificate, which proposes the order (required)
+  CORE...            one recording for each core, core 0 first
+
+What is shown:
+  --format FORMAT    html: a page (default); svg: the picture alone;
+                     trace: the whole recording as Chrome trace events
+  --at PLACE         end the picture or the trace at this place
+  --span N           show N records before the end, 1 to 5000 (default 200)
+
+Rules of your own:
+  --max-elapsed N    every call that returns does so within N ticks
+  --forbid SERVICE   no call is of SERVICE
+  --rules FILE       the rules in FILE
+
+Output:
+  --version          print the version; this must be the only argument";
+
+/// How many records a picture shows before its end: if `--span` is omitted, and at most.
+const USUAL_SPAN: usize = 200;
+
+const LONGEST_SPAN: u64 = 5_000;
+
+/// The greatest place.
+const LAST_PLACE: u64 = u64::MAX / 4;
+
+/// What is written.
+#[derive(Clone, Copy, Debug, PartialEq, Eq)]
+pub enum Format {
+    Html,
+    Svg,
+    Trace,
+}
+
+/// What the command line requests.
+#[derive(Debug, Drop)]
+pub enum Asked {
+    /// The one word is `--version`.
+    Version,
+    /// A recording should be shown.
+    Files(FilesAsked),
+}
+
+/// A recording that should be shown, as the command line requests it.
+#[derive(Debug, Drop)]
+pub struct FilesAsked {
+    pub names: InputNames,
+    pub options: RuleOptions,
+    pub format: Format,
+    /// The last place that the picture may show with its states.
+    pub at: Option<u64>,
+    /// How many records before its end it shows.
+    pub span: usize,
+}
+
+/// Why a command line requests nothing that can be done.
+#[derive(Clone, Copy, Debug, PartialEq, Eq)]
+pub enum UsageFault {
+    /// The words are not those of the usage.
+    Usage,
+    /// Memory was refused.
+    Memory,
+}
+
+/// Reads the words that were given to the program.
+pub fn from_words(rt: &(impl Env + AllocGlobal), alloc: Global) -> Result<Asked, UsageFault> {
+    let words: Vec<String> = match env::args(rt) {
+        Ok(words) => words.collect(alloc)?,
+        Err(e) if e.kind() == io::ErrorKind::OutOfMemory => return Err(UsageFault::Memory),
+        Err(_) => return Err(UsageFault::Usage),
+    };
+    read_words(alloc, words.as_slice())
+}
+
+/// Prints the usage of the program.
+pub fn tell_usage(rt: &impl Eprint) {
+    // Standard error only helps a person, so a failure there changes nothing.
+    let _ = rt.eprintln(USAGE);
+}
+
+// Reads what these words request. The first word is the program's own name.
+fn read_words(alloc: Global, words: &[String]) -> Result<Asked, UsageFault> {
+    match words {
+        [_, word] if word.as_str() == "--version" => Ok(Asked::Version),
+        words => Ok(Asked::Files(files_asked(alloc, words)?)),
+    }
+}
+
+fn files_asked(alloc: Global, words: &[String]) -> Result<FilesAsked, UsageFault> {
+    let Ok(command) = command(alloc) else {
+        return Err(UsageFault::Memory);
+    };
+    let matches = match command.try_get_matches_from(words) {
+        Ok(matches) => matches,
+        Err(e) => {
+            return match e.kind() {
+                ErrorKind::OutOfMemory => Err(UsageFault::Memory),
+                _ => Err(UsageFault::Usage),
+            };
+        }
+    };
+    let max_elapsed = bytes_of(&matches, "max-elapsed");
+    let forbidden = bytes_of(&matches, "forbid");
+    Ok(FilesAsked {
+        names: file_names(alloc, &matches)?,
+        options: RuleOptions::read(max_elapsed, forbidden).ok_or(UsageFault::Usage)?,
+        format: format_of(&matches)?,
+        at: at_of(&matches)?,
+        span: span_of(&matches)?,
+    })
+}
+
+// The text that is given to an option, if there is one.
+fn bytes_of<'a>(matches: &ArgMatches<'a>, name: &str) -> Option<&'a [u8]> {
+    match matches.get_str(name) {
+        Some(text) => Some(text.as_bytes()),
+        None => None,
+    }
+}
+
+fn format_of(matches: &ArgMatches<'_>) -> Result<Format, UsageFault> {
+    match matches.get_str("format") {
+        None | Some("html") => Ok(Format::Html),
+        Some("svg") => Ok(Format::Svg),
+        Some("trace") => Ok(Format::Trace),
+        Some(_) => Err(UsageFault::Usage),
+    }
+}
+
+fn at_of(matches: &ArgMatches<'_>) -> Result<Option<u64>, UsageFault> {
+    match bytes_of(matches, "at") {
+        None => Ok(None),
+        Some(text) => match read_decimal(text, LAST_PLACE) {
+            Some(place) => Ok(Some(place)),
+            None => Err(UsageFault::Usage),
+        },
+    }
+}
+
+fn span_of(matches: &ArgMatches<'_>) -> Result<usize, UsageFault> {
+    match bytes_of(matches, "span") {
+        None => Ok(USUAL_SPAN),
+        Some(text) => match read_decimal(text, LONGEST_SPAN) {
+            Some(0) | None => Err(UsageFault::Usage),
+            Some(span) => Ok(span as usize),
+        },
+    }
+}
+
+// The files that a command line names.
+fn file_names(alloc: Global, matches: &ArgMatches<'_>) -> Result<InputNames, UsageFault> {
+    let (Some(config), Some(order), Some(cores)) = (
+        matches.get_str("config"),
+        matches.get_str("order"),
+        matches.get_strs("core"),
+    ) else {
+        return Err(UsageFault::Usage);
+    };
+    let rules = match matches.get_str("rules") {
+        Some(name) => Some(String::from_str(alloc, name)?),
+        None => None,
+    };
+    let mut names = Vec::new(alloc);
+    for core in cores {
+        names.push(String::from_str(alloc, core)?)?;
+    }
+    Ok(InputNames {
+        config: String::from_str(alloc, config)?,
+        rules,
+        order: String::from_str(alloc, order)?,
+        cores: names,
+    })
+}
+
+// The words of a run: no option twice, and at least one CORE.
+fn command<'a>(alloc: Global) -> Result<Command<'a>, AllocError> {
+    Command::new(alloc, "apexview")
+        .disable_help_flag(true)
+        .arg(option(alloc, "config").required(true))?
+        .arg(option(alloc, "order").required(true))?
+        .arg(option(alloc, "format"))?
+        .arg(option(alloc, "at"))?
+        .arg(option(alloc, "span"))?
+        .arg(option(alloc, "max-elapsed"))?
+        .arg(option(alloc, "forbid"))?
+        .arg(option(alloc, "rules"))?
+        .arg(
+            Arg::new(alloc, "core")
+                .required(true)
+                .num_args(1..)
+                .action(ArgAction::Append),
+        )
+}
+
+// The option of this name, which has a value.
+fn option<'a>(alloc: Global, name: &'static str) -> Arg<'a> {
+    Arg::new(alloc, name).long(name).action(ArgAction::Set)
+}
+
+impl From<AllocError> for UsageFault {
+    fn from(_: AllocError) -> UsageFault {
+        UsageFault::Memory
+    }
+}
+
+impl<T: Drop> From<std::alloc::AllocFailed<T>> for UsageFault {
+    fn from(_: std::alloc::AllocFailed<T>) -> UsageFault {
+        UsageFault::Memory
+    }
+}
