@@ -1,6 +1,6 @@
 // The lines of a text, counted from 1. Each line feed, each carriage return and each pair of them ends a line.
 
-use memchr::memchr3;
+use memchr::{memchr_iter, memchr2};
 use std::io::Read;
 
 // How many bytes are read at once.
@@ -44,12 +44,20 @@ impl<R: Read> Lines<R> {
     /// Passes whole lines, at most this many, and returns how many. It stops before a line that is empty, has a quote or a carriage
     /// return, or is longer than 8 KiB: any other line is a row.
     pub fn pass_rows(&mut self, most: u64) -> u64 {
-        'lines: for count in 0..most {
-            if !self.pass_row() {
+        let mut count = 0u64;
+        'pieces: for _ in 0..u64::MAX {
+            let left = most.saturating_sub(count);
+            let mut passed = self.pass_read(left);
+            if passed == 0 && left > 0 {
+                self.read_more();
+                passed = self.pass_read(left);
+            }
+            if passed == 0 {
                 return count;
             }
+            count = count.saturating_add(passed);
         }
-        most
+        count
     }
 
     /// The line of the first byte, after this many bytes of the text, that does not end a line. Later calls must ask for later bytes.
@@ -66,22 +74,26 @@ impl<R: Read> Lines<R> {
         self.line
     }
 
-    // Passes the next line if it is a row by itself, and returns whether it is.
-    fn pass_row(&mut self) -> bool {
-        let mut length = row_length(self.rest());
-        if length.is_none() {
-            self.read_more();
-            length = row_length(self.rest());
+    // Passes lines that have been read and are rows, at most this many, and returns how many.
+    fn pass_read(&mut self, most: u64) -> u64 {
+        let mut count = 0u64;
+        let mut end = 0usize;
+        let rest = self.rest();
+        let plain = memchr2(b'\r', b'"', rest).unwrap_or(rest.len());
+        for feed in memchr_iter(b'\n', rest.get(..plain).unwrap_or(&[])) {
+            if count == most || feed == end {
+                break;
+            }
+            end = feed.saturating_add(1);
+            count = count.saturating_add(1);
         }
-        let Some(length) = length else {
-            return false;
-        };
-        let end = length.saturating_add(1);
+        if count > 0 {
+            self.is_after_return = false;
+        }
         self.at = self.at.saturating_add(end);
         self.passed = self.passed.saturating_add(end as u64);
-        self.line = self.line.saturating_add(1);
-        self.is_after_return = false;
-        true
+        self.line = self.line.saturating_add(count);
+        count
     }
 
     // The bytes that have been read and not passed.
@@ -122,16 +134,5 @@ impl<R: Read> Lines<R> {
         self.is_after_return = byte == b'\r';
         self.at = self.at.saturating_add(1);
         self.passed = self.passed.saturating_add(1);
-    }
-}
-
-// How many bytes the row has that these bytes begin with, up to the line feed that ends it. None if the first line is empty, has a quote
-// or a carriage return, or does not end in these bytes.
-fn row_length(bytes: &[u8]) -> Option<usize> {
-    let end = memchr3(b'\n', b'\r', b'"', bytes)?;
-    if end > 0 && bytes.get(end).copied() == Some(b'\n') {
-        Some(end)
-    } else {
-        None
     }
 }

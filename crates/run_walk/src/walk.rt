@@ -1,16 +1,18 @@
 // The pieces of a module, which take one record after another.
 
-ghost use Rattle.std.specs.Prelude.{◌≡◌, ◌<◌, ◌+◌, IfOk, None};
+ghost use Rattle.std.specs.Prelude.{◌≡◌, ◌<◌, ◌+◌, All, IfOk, IfSome, None};
 ghost use Rattle.apex_machine.specs.Views.{view_in};
+ghost use Rattle.piece_check.specs.Found.{IsWindowAt};
 ghost use Rattle.piece_check.specs.Parts.{HoldsBefore, IsOf};
 ghost use Rattle.verdict_merge.specs.Rounds.{AreGoing};
 ghost use Rattle.run_walk.specs.Walks.{HasTaken, IsViewAt, Takes};
 
 use apex_types::{Cause, Ordered, View};
 use module_config::Config;
-use piece_check::{Piece, PieceFault};
+use piece_check::{Piece, PieceFault, WindowAt, Windows};
 use std::alloc::{AllocError, Global};
 use std::marker::Model;
+use std::slice;
 use thiserror::Error;
 use verdict_merge::start_pieces;
 
@@ -32,7 +34,10 @@ pub struct Refusal {
 /// The pieces of a module, as the records so far have left them.
 #[derive(Drop)]
 pub struct Walk {
+    alloc: Global,
     pieces: Vec<Piece>,
+    // The window of the next record's core, once for all pieces.
+    windows: Windows,
 }
 
 impl Model for Walk {
@@ -52,7 +57,11 @@ impl Walk {
         ensures going { IfOk result (AreGoing config.now 0) }
     {
         match start_pieces(alloc, config) {
-            Ok(pieces) => Ok(Walk { pieces }),
+            Ok(pieces) => Ok(Walk {
+                alloc,
+                pieces,
+                windows: Windows::new(alloc),
+            }),
             Err(_) => Err(WalkFault::Memory),
         }
     }
@@ -83,7 +92,8 @@ impl Walk {
         ensures going { IfOk result (λ refusal. refusal ≡ None → AreGoing config.now (ordered.now.pos + 1) self.new) }
         ensures takes { IfOk result (λ refusal. Takes config.now ordered.now self.old refusal self.new) }
     {
-        take_in_turn(self.pieces.as_mut_slice(), config, ordered)
+        let windows = look_up(&mut self.windows, config, ordered);
+        take_in_turn(self.pieces.as_mut_slice(), config, ordered, windows)
     }
 }
 
@@ -94,7 +104,9 @@ impl Clone for Walk {
     #[tactic(auto, using(crate::proofs::Copies::same_all))]
     fn clone(&self) -> Result<Walk, AllocError> {
         Ok(Walk {
+            alloc: self.alloc,
             pieces: self.pieces.clone()?,
+            windows: Windows::new(self.alloc),
         })
     }
 }
@@ -124,19 +136,40 @@ fn view_of(piece: &Piece, config: &Config, ordered: &Ordered) -> Option<View>
     }
 }
 
+// The window of a record's core, or none if it is not looked up; each piece then does so by itself.
+fn look_up<'a>(windows: &'a mut Windows, config: &Config, ordered: &Ordered) -> &'a [WindowAt]
+    ensures { All (IsWindowAt config.now) result.now }
+{
+    match windows.look_up(config, slice::from_ref(ordered)) {
+        Ok(()) => windows.as_slice(),
+        Err(_) => &[],
+    }
+}
+
+// The window that was looked up, if one was.
+fn window_in(config: &Config, windows: &[WindowAt]) -> Option<WindowAt>
+    requires { All (IsWindowAt config.now) windows.now }
+    ensures { IfSome result (IsWindowAt config.now) }
+{
+    let window = windows.first()?;
+    Some(*window)
+}
+
 // Lets each of these pieces take a record, in the order of their numbers, up to the first that rejects it.
 fn take_in_turn(
     pieces: &mut [Piece],
     config: &Config,
     ordered: &Ordered,
+    windows: &[WindowAt],
 ) -> Result<Option<Refusal>, WalkFault>
     requires going { AreGoing config.now ordered.now.pos pieces.old }
     requires core { ordered.now.core < config.now.cores }
+    requires windows { All (IsWindowAt config.now) windows.now }
     ensures going { IfOk result (λ refusal. refusal ≡ None → AreGoing config.now (ordered.now.pos + 1) pieces.new) }
     ensures takes { IfOk result (λ refusal. Takes config.now ordered.now pieces.old refusal pieces.new) }
 {
     for (number, piece) in pieces.iter_mut().enumerate() {
-        if let Some(cause) = take_one(piece, config, ordered)? {
+        if let Some(cause) = take_one(piece, config, ordered, windows)? {
             return Ok(Some(Refusal {
                 piece: number,
                 cause,
@@ -151,8 +184,10 @@ fn take_one(
     piece: &mut Piece,
     config: &Config,
     ordered: &Ordered,
+    windows: &[WindowAt],
 ) -> Result<Option<Cause>, WalkFault>
     requires core { ordered.now.core < config.now.cores }
+    requires windows { All (IsWindowAt config.now) windows.now }
     requires of_module { IsOf config.now piece.old }
     requires holds_before { HoldsBefore ordered.now.pos piece.old.part }
     ensures { IfOk result (λ cause. HasTaken config.now ordered.now piece.old cause piece.new) }
@@ -160,7 +195,10 @@ fn take_one(
     if !piece.subject().is_touched(config, ordered) {
         return Ok(None);
     }
-    match piece.step(config, ordered) {
+    if piece.pass_by(ordered) {
+        return Ok(None);
+    }
+    match piece.step_at(config, ordered, window_in(config, windows)) {
         Ok(()) => Ok(None),
         Err(PieceFault::Rejected { cause, .. }) => Ok(Some(cause)),
         Err(PieceFault::Memory) => Err(WalkFault::Memory),

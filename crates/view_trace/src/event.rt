@@ -1,4 +1,5 @@
-// Events of the Chrome trace format as JSON, one on a line. Their members are written as they are; texts go through serde_json.
+// Events of the Chrome trace format as JSON, one on a line. Their members are written as they are; texts with characters that JSON
+// escapes go through serde_json.
 
 ghost use Rattle.std.specs.Prelude.{◌<◌};
 ghost use Rattle.view_trace.specs.declared.event.TheConstants.{MOST_HELD};
@@ -103,6 +104,13 @@ impl<'a, W: Sink> Events<'a, W> {
         self.text.push_str(",\n")
     }
 
+    // Begins an event with this name.
+    fn begin_named(&mut self, name: &str) -> Result<(), AllocError> {
+        self.begin_event()?;
+        self.text.push_str("{\"name\":")?;
+        self.add_text(name)
+    }
+
     // Ends an event, and writes the events that are held if they are many.
     fn end_event(&mut self) -> Result<(), TraceFault> {
         if self.held + 1 < MOST_HELD {
@@ -112,9 +120,15 @@ impl<'a, W: Sink> Events<'a, W> {
         self.write()
     }
 
-    // A text as JSON.
-    fn quoted(&self, text: &str) -> Result<String, AllocError> {
-        Value::String(String::from_str(self.alloc, text)?).to_string(self.alloc)
+    // Adds a text as JSON. One without a character that JSON escapes is added between quotation marks as it is.
+    fn add_text(&mut self, text: &str) -> Result<(), AllocError> {
+        if has_escape(text) {
+            let json = Value::String(String::from_str(self.alloc, text)?).to_string(self.alloc)?;
+            return self.text.push_str(&json);
+        }
+        self.text.push_str("\"")?;
+        self.text.push_str(text)?;
+        self.text.push_str("\"")
     }
 
     /// Names a process of the trace.
@@ -129,12 +143,13 @@ impl<'a, W: Sink> Events<'a, W> {
     }
 
     fn add_name(&mut self, what: &'static str, track: Track, name: &str) -> Result<(), TraceFault> {
-        let name = self.quoted(name)?;
         self.begin_event()?;
         write!(
             self.text,
-            "{{\"name\":\"{what}\",\"ph\":\"M\",{track},\"args\":{{\"name\":{name}}}}}"
+            "{{\"name\":\"{what}\",\"ph\":\"M\",{track},\"args\":{{\"name\":"
         )?;
+        self.add_text(name)?;
+        self.text.push_str("}}")?;
         self.end_event()
     }
 
@@ -147,12 +162,13 @@ impl<'a, W: Sink> Events<'a, W> {
         time: u64,
         detail: &str,
     ) -> Result<(), TraceFault> {
-        let (name, detail) = (self.quoted(name)?, self.quoted(detail)?);
-        self.begin_event()?;
+        self.begin_named(name)?;
         write!(
             self.text,
-            "{{\"name\":{name},\"ph\":\"B\",{track},\"ts\":{place},\"args\":{{\"time\":{time},\"detail\":{detail}}}}}"
+            ",\"ph\":\"B\",{track},\"ts\":{place},\"args\":{{\"time\":{time},\"detail\":"
         )?;
+        self.add_text(detail)?;
+        self.text.push_str("}}")?;
         self.end_event()
     }
 
@@ -172,12 +188,13 @@ impl<'a, W: Sink> Events<'a, W> {
         time: u64,
         record: &str,
     ) -> Result<(), TraceFault> {
-        let (name, record) = (self.quoted(name)?, self.quoted(record)?);
-        self.begin_event()?;
+        self.begin_named(name)?;
         write!(
             self.text,
-            "{{\"name\":{name},\"ph\":\"i\",\"s\":\"t\",{track},\"ts\":{place},\"args\":{{\"time\":{time},\"record\":{record}}}}}"
+            ",\"ph\":\"i\",\"s\":\"t\",{track},\"ts\":{place},\"args\":{{\"time\":{time},\"record\":"
         )?;
+        self.add_text(record)?;
+        self.text.push_str("}}")?;
         self.end_event()
     }
 
@@ -240,11 +257,10 @@ impl<'a, W: Sink> Events<'a, W> {
         priority: u64,
     ) -> Result<(), TraceFault> {
         let track = Track { process, thread: 0 };
-        let name = self.quoted(name)?;
-        self.begin_event()?;
+        self.begin_named(name)?;
         write!(
             self.text,
-            "{{\"name\":{name},\"ph\":\"C\",{track},\"ts\":{place},\"args\":{{\"priority\":{priority}}}}}"
+            ",\"ph\":\"C\",{track},\"ts\":{place},\"args\":{{\"priority\":{priority}}}}}"
         )?;
         self.end_event()
     }
@@ -259,12 +275,21 @@ impl<'a, W: Sink> Events<'a, W> {
         waiting: u64,
     ) -> Result<(), TraceFault> {
         let track = Track { process, thread: 0 };
-        let name = self.quoted(name)?;
-        self.begin_event()?;
+        self.begin_named(name)?;
         write!(
             self.text,
-            "{{\"name\":{name},\"ph\":\"C\",{track},\"ts\":{place},\"args\":{{\"held\":{held},\"waiting\":{waiting}}}}}"
+            ",\"ph\":\"C\",{track},\"ts\":{place},\"args\":{{\"held\":{held},\"waiting\":{waiting}}}}}"
         )?;
         self.end_event()
     }
+}
+
+// Whether JSON escapes a character of this text.
+fn has_escape(text: &str) -> bool {
+    for byte in text.bytes() {
+        if byte < b' ' || byte == b'"' || byte == b'\\' {
+            return true;
+        }
+    }
+    false
 }

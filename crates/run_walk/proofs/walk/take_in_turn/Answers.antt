@@ -17,7 +17,7 @@ take_one-requires c =
     may_take c.args.config.now c.args.ordered.now c.loop-number.number c.args.pieces.now now c.index-pieces-number.result c.requires.going c.loop-number.invariant within
     c.index-pieces-number.is in
     let going = subst (λ (piece : Holding). IsGoing c.args.config.now c.loop-number.number c.args.ordered.now.pos piece) c.index-pieces-number.is may in
-    record { core = c.requires.core; of_module = going.of_module; holds_before = going.holds_before }
+    record { core = c.requires.core; windows = c.requires.windows; of_module = going.of_module; holds_before = going.holds_before }
 
 pub returns-in-Some : goal.returns-in-Some
 returns-in-Some c =
