@@ -57,13 +57,33 @@ impl Walk {
         ensures going { IfOk result (AreGoing config.now 0) }
     {
         match start_pieces(alloc, config) {
-            Ok(pieces) => Ok(Walk {
-                alloc,
-                pieces,
-                windows: Windows::new(alloc),
-            }),
+            Ok(pieces) => Ok(Walk::of(alloc, pieces)),
             Err(_) => Err(WalkFault::Memory),
         }
+    }
+
+    // These pieces, in the order of their numbers.
+    pub(crate) fn of(alloc: Global, pieces: Vec<Piece>) -> Walk
+        ensures { result ≡ pieces.items }
+    {
+        Walk {
+            alloc,
+            pieces,
+            windows: Windows::new(alloc),
+        }
+    }
+
+    // The pieces, and nothing else.
+    pub(crate) fn into_pieces(self) -> Vec<Piece>
+        ensures { result.items ≡ self }
+    {
+        let Walk {
+            alloc: _,
+            pieces,
+            windows,
+        } = self;
+        drop(windows);
+        pieces
     }
 
     /// The pieces, in the order of their numbers.
