@@ -44,8 +44,8 @@ impl Rounds {
     }
 
     /// Lets the pieces take the next records, the first of which is at this place. Each piece takes those that touch it, up to the first
-    /// that it rejects. After a refusal the piece that rejects the record is as it was before that record, and nothing is promised of the
-    /// others but that they may take later records.
+    /// that it rejects. After a refusal, the piece that rejects the record is as it was before that record, and the others may be before it
+    /// or after it.
     ///
     /// `Memory` if it was refused; the pieces are then given up.
     pub fn take(
@@ -54,14 +54,14 @@ impl Rounds {
         first: u64,
         records: &[Ordered],
         rules: &[Rule],
-        walk: Walk,
-    ) -> Result<(Walk, Taken), WalkFault>
-        requires going { AreGoing config.now first walk }
+        walk: &mut Walk,
+    ) -> Result<Taken, WalkFault>
+        requires going { AreGoing config.now first walk.old }
         requires placed { ArePlaced first records.now }
         requires cores { AreOfCores config.now.cores records.now }
-        ensures outcome { IfOk result (λ taken. HaveRunOver config.now walk records.now taken.1.found taken.0) }
-        ensures tested { IfOk result (λ taken. IsTested config.now (relations_of rules.now) (parts_in walk) records.now taken.1.found taken.1.breach) }
-        ensures going { IfOk result (λ taken. AreGoing config.now (first + length records.now) taken.0) }
+        ensures outcome { IfOk result (λ taken. HaveRunOver config.now walk.old records.now taken.found walk.new) }
+        ensures tested { IfOk result (λ taken. IsTested config.now (relations_of rules.now) (parts_in walk.old) records.now taken.found taken.breach) }
+        ensures going { IfOk result (λ _. AreGoing config.now (first + length records.now) walk.new) }
     {
         if self.touched.sort_out(config, records).is_err()
             || self.windows.look_up(config, records).is_err()
@@ -70,16 +70,16 @@ impl Rounds {
         }
         let windows = self.windows.as_slice();
         let lent = Lent::with_windows(config, first, records, &self.touched, windows);
-        let Ok(judged) = judge_in_turn(self.alloc, &lent, rules, walk.into_pieces()) else {
+        let Ok(judged) = judge_in_turn(self.alloc, &lent, rules, walk.take_pieces()) else {
             return Err(WalkFault::Memory);
         };
         let Ok(survey) = gather_round(self.alloc, &lent, judged) else {
             return Err(WalkFault::Memory);
         };
-        let taken = Taken {
+        walk.set_pieces(survey.pieces);
+        Ok(Taken {
             found: survey.found,
             breach: survey.breach,
-        };
-        Ok((Walk::of(self.alloc, survey.pieces), taken))
+        })
     }
 }

@@ -12,7 +12,7 @@ use module_config::Config;
 use piece_check::{Piece, PieceFault, WindowAt, Windows};
 use std::alloc::{AllocError, Global};
 use std::marker::Model;
-use std::slice;
+use std::{mem, slice};
 use thiserror::Error;
 use verdict_merge::start_pieces;
 
@@ -57,33 +57,27 @@ impl Walk {
         ensures going { IfOk result (AreGoing config.now 0) }
     {
         match start_pieces(alloc, config) {
-            Ok(pieces) => Ok(Walk::of(alloc, pieces)),
+            Ok(pieces) => Ok(Walk {
+                alloc,
+                pieces,
+                windows: Windows::new(alloc),
+            }),
             Err(_) => Err(WalkFault::Memory),
         }
     }
 
-    // These pieces, in the order of their numbers.
-    pub(crate) fn of(alloc: Global, pieces: Vec<Piece>) -> Walk
-        ensures { result ≡ pieces.items }
+    // The pieces; none are left in the walk.
+    pub(crate) fn take_pieces(&mut self) -> Vec<Piece>
+        ensures { result.items ≡ self.old }
     {
-        Walk {
-            alloc,
-            pieces,
-            windows: Windows::new(alloc),
-        }
+        mem::replace(&mut self.pieces, Vec::new(self.alloc))
     }
 
-    // The pieces, and nothing else.
-    pub(crate) fn into_pieces(self) -> Vec<Piece>
-        ensures { result.items ≡ self }
+    // The walk has these pieces from now on.
+    pub(crate) fn set_pieces(&mut self, pieces: Vec<Piece>)
+        ensures { self.new ≡ pieces.items }
     {
-        let Walk {
-            alloc: _,
-            pieces,
-            windows,
-        } = self;
-        drop(windows);
-        pieces
+        self.pieces = pieces;
     }
 
     /// The pieces, in the order of their numbers.
