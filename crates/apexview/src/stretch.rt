@@ -112,15 +112,15 @@ fn gather_rounds<R: Wait, S: TextSource, C: TextSource>(
     requires cores { length placer.old.lanes ≡ shown.now.config.now.cores }
     ensures { IfOk result (λ found. IsGathered shown.now.config.now found.1) }
 {
-    let mut run = Run::start(alloc, shown)?;
-    let mut gathering = Gathering::start(alloc, shown)?;
+    let mut run = Run::start(alloc, &*shown)?;
+    let mut gathering = Gathering::start(alloc, &*shown)?;
     let mut rounds = Rounds::new(alloc)?;
     let mut first = 0u64;
     // There are fewer places than this many rounds.
     'rounds: for _ in 0..u64::MAX {
         let mut round = Vec::new(alloc);
-        let last = match placer.fill(rt, &mut round, gathering.recent.most) {
-            Filled::Full => match run.take_round(&mut rounds, first, &round)? {
+        let last = match placer.fill(&*rt, &mut round, gathering.recent.most) {
+            Filled::Full => match run.take_round(&mut rounds, first, round.as_slice())? {
                 None => {
                     first = place_after(first, round.len())?;
                     gathering.recent.keep_round(alloc, round, run.walk())?;
@@ -131,14 +131,11 @@ fn gather_rounds<R: Wait, S: TextSource, C: TextSource>(
             Filled::Ended(end) => LastRound::Ended(end),
             Filled::Memory => return Err(ShowFault::Memory),
         };
-        run.go_on_with(gathering.recent.later.before.clone()?);
-        let mut left = VecDeque::from(round);
-        let verdict = gathering.judge_all(alloc, shown, &mut run, &mut left, explainer)?;
-        gathering.add_left(left)?;
+        let verdict = gathering.judge_last(alloc, &*shown, &mut run, round, last, explainer)?;
         if matches!(last, LastRound::Rejected(_)) {
-            gathering.add_after(rt, alloc, placer)?;
+            gathering.add_after(&*rt, alloc, placer)?;
         }
-        return Ok((last_verdict(&run, verdict, last)?, gathering));
+        return Ok((verdict, gathering));
     }
     Err(ShowFault::Memory)
 }
@@ -340,7 +337,31 @@ impl Gathering {
         }
     }
 
+    // Judges the records of the round in which a run ends, one after another, with the pieces from before them. Those after the record
+    // that decides are shown as such.
+    fn judge_last(
+        &mut self,
+        alloc: Global,
+        shown: &Shown<'_>,
+        run: &mut Run<'_>,
+        round: Vec<Ordered>,
+        last: LastRound,
+        explainer: &mut Explainer,
+    ) -> Result<Verdict, ShowFault>
+        requires shown { run.old.shown.now ≡ shown.now }
+        requires room { HasRoom self.old.recent }
+        requires next { (place : ℕ) × AreNext shown.now.config.now place self.old.recent.later.before round.items self.old.recent }
+        ensures { OnOk result (IsGathered shown.now.config.now self.new) }
+    {
+        run.go_on_with(self.recent.later.before.clone()?);
+        let mut left = VecDeque::from(round);
+        let verdict = self.judge_all(alloc, shown, run, &mut left, explainer)?;
+        self.add_left(left)?;
+        last_verdict(run, verdict, last)
+    }
+
     // Judges these records one after another, up to the one that decides, and keeps them. Those after it are left.
+    #[tactic(auto, using(crate::proofs::Nexts::next_after))]
     fn judge_all(
         &mut self,
         alloc: Global,
@@ -358,9 +379,8 @@ impl Gathering {
             let Some(ordered) = records.pop_front() else {
                 break;
             };
-            let verdict = self.judge(alloc, shown, run, ordered, explainer)?;
-            if verdict.is_some() {
-                return Ok(verdict);
+            if let Some(verdict) = self.judge(alloc, shown, run, ordered, explainer)? {
+                return Ok(Some(verdict));
             }
         }
         Ok(None)
