@@ -1,6 +1,6 @@
 // The stretch of a run that a picture shows.
 
-ghost use Rattle.std.specs.Prelude.{◌≡◌, ◌<◌, ◌+◌, ℕ, IfOk, None, Ok, OnOk, false, length};
+ghost use Rattle.std.specs.Prelude.{◌≡◌, ◌<◌, ◌+◌, ℕ, IfOk, None, Ok, OnOk, false, length, true};
 ghost use Rattle.order_cert.specs.Kept.{place_of};
 ghost use Rattle.verdict_merge.specs.Rounds.{AreGoing};
 ghost use Rattle.run_walk.specs.Kept.{AreRecent, HasRoom};
@@ -119,23 +119,20 @@ fn gather_rounds<R: Wait, S: TextSource, C: TextSource>(
     // There are fewer places than this many rounds.
     'rounds: for _ in 0..u64::MAX {
         let mut round = Vec::new(alloc);
-        let last = match placer.fill(&*rt, &mut round, gathering.recent.most) {
-            Filled::Full => match run.take_round(&mut rounds, first, round.as_slice())? {
-                None => {
-                    first = place_after(first, round.len())?;
-                    gathering.recent.keep_round(alloc, round, run.walk())?;
-                    continue;
-                }
-                Some(refused) => LastRound::Rejected(refused),
-            },
-            Filled::Ended(end) => LastRound::Ended(end),
-            Filled::Memory => return Err(ShowFault::Memory),
-        };
-        let verdict = gathering.judge_last(alloc, &*shown, &mut run, round, last, explainer)?;
-        if matches!(last, LastRound::Rejected(_)) {
-            gathering.add_after(&*rt, alloc, placer)?;
+        let filled = placer.fill(&*rt, &mut round, gathering.recent.most);
+        if !is_full(&filled) {
+            let last = LastRound::ended(filled)?;
+            let verdict = gathering.judge_last(alloc, &*shown, &mut run, round, last, explainer)?;
+            return Ok((verdict, gathering));
         }
-        return Ok((verdict, gathering));
+        if let Some(refused) = run.take_round(&mut rounds, first, round.as_slice())? {
+            let last = LastRound::Rejected(refused);
+            let verdict = gathering.judge_last(alloc, &*shown, &mut run, round, last, explainer)?;
+            gathering.add_after(&*rt, alloc, placer)?;
+            return Ok((verdict, gathering));
+        }
+        first = place_after(first, round.len())?;
+        gathering.recent.keep_round(alloc, round, run.walk())?;
     }
     Err(ShowFault::Memory)
 }
@@ -147,6 +144,23 @@ enum LastRound {
     Rejected(Refused),
     // The input ends after the round, without a fault or with this one.
     Ended(Result<(), InputFault>),
+}
+
+impl LastRound {
+    // The round after which the input ends so.
+    fn ended(filled: Filled) -> Result<LastRound, ShowFault> {
+        match filled {
+            Filled::Ended(end) => Ok(LastRound::Ended(end)),
+            Filled::Full | Filled::Memory => Err(ShowFault::Memory),
+        }
+    }
+}
+
+// Whether a round was filled.
+fn is_full(filled: &Filled) -> bool
+    ensures { result ≡ true → filled.now ≡ Filled.Full }
+{
+    matches!(filled, Filled::Full)
 }
 
 // The place after a round that begins at this one and has so many records.
