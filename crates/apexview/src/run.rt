@@ -2,7 +2,8 @@
 
 ghost use Rattle.std.specs.Prelude.{◌≡◌, ◌<◌, ◌+◌, IfOk, None, Ok, false, length};
 ghost use Rattle.order_cert.specs.Kept.{place_of};
-ghost use Rattle.verdict_merge.specs.Rounds.{AreGoing};
+ghost use Rattle.apex_machine.specs.Runs.{ArePlaced, AreOfCores};
+ghost use Rattle.verdict_merge.specs.Rounds.{AllRun, AreGoing, parts_in};
 ghost use Rattle.verdict_merge.specs.declared.verdict.Verdict.TheVariants.{Yes};
 ghost use Rattle.apexview.specs.Going.{IsJudged, verdict_of};
 
@@ -18,12 +19,13 @@ use placement::Placer;
 use report::{Verdict, Witness};
 use rule_options::RuleOption;
 use rules_file::NamedRule;
-use run_walk::{Refusal, Walk, WalkFault};
+use run_walk::{Refusal, Rounds, Walk, WalkFault};
 use sink::Sink;
 use std::alloc::Global;
 use std::fs::{File, Files};
 use std::sync::Wait;
 use user_rules::Relation;
+use verdict_merge::Refused;
 
 /// What is shown, and how.
 #[derive(Clone, Copy)]
@@ -130,6 +132,36 @@ impl<'a> Run<'a> {
             }
         }
         Ok(Judgement::Accepted)
+    }
+
+    /// Takes the next records, the first of which is at this place, under no rules. Returns the least refusal if a piece rejects
+    /// one; the run must then go on with other pieces (`go_on_with`). `Memory` if it was refused to a piece.
+    pub fn take_round(
+        &mut self,
+        rounds: &mut Rounds,
+        first: u64,
+        records: &[Ordered],
+    ) -> Result<Option<Refused>, WalkFault>
+        requires going { AreGoing self.old.shown.now.config.now first self.old.walk }
+        requires placed { ArePlaced first records.now }
+        requires cores { AreOfCores self.old.shown.now.config.now.cores records.now }
+        ensures taken { result ≡ Ok None → AllRun self.old.shown.now.config.now (parts_in self.old.walk) records.now (parts_in self.new.walk) }
+        ensures going { result ≡ Ok None → AreGoing self.old.shown.now.config.now (first + length records.now) self.new.walk }
+        ensures shown { self.new.shown ≡ self.old.shown }
+    {
+        let taken = rounds.take(self.shown.config, first, records, &[], &mut self.walk)?;
+        if taken.found.is_none() {
+            self.count = self.count.saturating_add(records.len() as u64);
+        }
+        Ok(taken.found)
+    }
+
+    /// Goes on with these pieces.
+    pub fn go_on_with(&mut self, walk: Walk)
+        ensures walk { self.new.walk ≡ walk }
+        ensures shown { self.new.shown ≡ self.old.shown }
+    {
+        self.walk = walk;
     }
 
     /// Judges the next record. The verdict if it decides; then the explainer receives what explains it.

@@ -1,10 +1,10 @@
 // The stretch of a run that a picture shows.
 
-ghost use Rattle.std.specs.Prelude.{◌≡◌, ◌<◌, ◌+◌, IfOk, None, Ok, OnOk, false, length};
+ghost use Rattle.std.specs.Prelude.{◌≡◌, ◌<◌, ◌+◌, ℕ, IfOk, None, Ok, OnOk, false, length, true};
 ghost use Rattle.order_cert.specs.Kept.{place_of};
 ghost use Rattle.verdict_merge.specs.Rounds.{AreGoing};
 ghost use Rattle.run_walk.specs.Kept.{AreRecent, HasRoom};
-ghost use Rattle.apexview.specs.Stretches.{IsGathered, IsWhole, KeepsSame};
+ghost use Rattle.apexview.specs.Stretches.{AreNext, IsGathered, IsWhole, KeepsSame};
 
 use crate::fault::{ShowFault, rejected_at};
 use crate::placed::next_placed;
@@ -13,14 +13,15 @@ use answer_words::Explainer;
 use apex_types::{Cause, Ordered};
 use csv_rows::TextSource;
 use module_config::Config;
-use placement::{Placer, PlacingFault};
+use placement::{Filled, InputFault, Placer, PlacingFault};
 use report::Verdict;
 use run_view::{Lawful, lawful_of};
-use run_walk::{Recent, Refusal, Span, Walk, WalkFault};
+use run_walk::{Recent, Refusal, Rounds, Span, Walk, WalkFault};
 use sarif_report::name_of_cause;
 use std::alloc::{AllocError, Global};
 use std::collections::VecDeque;
 use std::sync::Wait;
+use verdict_merge::Refused;
 
 /// The most records that are shown after the last one that is judged.
 const MOST_AFTER: usize = 20;
@@ -78,8 +79,118 @@ pub fn gather<R: Wait, S: TextSource, C: TextSource>(
     Ok((verdict, gathering.end(shown)?))
 }
 
-// The same, with more records than are requested.
+// The same, with more records than are requested. Whole rounds are judged at once where nothing is asked of a single record.
 fn gather_all<R: Wait, S: TextSource, C: TextSource>(
+    rt: &R,
+    alloc: Global,
+    shown: &Shown<'_>,
+    placer: &mut Placer<S, C>,
+    explainer: &mut Explainer,
+) -> Result<(Verdict, Gathering), ShowFault>
+    requires going { placer.old.ended ≡ false }
+    requires first { place_of placer.old.kept ≡ 0 }
+    requires cores { length placer.old.lanes ≡ shown.now.config.now.cores }
+    ensures { IfOk result (λ found. IsGathered shown.now.config.now found.1) }
+{
+    if shown.relations.is_empty() && shown.asked.at.is_none() {
+        gather_rounds(rt, alloc, shown, placer, explainer)
+    } else {
+        gather_records(rt, alloc, shown, placer, explainer)
+    }
+}
+
+// Judges round after round. The last round, in which the run ends, is judged record by record.
+fn gather_rounds<R: Wait, S: TextSource, C: TextSource>(
+    rt: &R,
+    alloc: Global,
+    shown: &Shown<'_>,
+    placer: &mut Placer<S, C>,
+    explainer: &mut Explainer,
+) -> Result<(Verdict, Gathering), ShowFault>
+    requires going { placer.old.ended ≡ false }
+    requires first { place_of placer.old.kept ≡ 0 }
+    requires cores { length placer.old.lanes ≡ shown.now.config.now.cores }
+    ensures { IfOk result (λ found. IsGathered shown.now.config.now found.1) }
+{
+    let mut run = Run::start(alloc, &*shown)?;
+    let mut gathering = Gathering::start(alloc, &*shown)?;
+    let mut rounds = Rounds::new(alloc)?;
+    let mut first = 0u64;
+    // There are fewer places than this many rounds.
+    'rounds: for _ in 0..u64::MAX {
+        let mut round = Vec::new(alloc);
+        let filled = placer.fill(&*rt, &mut round, gathering.recent.most);
+        if !is_full(&filled) {
+            let last = LastRound::ended(filled)?;
+            let verdict = gathering.judge_last(alloc, &*shown, &mut run, round, last, explainer)?;
+            return Ok((verdict, gathering));
+        }
+        if let Some(refused) = run.take_round(&mut rounds, first, round.as_slice())? {
+            let last = LastRound::Rejected(refused);
+            let verdict = gathering.judge_last(alloc, &*shown, &mut run, round, last, explainer)?;
+            gathering.add_after(&*rt, alloc, placer)?;
+            return Ok((verdict, gathering));
+        }
+        first = place_after(first, round.len())?;
+        gathering.recent.keep_round(alloc, round, run.walk())?;
+    }
+    Err(ShowFault::Memory)
+}
+
+// The round in which a run ends.
+#[derive(Clone, Copy)]
+enum LastRound {
+    // A record of the round is rejected.
+    Rejected(Refused),
+    // The input ends after the round, without a fault or with this one.
+    Ended(Result<(), InputFault>),
+}
+
+impl LastRound {
+    // The round after which the input ends so.
+    fn ended(filled: Filled) -> Result<LastRound, ShowFault> {
+        match filled {
+            Filled::Ended(end) => Ok(LastRound::Ended(end)),
+            Filled::Full | Filled::Memory => Err(ShowFault::Memory),
+        }
+    }
+}
+
+// Whether a round was filled.
+fn is_full(filled: &Filled) -> bool
+    ensures { result ≡ true → filled.now ≡ Filled.Full }
+{
+    matches!(filled, Filled::Full)
+}
+
+// The place after a round that begins at this one and has so many records.
+fn place_after(first: u64, count: usize) -> Result<u64, ShowFault>
+    ensures { IfOk result (λ next. next ≡ first + count) }
+{
+    match first.checked_add(count as u64) {
+        Some(next) => Ok(next),
+        None => Err(ShowFault::Memory),
+    }
+}
+
+// The verdict of a run that ends in this round, whose records have this verdict one after another.
+fn last_verdict(
+    run: &Run<'_>,
+    verdict: Option<Verdict>,
+    last: LastRound,
+) -> Result<Verdict, ShowFault> {
+    match (verdict, last) {
+        (Some(verdict), _) => Ok(verdict),
+        (None, LastRound::Rejected(Refused { pos, piece, cause })) => {
+            Err(ShowFault::Rejected { pos, piece, cause })
+        }
+        (None, LastRound::Ended(Ok(()))) => Ok(run.yes()),
+        (None, LastRound::Ended(Err(fault))) => Err(ShowFault::Input(fault)),
+    }
+}
+
+// Judges record after record.
+fn gather_records<R: Wait, S: TextSource, C: TextSource>(
     rt: &R,
     alloc: Global,
     shown: &Shown<'_>,
@@ -238,6 +349,65 @@ impl Gathering {
                 Ok(verdict)
             }
         }
+    }
+
+    // Judges the records of the round in which a run ends, one after another, with the pieces from before them. Those after the record
+    // that decides are shown as such.
+    fn judge_last(
+        &mut self,
+        alloc: Global,
+        shown: &Shown<'_>,
+        run: &mut Run<'_>,
+        round: Vec<Ordered>,
+        last: LastRound,
+        explainer: &mut Explainer,
+    ) -> Result<Verdict, ShowFault>
+        requires shown { run.old.shown.now ≡ shown.now }
+        requires room { HasRoom self.old.recent }
+        requires next { (place : ℕ) × AreNext shown.now.config.now place self.old.recent.later.before round.items self.old.recent }
+        ensures { OnOk result (IsGathered shown.now.config.now self.new) }
+    {
+        run.go_on_with(self.recent.later.before.clone()?);
+        let mut left = VecDeque::from(round);
+        let verdict = self.judge_all(alloc, shown, run, &mut left, explainer)?;
+        self.add_left(left)?;
+        last_verdict(run, verdict, last)
+    }
+
+    // Judges these records one after another, up to the one that decides, and keeps them. Those after it are left.
+    #[tactic(auto, using(crate::proofs::Nexts::next_after))]
+    fn judge_all(
+        &mut self,
+        alloc: Global,
+        shown: &Shown<'_>,
+        run: &mut Run<'_>,
+        records: &mut VecDeque<Ordered>,
+        explainer: &mut Explainer,
+    ) -> Result<Option<Verdict>, ShowFault>
+        requires shown { run.old.shown.now ≡ shown.now }
+        requires room { HasRoom self.old.recent }
+        requires next { (place : ℕ) × AreNext shown.now.config.now place run.old.walk records.old.items self.old.recent }
+        ensures { OnOk result (IsGathered shown.now.config.now self.new) }
+    {
+        'records: for _ in 0..records.len() {
+            let Some(ordered) = records.pop_front() else {
+                break;
+            };
+            if let Some(verdict) = self.judge(alloc, shown, run, ordered, explainer)? {
+                return Ok(Some(verdict));
+            }
+        }
+        Ok(None)
+    }
+
+    // Adds the records that are left of a round, as far as they are shown.
+    fn add_left(&mut self, left: VecDeque<Ordered>) -> Result<(), ShowFault>
+        ensures { KeepsSame self.old self.new }
+    {
+        'records: for ordered in left {
+            self.keep_after(ordered)?;
+        }
+        Ok(())
     }
 
     // Keeps the record that decides: a rejected one with what would have been lawful, one that breaks a rule like an accepted one.

@@ -72,6 +72,20 @@ recent_turned configuration old new ordered before items going none are below =
           (kept_more configuration old.later.before old.later.records.items ordered are.later below));
     }
 
+-- a round of records is kept as a span, and another span begins with pieces that may judge the next record
+pub recent_round : (configuration : Configuration) (old new : Recent) (first : ℕ) (records : List Ordered) → new.earlier.before ≡ old.later.before
+    → new.earlier.records.items ≡ records → old.later.records.items ≡ [] → AreGoing configuration (first + length records) new.later.before
+    → new.later.records.items ≡ [] → AreRecent configuration first old → ArePlaced first records → AreOfCores configuration.cores records
+    → AreRecent configuration (first + length records) new
+recent_round configuration old new first records before items begun going none are placed cores =
+    let same : are.later.first ≡ first = omega (arith, are.later.reaches, ap (λ (kept : List Ordered). length kept) begun) in
+    record {
+      later = record { first = first + length records; going = going; placed = rw none tt; cores = rw none tt; reaches = rw none (omega arith) };
+      earlier = subst (λ (holdings : List Holding). IsKept configuration (first + length records) holdings new.earlier.records.items) (sym before)
+          (subst (λ (kept : List Ordered). IsKept configuration (first + length records) old.later.before kept) (sym items)
+          (record { first = first; going = subst (λ (place : ℕ). AreGoing configuration place old.later.before) same are.later.going; placed = placed; cores = cores; reaches = omega arith }));
+    }
+
 -- the records of both spans are those of one
 pub joined : (configuration : Configuration) (next : ℕ) (recent : Recent) (records : List Ordered) → records ≡ recent.earlier.records.items ++ recent.later.records.items
     → AreRecent configuration next recent → IsKept configuration next recent.earlier.before records

@@ -1,9 +1,10 @@
 // How the records that were taken last are kept.
 
-ghost use Rattle.std.specs.Prelude.{◌≡◌, ◌<◌, ◌+◌, ℕ, IfOk, OnOk, max};
+ghost use Rattle.std.specs.Prelude.{◌≡◌, ◌<◌, ◌≤◌, ◌+◌, ℕ, IfOk, OnOk, length, max};
 ghost use Rattle.apex_machine.specs.Configuration.{Configuration};
+ghost use Rattle.apex_machine.specs.Runs.{ArePlaced, AreOfCores};
 ghost use Rattle.verdict_merge.specs.Rounds.{AreGoing};
-ghost use Rattle.run_walk.specs.Kept.{AreRecent, HasRoom, IsKept, most_of};
+ghost use Rattle.run_walk.specs.Kept.{AreRecent, HasRoom, IsBegun, IsKept, most_of};
 
 use crate::recent::Recent;
 use crate::span::Span;
@@ -11,6 +12,7 @@ use crate::walk::{Walk, WalkFault};
 use apex_types::Ordered;
 use module_config::Config;
 use std::alloc::{AllocError, Global};
+use std::collections::VecDeque;
 use std::mem;
 
 /// How many records are worth a copy of the pieces.
@@ -24,6 +26,7 @@ impl Recent {
     pub fn start(alloc: Global, config: &Config, most: usize) -> Result<Recent, WalkFault>
         ensures recent { IfOk result (AreRecent config.now 0) }
         ensures room { IfOk result HasRoom }
+        ensures begun { IfOk result IsBegun }
         ensures most { IfOk result (λ recent. most_of recent ≡ max most 1000) }
     {
         Ok(Recent {
@@ -47,6 +50,29 @@ impl Recent {
             return Ok(());
         }
         let next = Span::new(alloc, pieces.clone()?);
+        self.earlier = mem::replace(&mut self.later, next);
+        Ok(())
+    }
+
+    /// Keeps a round of records, which these pieces have taken, as a span of its own.
+    ///
+    /// If memory is refused, nothing is promised of the records that are kept, which must be given up.
+    pub fn keep_round(
+        &mut self,
+        alloc: Global,
+        records: Vec<Ordered>,
+        pieces: &Walk,
+    ) -> Result<(), AllocError>
+        requires room { HasRoom self.old }
+        requires begun { IsBegun self.old }
+        requires few { length records.items ≤ most_of self.old }
+        ensures recent { OnOk result ((configuration : Configuration) (first : ℕ) → AreRecent configuration first self.old → ArePlaced first records.items → AreOfCores configuration.cores records.items → AreGoing configuration (first + length records.items) pieces.now → AreRecent configuration (first + length records.items) self.new) }
+        ensures room { OnOk result (HasRoom self.new) }
+        ensures begun { OnOk result (IsBegun self.new) }
+        ensures most { most_of self.new ≡ most_of self.old }
+    {
+        let next = Span::new(alloc, pieces.clone()?);
+        self.later.records = VecDeque::from(records);
         self.earlier = mem::replace(&mut self.later, next);
         Ok(())
     }

@@ -2,7 +2,7 @@ use Rattle.std.proofs.Common.{◌≡◌, length, false}
 use Rattle.order_cert.specs.Kept.{place_of}
 use Rattle.verdict_merge.specs.Rounds.{AreGoing}
 use Rattle.run_walk.specs.Kept.{AreRecent, HasRoom}
-use Rattle.apexview.proofs.stretch.gather_all.Given as goal
+use Rattle.apexview.proofs.stretch.gather_records.Given as goal
 
 abbrev pub invariant-records : goal.invariant-records
 invariant-records g l = record {

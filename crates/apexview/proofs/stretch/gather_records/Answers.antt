@@ -2,7 +2,7 @@
 use Rattle.std.proofs.Common.{◌∙◌, ap, refl, subst, sym}
 use Rattle.verdict_merge.specs.Rounds.{AreGoing}
 use Rattle.run_walk.specs.Kept.{AreRecent}
-use Rattle.apexview.proofs.stretch.gather_all.Goals as goal
+use Rattle.apexview.proofs.stretch.gather_records.Goals as goal
 
 pub records-preserved : goal.records-preserved
 records-preserved g c =
