@@ -1,2 +1,2 @@
-pub mod Nexts
+pub mod Deciding
 pub mod Placing

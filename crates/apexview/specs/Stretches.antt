@@ -1,13 +1,10 @@
 -- The stretch of a run that a picture shows.
-use Rattle.std.specs.Prelude.{◌≡◌, ℕ, List}
-use Rattle.apex_types.specs.declared.record.Ordered.{Ordered}
+use Rattle.std.specs.Prelude.{◌≡◌, ◌≤◌, ◌+◌, ℕ, false, length}
 use Rattle.apex_machine.specs.Configuration.{Configuration}
 use Rattle.apex_machine.specs.Runs.{AreOfCores, ArePlaced}
-use Rattle.piece_check.specs.Parts.{Holding}
-use Rattle.verdict_merge.specs.Rounds.{AreGoing}
-use Rattle.run_walk.specs.Kept.{AreRecent, IsKept}
-use Rattle.run_walk.specs.declared.recent.Recent.{Recent}
-use Rattle.apexview.specs.declared.stretch.Gathering.{Gathering}
+use Rattle.run_walk.specs.Kept.{AreRecent, IsBegun, IsKept, most_of}
+use Rattle.apexview.specs.declared.gathering.Gathering.{Gathering}
+use Rattle.apexview.specs.declared.round.Round.{Round}
 use Rattle.apexview.specs.declared.stretch.Stretch.{Stretch}
 
 -- its records follow one another, and its pieces may judge the first of them
@@ -22,9 +19,15 @@ IsGathered configuration gathering = (next : ℕ) × AreRecent configuration nex
 abbrev pub KeepsSame : Gathering → Gathering → Type 0
 KeepsSame old new = new.recent ≡ old.recent
 
--- these records are the next ones, from this place on: the pieces may judge them, and the records before them are kept
-pub record AreNext (configuration : Configuration) (place : ℕ) (pieces : List Holding) (records : List Ordered) (recent : Recent) : Type 0 where
-  pub going : AreGoing configuration place pieces
-  pub placed : ArePlaced place records
-  pub cores : AreOfCores configuration.cores records
-  pub kept : AreRecent configuration place recent
+-- the records that are gathered follow one another; while the picture goes on, they reach this place, and the next round begins a span
+pub record GoesOn (configuration : Configuration) (place : ℕ) (gathering : Gathering) : Type 0 where
+  pub gathered : IsGathered configuration gathering
+  pub kept : gathering.has_ended ≡ false → AreRecent configuration place gathering.recent
+  pub begun : gathering.has_ended ≡ false → IsBegun gathering.recent
+
+-- the records of a round are the next ones, from its place on, and there are no more of them than a span may have
+pub record IsNext (configuration : Configuration) (round : Round) (gathering : Gathering) : Type 0 where
+  pub placed : ArePlaced round.first round.records.items
+  pub cores : AreOfCores configuration.cores round.records.items
+  pub next : round.next ≡ round.first + length round.records.items
+  pub few : length round.records.items ≤ most_of gathering.recent

@@ -1,8 +1,8 @@
 use Rattle.std.proofs.Common.{◌≡◌, length, false}
 use Rattle.order_cert.specs.Kept.{place_of}
 use Rattle.verdict_merge.specs.Rounds.{AreGoing}
-use Rattle.run_walk.specs.Kept.{AreRecent, HasRoom, IsBegun}
-use Rattle.apexview.proofs.stretch.gather_rounds.Given as goal
+use Rattle.apexview.specs.Stretches.{GoesOn}
+use Rattle.apexview.proofs.stretch.gather_all.Given as goal
 
 abbrev pub invariant-rounds : goal.invariant-rounds
 invariant-rounds g l = record {
@@ -11,7 +11,5 @@ invariant-rounds g l = record {
   shown : l.run.shown.now ≡ l.shown;
   place : place_of l.placer.kept ≡ l.first;
   pieces : AreGoing l.shown.config.now l.first l.run.walk;
-  recent : AreRecent l.shown.config.now l.first l.gathering.recent;
-  room : HasRoom l.gathering.recent;
-  begun : IsBegun l.gathering.recent;
+  goes_on : GoesOn l.shown.config.now l.first l.gathering;
 }
