@@ -27,12 +27,12 @@ const MOST_AFTER: usize = 20;
 /// What is kept of a run while it is judged.
 #[derive(Drop)]
 pub struct Gathering {
-    /// The last records of the picture, and at least those.
+    /// The records that were accepted last: those of the picture, and some before them.
     pub recent: Recent,
     rejected: Option<Rejected>,
     is_broken: bool,
     after: Vec<Ordered>,
-    /// Whether the records of the picture have ended.
+    /// Whether no further record is one of the picture, but for those that are shown as not judged.
     pub has_ended: bool,
 }
 

@@ -96,10 +96,10 @@ pub struct Decision {
 
 // What decides in a round whose first record is at this place, if anything does. A view that breaks a rule is that of a record before the
 // rejected one.
-fn decision_of(taken: &Taken, first: u64) -> Option<Decision>
-    ensures { result ≡ decision_of first taken.now.found taken.now.breach }
+fn decision_of(first: u64, found: Option<Refused>, breach: Option<Breach>) -> Option<Decision>
+    ensures { result ≡ decision_of first found breach }
 {
-    if let Some(Breach { seen, rule }) = taken.breach {
+    if let Some(Breach { seen, rule }) = breach {
         return Some(Decision {
             index: seen.index,
             finding: Finding::Broken {
@@ -108,7 +108,7 @@ fn decision_of(taken: &Taken, first: u64) -> Option<Decision>
             },
         });
     }
-    let Refused { pos, piece, cause } = taken.found?;
+    let Refused { pos, piece, cause } = found?;
     Some(Decision {
         index: pos.number().saturating_sub(first) as usize,
         finding: Finding::Rejected(Refusal { piece, cause }),
@@ -196,8 +196,14 @@ impl<'a> Run<'a> {
         ensures going { IfOk result (λ _. AreGoing self.old.shown.now.config.now (first + length records.now) self.new.walk) }
         ensures shown { self.new.shown ≡ self.old.shown }
     {
-        let taken = rounds.take(self.shown.config, first, records, rules, &mut self.walk)?;
-        let decision = decision_of(&taken, first);
+        let Taken { found, breach } = rounds.take(
+            self.shown.config,
+            first,
+            records,
+            rules,
+            &mut self.walk,
+        )?;
+        let decision = decision_of(first, found, breach);
         if decision.is_none() {
             self.count = self.count.saturating_add(records.len() as u64);
         }

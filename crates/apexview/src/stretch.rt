@@ -95,16 +95,15 @@ fn gather_all<R: Wait, S: TextSource, C: TextSource>(
         let end = round.end;
         first = round.next;
         let verdict = gathering.take(alloc, &mut run, &mut rounds, rules, round, explainer)?;
-        if let Some(verdict) = verdict {
-            if end.is_none() {
+        match (verdict, end) {
+            (None, None) => {}
+            (None, Some(Ok(()))) => return Ok((run.yes(), gathering)),
+            (None, Some(Err(fault))) => return Err(ShowFault::Input(fault)),
+            (Some(verdict), Some(_)) => return Ok((verdict, gathering)),
+            (Some(verdict), None) => {
                 gathering.add_after(rt, alloc, placer)?;
+                return Ok((verdict, gathering));
             }
-            return Ok((verdict, gathering));
-        }
-        match end {
-            None => {}
-            Some(Ok(())) => return Ok((run.yes(), gathering)),
-            Some(Err(fault)) => return Err(ShowFault::Input(fault)),
         }
     }
     Err(ShowFault::Memory)
