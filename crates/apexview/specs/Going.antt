@@ -4,7 +4,6 @@ use Rattle.apex_types.specs.declared.record.Ordered.{Ordered}
 use Rattle.apex_machine.specs.Configuration.{Configuration}
 use Rattle.piece_check.specs.Parts.{Holding}
 use Rattle.run_walk.specs.Walks.{Takes}
-use Rattle.run_walk.specs.declared.walk.Refusal.{Refusal}
 use Rattle.user_rules.specs.declared.relation.Relation.{Relation}
 use Rattle.verdict_merge.specs.Rounds.{HaveRunOver, IsTested, parts_in}
 use Rattle.verdict_merge.specs.declared.breach.Breach.{Breach}
