@@ -1,6 +1,6 @@
 -- The record that a placer put into an empty list, taken out of it again.
 use Rattle.std.proofs.Common.{◌≡◌, ◌∙◌, ◌<◌, ℕ, List, [], ◌∷◌, ◌++◌, Option, Some, None, Result, Ok, true, ap, sym, subst, arith, length, length-append}
-use Rattle.std.specs.Prelude.{Bool, IfSome, option_to_list}
+use Rattle.std.specs.Prelude.{IfSome, option_to_list}
 use Rattle.apex_types.specs.declared.record.Ordered.{Ordered}
 use Rattle.placement.specs.declared.fault.PlacingFault.{PlacingFault}
 use Rattle.placement.specs.Lanes.{IsPlacedAt, Puts}

@@ -1,10 +1,12 @@
-// A run, judged record by record while it is shown.
+// A run, judged record by record or by whole rounds while it is shown.
 
-ghost use Rattle.std.specs.Prelude.{◌≡◌, ◌<◌, ◌+◌, IfOk, None, Ok, false, length};
+ghost use Rattle.std.specs.Prelude.{◌≡◌, ◌<◌, ◌+◌, IfOk, IfSome, None, Ok, false, length};
 ghost use Rattle.order_cert.specs.Kept.{place_of};
+ghost use Rattle.apex_machine.specs.Runs.{ArePlaced, AreOfCores};
+ghost use Rattle.user_rules.specs.Rules.{relations_of};
 ghost use Rattle.verdict_merge.specs.Rounds.{AreGoing};
 ghost use Rattle.verdict_merge.specs.declared.verdict.Verdict.TheVariants.{Yes};
-ghost use Rattle.apexview.specs.Going.{IsJudged, verdict_of};
+ghost use Rattle.apexview.specs.Going.{IsDecided, IsJudged, decision_of, verdict_of};
 
 use crate::ending::Ending;
 use crate::page::show_picture;
@@ -18,12 +20,13 @@ use placement::Placer;
 use report::{Verdict, Witness};
 use rule_options::RuleOption;
 use rules_file::NamedRule;
-use run_walk::{Refusal, Walk, WalkFault};
+use run_walk::{Refusal, Rounds, Taken, Walk, WalkFault};
 use sink::Sink;
 use std::alloc::Global;
 use std::fs::{File, Files};
 use std::sync::Wait;
-use user_rules::Relation;
+use user_rules::{Relation, Rule};
+use verdict_merge::{Breach, Refused};
 
 /// What is shown, and how.
 #[derive(Clone, Copy)]
@@ -37,11 +40,19 @@ pub struct Shown<'a> {
 }
 
 impl Shown<'_> {
-    /// Whether a record is after the place at which the picture or the trace ends.
+    /// Whether a record is after the place at which the trace ends.
     pub fn is_past(&self, ordered: &Ordered) -> bool {
         match self.asked.at {
             Some(at) => ordered.pos.number() > at,
             None => false,
+        }
+    }
+
+    /// How many records from this place on are not after the place at which the picture ends.
+    pub fn asked_from(&self, first: u64) -> usize {
+        match self.asked.at {
+            Some(at) => at.saturating_add(1).saturating_sub(first) as usize,
+            None => usize::MAX,
         }
     }
 }
@@ -67,14 +78,41 @@ where
     }
 }
 
-/// What the pieces and the rules make of a record.
+/// What decides a run at a record.
 #[derive(Clone, Copy, Debug)]
-pub enum Judgement {
-    Accepted,
-    /// A piece rejects it.
+pub enum Finding {
+    /// A piece rejects the record.
     Rejected(Refusal),
-    /// Its view breaks the rule with this number.
+    /// The view of the record breaks the rule with this number.
     Broken { rule: usize, view: View },
+}
+
+/// What decides a run in a round, and at which of its records.
+#[derive(Clone, Copy, Debug)]
+pub struct Decision {
+    pub index: usize,
+    pub finding: Finding,
+}
+
+// What decides in a round whose first record is at this place, if anything does. A view that breaks a rule is that of a record before the
+// rejected one.
+fn decision_of(first: u64, found: Option<Refused>, breach: Option<Breach>) -> Option<Decision>
+    ensures { result ≡ decision_of first found breach }
+{
+    if let Some(Breach { seen, rule }) = breach {
+        return Some(Decision {
+            index: seen.index,
+            finding: Finding::Broken {
+                rule,
+                view: seen.view,
+            },
+        });
+    }
+    let Refused { pos, piece, cause } = found?;
+    Some(Decision {
+        index: pos.number().saturating_sub(first) as usize,
+        finding: Finding::Rejected(Refusal { piece, cause }),
+    })
 }
 
 /// A run so far.
@@ -98,6 +136,13 @@ impl<'a> Run<'a> {
         })
     }
 
+    /// What is shown of the run.
+    pub fn shown(&self) -> &Shown<'a>
+        ensures { result.now ≡ self.now.shown.now }
+    {
+        self.shown
+    }
+
     /// The pieces, as the records so far have left them.
     pub fn walk(&self) -> &Walk
         ensures { result.now ≡ self.now.walk }
@@ -105,18 +150,18 @@ impl<'a> Run<'a> {
         &self.walk
     }
 
-    /// Judges the next record. `Memory` if it was refused to a piece.
-    pub fn judge(&mut self, ordered: &Ordered) -> Result<Judgement, WalkFault>
+    /// Judges the next record. Returns what decides the run at it, if anything does. `Memory` if it was refused to a piece.
+    pub fn judge(&mut self, ordered: &Ordered) -> Result<Option<Finding>, WalkFault>
         requires going { AreGoing self.old.shown.now.config.now ordered.now.pos self.old.walk }
         requires core { ordered.now.core < self.old.shown.now.config.now.cores }
-        ensures judged { IfOk result (λ judgement. IsJudged self.old.shown.now.config.now ordered.now self.old.walk judgement self.new.walk) }
-        ensures going { result ≡ Ok Judgement.Accepted → AreGoing self.old.shown.now.config.now (ordered.now.pos + 1) self.new.walk }
+        ensures judged { IfOk result (λ finding. IsJudged self.old.shown.now.config.now ordered.now self.old.walk finding self.new.walk) }
+        ensures going { result ≡ Ok None → AreGoing self.old.shown.now.config.now (ordered.now.pos + 1) self.new.walk }
         ensures shown { self.new.shown ≡ self.old.shown }
     {
         let view = self.view(ordered);
         let config = self.shown.config;
         if let Some(refusal) = self.walk.take(config, ordered)? {
-            return Ok(Judgement::Rejected(refusal));
+            return Ok(Some(Finding::Rejected(refusal)));
         }
         self.count = self.count.saturating_add(1);
         if let Some(view) = view {
@@ -126,26 +171,43 @@ impl<'a> Run<'a> {
                 .iter()
                 .position(|relation| !relation.holds(&view));
             if let Some(rule) = broken {
-                return Ok(Judgement::Broken { rule, view });
+                return Ok(Some(Finding::Broken { rule, view }));
             }
         }
-        Ok(Judgement::Accepted)
+        Ok(None)
     }
 
-    /// Judges the next record. The verdict if it decides; then the explainer receives what explains it.
-    pub fn verdict_of_next(
+    /// Takes the next records, the first of which is at this place, under these rules. Returns what decides among them, if anything does;
+    /// then there is no next round. The piece that rejects a record is as it was before the record.
+    ///
+    /// `Memory` if it was refused; the pieces are then given up.
+    pub fn take_round(
         &mut self,
-        alloc: Global,
-        ordered: &Ordered,
-        explainer: &mut Explainer,
-    ) -> Result<Option<Verdict>, WalkFault>
-        requires going { AreGoing self.old.shown.now.config.now ordered.now.pos self.old.walk }
-        requires core { ordered.now.core < self.old.shown.now.config.now.cores }
-        ensures going { result ≡ Ok None → AreGoing self.old.shown.now.config.now (ordered.now.pos + 1) self.new.walk }
+        rounds: &mut Rounds,
+        rules: &[Rule],
+        first: u64,
+        records: &[Ordered],
+    ) -> Result<Option<Decision>, WalkFault>
+        requires going { AreGoing self.old.shown.now.config.now first self.old.walk }
+        requires placed { ArePlaced first records.now }
+        requires cores { AreOfCores self.old.shown.now.config.now.cores records.now }
+        ensures decided { IfOk result (λ decision. IsDecided self.old.shown.now.config.now (relations_of rules.now) first self.old.walk records.now decision self.new.walk) }
+        ensures within { IfOk result (λ decision. IfSome decision (λ one. one.index < length records.now)) }
+        ensures going { IfOk result (λ _. AreGoing self.old.shown.now.config.now (first + length records.now) self.new.walk) }
         ensures shown { self.new.shown ≡ self.old.shown }
     {
-        let judgement = self.judge(ordered)?;
-        Ok(self.verdict(alloc, ordered, &judgement, explainer))
+        let Taken { found, breach } = rounds.take(
+            self.shown.config,
+            first,
+            records,
+            rules,
+            &mut self.walk,
+        )?;
+        let decision = decision_of(first, found, breach);
+        if decision.is_none() {
+            self.count = self.count.saturating_add(records.len() as u64);
+        }
+        Ok(decision)
     }
 
     // What the rules see of the next record. Without rules no view is made.
@@ -167,35 +229,33 @@ impl<'a> Run<'a> {
         }
     }
 
-    /// The verdict at this record, if it decides; the explainer receives what explains it.
+    /// The verdict of what decides the run at this record. The explainer receives what explains it.
     pub fn verdict(
         &self,
         alloc: Global,
         ordered: &Ordered,
-        judgement: &Judgement,
+        finding: &Finding,
         explainer: &mut Explainer,
-    ) -> Option<Verdict>
-        ensures verdict { result ≡ verdict_of ordered.now judgement.now }
-        ensures accepted { result ≡ None → judgement.now ≡ Judgement.Accepted }
+    ) -> Verdict
+        ensures { result ≡ verdict_of ordered.now finding.now }
     {
-        match judgement {
-            Judgement::Accepted => None,
-            Judgement::Rejected(refusal) => {
+        match finding {
+            Finding::Rejected(refusal) => {
                 if let Some(piece) = self.walk.pieces().get(refusal.piece) {
                     explainer.explain_rejected(self.shown.config, piece, ordered, refusal.cause);
                 }
-                Some(Verdict::No {
+                Verdict::No {
                     pos: ordered.pos,
                     piece: refusal.piece,
                     cause: refusal.cause,
-                })
+                }
             }
-            Judgement::Broken { rule, view } => {
+            Finding::Broken { rule, view } => {
                 explainer.broken(ordered, view, *rule);
                 let Shown { options, rules, .. } = self.shown;
                 let outcome = Ok(broken(ordered, *rule));
                 note_broken(explainer, alloc, options, rules, &outcome);
-                Some(broken(ordered, *rule))
+                broken(ordered, *rule)
             }
         }
     }

@@ -1,29 +1,25 @@
 // The stretch of a run that a picture shows.
 
-ghost use Rattle.std.specs.Prelude.{◌≡◌, ◌<◌, ◌+◌, IfOk, None, Ok, OnOk, false, length};
+ghost use Rattle.std.specs.Prelude.{◌≡◌, IfOk, false, length};
 ghost use Rattle.order_cert.specs.Kept.{place_of};
-ghost use Rattle.verdict_merge.specs.Rounds.{AreGoing};
-ghost use Rattle.run_walk.specs.Kept.{AreRecent, HasRoom};
-ghost use Rattle.apexview.specs.Stretches.{IsGathered, IsWhole, KeepsSame};
+ghost use Rattle.apexview.specs.Stretches.{IsGathered, IsWhole};
 
-use crate::fault::{ShowFault, rejected_at};
-use crate::placed::next_placed;
-use crate::run::{Judgement, Run, Shown};
+use crate::fault::ShowFault;
+use crate::gathering::Gathering;
+use crate::round::next_round;
+use crate::run::{Run, Shown};
 use answer_words::Explainer;
-use apex_types::{Cause, Ordered};
+use apex_types::{Cause, Ordered, View};
 use csv_rows::TextSource;
-use module_config::Config;
-use placement::{Placer, PlacingFault};
+use placement::Placer;
 use report::Verdict;
-use run_view::{Lawful, lawful_of};
-use run_walk::{Recent, Refusal, Span, Walk, WalkFault};
+use run_view::Lawful;
+use run_walk::{Rounds, Walk};
 use sarif_report::name_of_cause;
-use std::alloc::{AllocError, Global};
+use std::alloc::Global;
 use std::collections::VecDeque;
 use std::sync::Wait;
-
-/// The most records that are shown after the last one that is judged.
-const MOST_AFTER: usize = 20;
+use user_rules::{Rule, Test};
 
 /// A stretch of a run: the last records that were accepted, the pieces as they were before the first of them, the record that was
 /// rejected, and the records after it.
@@ -52,15 +48,6 @@ impl Rejected {
     }
 }
 
-// What is kept of a run while it is judged.
-#[derive(Drop)]
-struct Gathering {
-    recent: Recent,
-    rejected: Option<Rejected>,
-    is_broken: bool,
-    after: Vec<Ordered>,
-}
-
 /// Judges a run, and keeps the requested stretch. The explainer receives what explains the end.
 pub fn gather<R: Wait, S: TextSource, C: TextSource>(
     rt: &R,
@@ -74,15 +61,22 @@ pub fn gather<R: Wait, S: TextSource, C: TextSource>(
     requires cores { length placer.old.lanes ≡ shown.now.config.now.cores }
     ensures { IfOk result (λ found. IsWhole shown.now.config.now found.1) }
 {
-    let (verdict, gathering) = gather_all(rt, alloc, shown, placer, explainer)?;
+    let mut rules = Vec::new(alloc);
+    'relations: for relation in shown.relations {
+        let tested = relation.clone()?;
+        let test: Test = Box::new(alloc, move |view: &View| tested.holds(view))?;
+        rules.push(Rule::new(relation.clone()?, test))?;
+    }
+    let (verdict, gathering) = gather_all(rt, alloc, shown, &rules, placer, explainer)?;
     Ok((verdict, gathering.end(shown)?))
 }
 
-// The same, with more records than are requested.
+// The same under these rules, with more records than are requested.
 fn gather_all<R: Wait, S: TextSource, C: TextSource>(
     rt: &R,
     alloc: Global,
     shown: &Shown<'_>,
+    rules: &[Rule],
     placer: &mut Placer<S, C>,
     explainer: &mut Explainer,
 ) -> Result<(Verdict, Gathering), ShowFault>
@@ -92,213 +86,25 @@ fn gather_all<R: Wait, S: TextSource, C: TextSource>(
     ensures { IfOk result (λ found. IsGathered shown.now.config.now found.1) }
 {
     let mut run = Run::start(alloc, shown)?;
+    let mut rounds = Rounds::new(alloc)?;
     let mut gathering = Gathering::start(alloc, shown)?;
-    let mut placed = Vec::new(alloc);
+    let mut first = 0u64;
     // There are fewer places than this many rounds.
-    'records: for _ in 0..u64::MAX {
-        let Some(ordered) = next_placed(rt, placer, &mut placed)? else {
-            return Ok((run.yes(), gathering));
-        };
-        if shown.is_past(&ordered) {
-            let verdict = judge_after(
-                rt,
-                alloc,
-                &mut run,
-                ordered,
-                placer,
-                explainer,
-                &mut gathering,
-            )?;
-            return Ok((verdict, gathering));
-        }
-        if let Some(verdict) = gathering.judge(alloc, shown, &mut run, ordered, explainer)? {
-            gathering.add_after(rt, alloc, placer)?;
-            return Ok((verdict, gathering));
+    'rounds: for _ in 0..u64::MAX {
+        let round = next_round(rt, alloc, placer, first, gathering.recent.most)?;
+        let end = round.end;
+        first = round.next;
+        let verdict = gathering.take(alloc, &mut run, &mut rounds, rules, round, explainer)?;
+        match (verdict, end) {
+            (None, None) => {}
+            (None, Some(Ok(()))) => return Ok((run.yes(), gathering)),
+            (None, Some(Err(fault))) => return Err(ShowFault::Input(fault)),
+            (Some(verdict), Some(_)) => return Ok((verdict, gathering)),
+            (Some(verdict), None) => {
+                gathering.add_after(rt, alloc, placer)?;
+                return Ok((verdict, gathering));
+            }
         }
     }
     Err(ShowFault::Memory)
-}
-
-// Judges the records from this one on, which are after the end of the picture. The first few of them are kept.
-fn judge_after<R: Wait, S: TextSource, C: TextSource>(
-    rt: &R,
-    alloc: Global,
-    run: &mut Run<'_>,
-    first: Ordered,
-    placer: &mut Placer<S, C>,
-    explainer: &mut Explainer,
-    gathering: &mut Gathering,
-) -> Result<Verdict, ShowFault>
-    requires going { placer.old.ended ≡ false }
-    requires pieces { AreGoing run.old.shown.now.config.now first.pos run.old.walk }
-    requires place { place_of placer.old.kept ≡ first.pos + 1 }
-    requires core { first.core < run.old.shown.now.config.now.cores }
-    requires cores { length placer.old.lanes ≡ run.old.shown.now.config.now.cores }
-    ensures { KeepsSame gathering.old gathering.new }
-{
-    let mut placed = Vec::new(alloc);
-    let mut next = first;
-    'records: for _ in 0..u64::MAX {
-        let verdict = run.verdict_of_next(alloc, &next, explainer)?;
-        gathering.keep_after(next)?;
-        if let Some(verdict) = verdict {
-            gathering.add_after(rt, alloc, placer)?;
-            return Ok(verdict);
-        }
-        next = match next_placed(rt, placer, &mut placed)? {
-            Some(ordered) => ordered,
-            None => return Ok(run.yes()),
-        };
-    }
-    Err(ShowFault::Memory)
-}
-
-// What would have been lawful instead of a rejected record.
-fn lawful_at(
-    alloc: Global,
-    config: &Config,
-    run: &Run<'_>,
-    ordered: &Ordered,
-    refusal: &Refusal,
-) -> Result<Vec<Lawful>, AllocError> {
-    match run.walk().pieces().get(refusal.piece) {
-        Some(piece) => lawful_of(alloc, config, piece, ordered, refusal.cause),
-        None => Ok(Vec::new(alloc)),
-    }
-}
-
-impl Gathering {
-    // What is kept before the first record.
-    fn start(alloc: Global, shown: &Shown<'_>) -> Result<Gathering, WalkFault>
-        ensures recent { IfOk result (λ gathering. AreRecent shown.now.config.now 0 gathering.recent) }
-        ensures room { IfOk result (λ gathering. HasRoom gathering.recent) }
-    {
-        Ok(Gathering {
-            recent: Recent::start(alloc, shown.config, shown.asked.span)?,
-            rejected: None,
-            is_broken: false,
-            after: Vec::new(alloc),
-        })
-    }
-
-    // The requested stretch.
-    fn end(self, shown: &Shown<'_>) -> Result<Stretch, ShowFault>
-        requires { IsGathered shown.now.config.now self }
-        ensures { IfOk result (IsWhole shown.now.config.now) }
-    {
-        let Gathering {
-            recent,
-            rejected,
-            is_broken,
-            after,
-        } = self;
-        let mut span = recent.into_span()?;
-        if let Some((pos, refusal)) = span.shorten(shown.config, shown.asked.span)? {
-            return Err(rejected_at(pos, &refusal));
-        }
-        let Span { before, records } = span;
-        Ok(Stretch {
-            before,
-            kept: records,
-            rejected,
-            is_broken,
-            after,
-        })
-    }
-
-    // Judges the next record, and keeps it.
-    fn judge(
-        &mut self,
-        alloc: Global,
-        shown: &Shown<'_>,
-        run: &mut Run<'_>,
-        ordered: Ordered,
-        explainer: &mut Explainer,
-    ) -> Result<Option<Verdict>, ShowFault>
-        requires shown { run.old.shown.now ≡ shown.now }
-        requires pieces { AreGoing shown.now.config.now ordered.pos run.old.walk }
-        requires recent { AreRecent shown.now.config.now ordered.pos self.old.recent }
-        requires room { HasRoom self.old.recent }
-        requires core { ordered.core < shown.now.config.now.cores }
-        ensures shown { run.new.shown ≡ run.old.shown }
-        ensures pieces { result ≡ Ok None → AreGoing shown.now.config.now (ordered.pos + 1) run.new.walk }
-        ensures recent { result ≡ Ok None → AreRecent shown.now.config.now (ordered.pos + 1) self.new.recent }
-        ensures room { result ≡ Ok None → HasRoom self.new.recent }
-        ensures gathered { OnOk result (IsGathered shown.now.config.now self.new) }
-    {
-        let judgement = run.judge(&ordered)?;
-        let verdict = run.verdict(alloc, &ordered, &judgement, explainer);
-        match verdict {
-            None => {
-                self.recent.keep(alloc, ordered, run.walk())?;
-                Ok(None)
-            }
-            Some(_) => {
-                self.decide(alloc, shown, run, ordered, &judgement)?;
-                Ok(verdict)
-            }
-        }
-    }
-
-    // Keeps the record that decides: a rejected one with what would have been lawful, one that breaks a rule like an accepted one.
-    fn decide(
-        &mut self,
-        alloc: Global,
-        shown: &Shown<'_>,
-        run: &Run<'_>,
-        ordered: Ordered,
-        judgement: &Judgement,
-    ) -> Result<(), ShowFault>
-        requires recent { AreRecent shown.now.config.now ordered.pos self.old.recent }
-        requires room { HasRoom self.old.recent }
-        requires core { ordered.core < shown.now.config.now.cores }
-        ensures { OnOk result (IsGathered shown.now.config.now self.new) }
-    {
-        match judgement {
-            Judgement::Rejected(refusal) => {
-                let lawful = lawful_at(alloc, shown.config, run, &ordered, refusal)?;
-                self.rejected = Some(Rejected {
-                    ordered,
-                    cause: refusal.cause,
-                    lawful,
-                });
-                Ok(())
-            }
-            Judgement::Accepted => Ok(self.recent.keep_last(ordered)?),
-            Judgement::Broken { .. } => {
-                self.is_broken = true;
-                Ok(self.recent.keep_last(ordered)?)
-            }
-        }
-    }
-
-    fn keep_after(&mut self, ordered: Ordered) -> Result<(), ShowFault>
-        ensures { KeepsSame self.old self.new }
-    {
-        if self.after.len() < MOST_AFTER {
-            self.after.push(ordered)?;
-        }
-        Ok(())
-    }
-
-    // Adds the next records. If the input ends or has a fault, there are fewer.
-    fn add_after<R: Wait, S: TextSource, C: TextSource>(
-        &mut self,
-        rt: &R,
-        alloc: Global,
-        placer: &mut Placer<S, C>,
-    ) -> Result<(), ShowFault>
-        requires { placer.old.ended ≡ false }
-        ensures { KeepsSame self.old self.new }
-    {
-        let mut placed = Vec::new(alloc);
-        'records: for _ in self.after.len()..MOST_AFTER {
-            match next_placed(rt, placer, &mut placed) {
-                Ok(Some(ordered)) => self.after.push(ordered)?,
-                Err(PlacingFault::Memory) => return Err(ShowFault::Memory),
-                Ok(None) | Err(PlacingFault::Input(_)) => return Ok(()),
-            }
-        }
-        Ok(())
-    }
 }

@@ -7,7 +7,7 @@ ghost use Rattle.verdict_merge.specs.Rounds.{AreGoing};
 use crate::ending::Ending;
 use crate::fault::ShowFault;
 use crate::placed::next_placed;
-use crate::run::{Judgement, Run, Shown};
+use crate::run::{Finding, Run, Shown};
 use answer_words::Explainer;
 use apex_types::Ordered;
 use csv_rows::TextSource;
@@ -124,11 +124,14 @@ impl Following {
         ensures shown { run.new.shown ≡ run.old.shown }
         ensures pieces { result ≡ Ok None → AreGoing shown.now.config.now (ordered.now.pos + 1) run.new.walk }
     {
-        let judgement = run.judge(ordered)?;
+        let finding = run.judge(ordered)?;
         if !shown.is_past(ordered) {
-            self.add(shown, run, ordered, &judgement, tracer)?;
+            self.add(shown, run, ordered, &finding, tracer)?;
         }
-        Ok(run.verdict(alloc, ordered, &judgement, explainer))
+        Ok(match &finding {
+            Some(finding) => Some(run.verdict(alloc, ordered, finding, explainer)),
+            None => None,
+        })
     }
 
     fn add<W: Sink>(
@@ -136,10 +139,10 @@ impl Following {
         shown: &Shown<'_>,
         run: &Run<'_>,
         ordered: &Ordered,
-        judgement: &Judgement,
+        finding: &Option<Finding>,
         tracer: &mut Tracer<'_, W>,
     ) -> Result<(), ShowFault> {
-        if let Judgement::Rejected(refusal) = judgement {
+        if let Some(Finding::Rejected(refusal)) = finding {
             tracer.reject(ordered, name_of_cause(refusal.cause))?;
             return Ok(());
         }

@@ -3,8 +3,9 @@
 //!
 //! Promises only that its functions end and take no memory except for their texts: it decides nothing.
 //!
-//! It opens the text again to find the row or the key, and it finds the unknown keys (`unknown_keys.rt`). A row is found by the reader that
-//! read it (`CsvRows`), while a second walk over the text counts the lines (`lines.rt`). The faulty field of a row is the one that
+//! It opens the text again to find the row or the key, and it finds the unknown keys (`unknown_keys.rt`). Rows that are whole plain lines
+//! are passed by their line ends (`lines.rt`). From the first that is not, or the one before the row that is looked for, rows are found by
+//! the reader that read them (`CsvRows`), while a second walk over the text counts the lines. The faulty field of a row is the one that
 //! `read_record_explained` reports.
 //!
 //! The check has its answer before words are made, and no clause speaks of them. The functions have no contracts, and are proved only to

@@ -1,9 +1,11 @@
 -- Records that are kept, with more of them or fewer.
-use Rattle.std.proofs.Common.{◌≡◌, ◌<◌, ◌+◌, ◌∙◌, ℕ, suc, List, [], ◌∷◌, ◌++◌, length, ap, arith, length-append, subst, sym}
+use Rattle.std.proofs.Common.{◌≡◌, ◌<◌, ◌≤◌, ◌+◌, ◌∙◌, ℕ, suc, List, [], ◌∷◌, ◌++◌, length, take, drop, ap, arith, length-append, length-take-le, subst, sym}
+use Rattle.std.proofs.lemmas.List.{take-append-drop}
 use Rattle.apex_types.specs.declared.record.Ordered.{Ordered}
 use Rattle.apex_machine.specs.Configuration.{Configuration}
 use Rattle.apex_machine.specs.Runs.{AreOfCores, ArePlaced}
 use Rattle.piece_check.specs.Parts.{Holding}
+use Rattle.verdict_merge.proofs.Splits.{placed_front}
 use Rattle.verdict_merge.specs.Rounds.{AreGoing}
 use Rattle.run_walk.specs.Kept.{AreRecent, IsKept}
 use Rattle.run_walk.specs.declared.recent.Recent.{Recent}
@@ -18,18 +20,9 @@ cores_joined : (cores : ℕ) (front back : List Ordered) → AreOfCores cores fr
 cores_joined cores [] back of_cores after = after
 cores_joined cores (one ∷ front) back (here, of_cores) after = (here, cores_joined cores front back of_cores after)
 
--- one more record is kept, after the others
-kept_more : (configuration : Configuration) (before : List Holding) (kept : List Ordered) (ordered : Ordered) → IsKept configuration ordered.pos before kept
-    → ordered.core < configuration.cores → IsKept configuration (ordered.pos + 1) before (kept ++ ordered ∷ [])
-kept_more configuration before kept ordered is below =
-    let long : length (kept ++ ordered ∷ []) ≡ length kept + 1 = length-append kept (ordered ∷ []) in
-    record {
-      first = is.first;
-      going = is.going;
-      placed = placed_joined is.first kept (ordered ∷ []) is.placed (sym is.reaches, tt);
-      cores = cores_joined configuration.cores kept (ordered ∷ []) is.cores (below, tt);
-      reaches = omega (arith, is.reaches, long);
-    }
+cores_front : (cores : ℕ) (front back : List Ordered) → AreOfCores cores (front ++ back) → AreOfCores cores front
+cores_front cores [] back of_cores = tt
+cores_front cores (one ∷ front) back (here, of_cores) = (here, cores_front cores front back of_cores)
 
 -- no record is kept before the first one
 pub recent_none : (configuration : Configuration) (recent : Recent) → AreGoing configuration 0 recent.earlier.before → recent.earlier.records.items ≡ []
@@ -40,36 +33,41 @@ recent_none configuration recent earlier no_earlier later no_later =
       earlier = record { first = 0; going = earlier; placed = rw no_earlier tt; cores = rw no_earlier tt; reaches = rw no_earlier (omega arith) };
     }
 
--- one more record is kept, after the others
-pub recent_more : (configuration : Configuration) (old new : Recent) (ordered : Ordered) → new.earlier ≡ old.earlier → new.later.before ≡ old.later.before
-    → new.later.records.items ≡ old.later.records.items ++ ordered ∷ [] → AreRecent configuration ordered.pos old → ordered.core < configuration.cores
-    → AreRecent configuration (ordered.pos + 1) new
-recent_more configuration old new ordered same before items are below =
-    let kept = old.later.records.items in
-    let first = are.later.first in
-    let long : length (kept ++ ordered ∷ []) ≡ length kept + 1 = length-append kept (ordered ∷ []) in
+-- a round of records is kept as a span, and another span begins with pieces that may judge the next record
+pub recent_round : (configuration : Configuration) (old new : Recent) (first : ℕ) (records : List Ordered) → new.earlier.before ≡ old.later.before
+    → new.earlier.records.items ≡ records → old.later.records.items ≡ [] → AreGoing configuration (first + length records) new.later.before
+    → new.later.records.items ≡ [] → AreRecent configuration first old → ArePlaced first records → AreOfCores configuration.cores records
+    → AreRecent configuration (first + length records) new
+recent_round configuration old new first records before items begun going none are placed cores =
+    let same : are.later.first ≡ first = omega (arith, are.later.reaches, ap (λ (kept : List Ordered). length kept) begun) in
+    record {
+      later = record { first = first + length records; going = going; placed = rw none tt; cores = rw none tt; reaches = rw none (omega arith) };
+      earlier = subst (λ (holdings : List Holding). IsKept configuration (first + length records) holdings new.earlier.records.items) (sym before)
+          (subst (λ (kept : List Ordered). IsKept configuration (first + length records) old.later.before kept) (sym items)
+          (record { first = first; going = subst (λ (place : ℕ). AreGoing configuration place old.later.before) same are.later.going; placed = placed; cores = cores; reaches = omega arith }));
+    }
+
+-- the first records of a round are kept, as many as this, and no other span begins
+pub recent_last : (configuration : Configuration) (old new : Recent) (first count : ℕ) (records : List Ordered) → new.earlier ≡ old.earlier
+    → new.later.before ≡ old.later.before → new.later.records.items ≡ take count records → count ≤ length records → old.later.records.items ≡ []
+    → AreRecent configuration first old → ArePlaced first records → AreOfCores configuration.cores records → AreRecent configuration (first + count) new
+recent_last configuration old new first count records earlier before items few begun are placed cores =
+    let kept = take count records in
+    let left = drop count records in
+    let whole : records ≡ kept ++ left = sym (take-append-drop count records) in
+    let same : are.later.first ≡ first = omega (arith, are.later.reaches, ap (λ (list : List Ordered). length list) begun) in
+    let going = subst (λ (place : ℕ). AreGoing configuration place old.later.before) same are.later.going in
     record {
       later = record {
         first = first;
-        going = subst (λ (holdings : List Holding). AreGoing configuration first holdings) (sym before) are.later.going;
-        placed = subst (λ (records : List Ordered). ArePlaced first records) (sym items) (placed_joined first kept (ordered ∷ []) are.later.placed (sym are.later.reaches, tt));
-        cores = subst (λ (records : List Ordered). AreOfCores configuration.cores records) (sym items) (cores_joined configuration.cores kept (ordered ∷ []) are.later.cores (below, tt));
-        reaches = omega (arith, are.later.reaches, ap (λ (records : List Ordered). length records) items, long);
+        going = subst (λ (holdings : List Holding). AreGoing configuration first holdings) (sym before) going;
+        placed = subst (λ (list : List Ordered). ArePlaced first list) (sym items) (placed_front first kept left (subst (λ (list : List Ordered). ArePlaced first list) whole placed));
+        cores = subst (λ (list : List Ordered). AreOfCores configuration.cores list) (sym items)
+            (cores_front configuration.cores kept left (subst (λ (list : List Ordered). AreOfCores configuration.cores list) whole cores));
+        reaches = omega (arith, ap (λ (list : List Ordered). length list) items, length-take-le count records few);
       };
-      earlier = subst (λ (span : Span). IsKept configuration first span.before span.records.items) (sym same) are.earlier;
-    }
-
--- one more record is kept after the others, and another span begins with pieces that may judge the next record
-pub recent_turned : (configuration : Configuration) (old new : Recent) (ordered : Ordered) → new.earlier.before ≡ old.later.before
-    → new.earlier.records.items ≡ old.later.records.items ++ ordered ∷ [] → AreGoing configuration (ordered.pos + 1) new.later.before → new.later.records.items ≡ []
-    → AreRecent configuration ordered.pos old → ordered.core < configuration.cores → AreRecent configuration (ordered.pos + 1) new
-recent_turned configuration old new ordered before items going none are below =
-    let next = ordered.pos + 1 in
-    record {
-      later = record { first = next; going = going; placed = rw none tt; cores = rw none tt; reaches = rw none (omega arith) };
-      earlier = subst (λ (holdings : List Holding). IsKept configuration next holdings new.earlier.records.items) (sym before)
-          (subst (λ (records : List Ordered). IsKept configuration next old.later.before records) (sym items)
-          (kept_more configuration old.later.before old.later.records.items ordered are.later below));
+      earlier = subst (λ (place : ℕ). IsKept configuration place new.earlier.before new.earlier.records.items) same
+          (subst (λ (span : Span). IsKept configuration are.later.first span.before span.records.items) (sym earlier) are.earlier);
     }
 
 -- the records of both spans are those of one

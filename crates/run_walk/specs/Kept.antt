@@ -1,5 +1,5 @@
 -- Records that are kept, with the pieces that may judge them again.
-use Rattle.std.specs.Prelude.{◌≡◌, ◌<◌, ◌+◌, ℕ, List, length}
+use Rattle.std.specs.Prelude.{◌≡◌, ◌+◌, ℕ, List, [], length}
 use Rattle.apex_types.specs.declared.record.Ordered.{Ordered}
 use Rattle.apex_machine.specs.Configuration.{Configuration}
 use Rattle.apex_machine.specs.Runs.{AreOfCores, ArePlaced}
@@ -29,6 +29,6 @@ pub record AreRecent (configuration : Configuration) (next : ℕ) (recent : Rece
 abbrev pub most_of : Recent → ℕ
 most_of recent = recent.most
 
--- the later span can take one more record
-abbrev pub HasRoom : Recent → Type 0
-HasRoom recent = length recent.later.records.items < most_of recent
+-- the later span has no record yet
+abbrev pub IsBegun : Recent → Type 0
+IsBegun recent = recent.later.records.items ≡ []

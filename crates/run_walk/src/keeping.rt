@@ -1,9 +1,10 @@
 // How the records that were taken last are kept.
 
-ghost use Rattle.std.specs.Prelude.{◌≡◌, ◌<◌, ◌+◌, ℕ, IfOk, OnOk, max};
+ghost use Rattle.std.specs.Prelude.{◌≡◌, ◌≤◌, ◌+◌, ℕ, IfOk, OnOk, drop, length, max};
 ghost use Rattle.apex_machine.specs.Configuration.{Configuration};
+ghost use Rattle.apex_machine.specs.Runs.{ArePlaced, AreOfCores};
 ghost use Rattle.verdict_merge.specs.Rounds.{AreGoing};
-ghost use Rattle.run_walk.specs.Kept.{AreRecent, HasRoom, IsKept, most_of};
+ghost use Rattle.run_walk.specs.Kept.{AreRecent, IsBegun, IsKept, most_of};
 
 use crate::recent::Recent;
 use crate::span::Span;
@@ -11,20 +12,21 @@ use crate::walk::{Walk, WalkFault};
 use apex_types::Ordered;
 use module_config::Config;
 use std::alloc::{AllocError, Global};
+use std::collections::VecDeque;
 use std::mem;
 
-/// How many records are worth a copy of the pieces.
-const LEAST_SPAN: usize = 1_000;
+// How many records are worth a copy of the pieces.
+const LEAST_SPAN: usize = 4_096;
 
 impl Recent {
-    /// No records: those before the first one of a run. Each span will have at most this many records, or 1,000 if that is more.
+    /// No records: those before the first one of a run. Each span will have at most this many records, or 4,096 if that is more.
     ///
     /// `Memory` if it is refused.
     #[tactic(auto, using(crate::proofs::Kept::recent_none))]
     pub fn start(alloc: Global, config: &Config, most: usize) -> Result<Recent, WalkFault>
         ensures recent { IfOk result (AreRecent config.now 0) }
-        ensures room { IfOk result HasRoom }
-        ensures most { IfOk result (λ recent. most_of recent ≡ max most 1000) }
+        ensures begun { IfOk result IsBegun }
+        ensures most { IfOk result (λ recent. most_of recent ≡ max most 4096) }
     {
         Ok(Recent {
             most: most.max(LEAST_SPAN),
@@ -33,33 +35,44 @@ impl Recent {
         })
     }
 
-    /// Keeps the next record, which these pieces have taken.
+    /// Keeps a round, which these pieces have taken, as a span of its own.
     ///
     /// If memory is refused, nothing is promised of the records that are kept, which must be given up.
-    pub fn keep(&mut self, alloc: Global, ordered: Ordered, pieces: &Walk) -> Result<(), AllocError>
-        requires room { HasRoom self.old }
-        ensures recent { OnOk result ((configuration : Configuration) → AreRecent configuration ordered.pos self.old → ordered.core < configuration.cores → AreGoing configuration (ordered.pos + 1) pieces.now → AreRecent configuration (ordered.pos + 1) self.new) }
-        ensures room { OnOk result (HasRoom self.new) }
+    pub fn keep_round(
+        &mut self,
+        alloc: Global,
+        records: Vec<Ordered>,
+        pieces: &Walk,
+    ) -> Result<(), AllocError>
+        requires begun { IsBegun self.old }
+        requires few { length records.items ≤ most_of self.old }
+        ensures recent { OnOk result ((configuration : Configuration) (first : ℕ) → AreRecent configuration first self.old → ArePlaced first records.items → AreOfCores configuration.cores records.items → AreGoing configuration (first + length records.items) pieces.now → AreRecent configuration (first + length records.items) self.new) }
+        ensures begun { OnOk result (IsBegun self.new) }
         ensures most { most_of self.new ≡ most_of self.old }
     {
-        self.later.records.push_back(ordered)?;
-        if self.later.records.len() < self.most {
-            return Ok(());
-        }
         let next = Span::new(alloc, pieces.clone()?);
+        self.later.records = VecDeque::from(records);
         self.earlier = mem::replace(&mut self.later, next);
         Ok(())
     }
 
-    /// Keeps the last record, after which there is none.
+    /// Keeps the first records of the last round, as many as this, and returns the others.
     ///
     /// If memory is refused, nothing is promised of the records that are kept, which must be given up.
-    pub fn keep_last(&mut self, ordered: Ordered) -> Result<(), AllocError>
-        requires room { HasRoom self.old }
-        ensures { OnOk result ((configuration : Configuration) → AreRecent configuration ordered.pos self.old → ordered.core < configuration.cores → AreRecent configuration (ordered.pos + 1) self.new) }
+    pub fn keep_last(
+        &mut self,
+        mut records: Vec<Ordered>,
+        count: usize,
+    ) -> Result<VecDeque<Ordered>, AllocError>
+        requires begun { IsBegun self.old }
+        requires few { length records.items ≤ most_of self.old }
+        requires count { count ≤ length records.items }
+        ensures recent { OnOk result ((configuration : Configuration) (first : ℕ) → AreRecent configuration first self.old → ArePlaced first records.items → AreOfCores configuration.cores records.items → AreRecent configuration (first + count) self.new) }
+        ensures left { IfOk result (λ left. left.items ≡ drop count records.items) }
     {
-        self.later.records.push_back(ordered)?;
-        Ok(())
+        let left = records.split_off(count)?;
+        self.later.records = VecDeque::from(records);
+        Ok(VecDeque::from(left))
     }
 
     /// The records of both spans, as one.

@@ -6,9 +6,11 @@
 
 mod keeping;
 mod recent;
+mod rounds;
 mod span;
 mod walk;
 
 pub use recent::Recent;
+pub use rounds::{Rounds, Taken};
 pub use span::Span;
 pub use walk::{Refusal, Walk, WalkFault};

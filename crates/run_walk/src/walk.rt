@@ -12,7 +12,7 @@ use module_config::Config;
 use piece_check::{Piece, PieceFault, WindowAt, Windows};
 use std::alloc::{AllocError, Global};
 use std::marker::Model;
-use std::slice;
+use std::{mem, slice};
 use thiserror::Error;
 use verdict_merge::start_pieces;
 
@@ -64,6 +64,20 @@ impl Walk {
             }),
             Err(_) => Err(WalkFault::Memory),
         }
+    }
+
+    // The pieces; none are left in the walk.
+    pub(crate) fn take_pieces(&mut self) -> Vec<Piece>
+        ensures { result.items ≡ self.old }
+    {
+        mem::replace(&mut self.pieces, Vec::new(self.alloc))
+    }
+
+    // The walk has these pieces from now on.
+    pub(crate) fn set_pieces(&mut self, pieces: Vec<Piece>)
+        ensures { self.new ≡ pieces.items }
+    {
+        self.pieces = pieces;
     }
 
     /// The pieces, in the order of their numbers.

@@ -24,8 +24,8 @@ use std::alloc::Global;
 use std::thread::Threads;
 use user_rules::{Rule, first_broken};
 
-// How many rules are worth a list of views. With so many, the views of a busy piece are worth several threads, and the list costs little
-// beside their tests.
+// From how many rules on the views of a piece are kept and tested by several threads. With so many, the list of views costs little beside
+// their tests.
 const MANY_RULES: usize = 16;
 
 // The views of the records that a piece has judged, in their order, and the indices of these records in their round.

@@ -1,6 +1,9 @@
-use Rattle.std.proofs.Common.{refl}
-use Rattle.run_walk.proofs.Kept.{recent_more}
+-- The first records of a round are kept after those of the earlier span.
+use Rattle.std.proofs.Common.{◌∙◌, refl}
+use Rattle.run_walk.proofs.Kept.{recent_last}
 use Rattle.run_walk.proofs.recent.Recent.keep_last.Goals as goal
 
-pub returns : goal.returns
-returns c = λ configuration are below. recent_more configuration c.args.self.now _ c.args.ordered refl refl c.in_ok-push_back.ensures.items are below
+pub returns-clause-recent : goal.returns-clause-recent
+returns-clause-recent c = λ configuration first are placed cores.
+    recent_last configuration c.args.self.now _ first c.args.count c.args.records.items refl refl (c.from.ensures.0 ∙ c.in_ok-left.ensures.items) c.requires.count c.requires.begun are placed
+    cores

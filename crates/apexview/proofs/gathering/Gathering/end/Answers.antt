@@ -1,5 +1,5 @@
 use Rattle.std.proofs.Common.{refl}
-use Rattle.apexview.proofs.stretch.Gathering.end.Goals as goal
+use Rattle.apexview.proofs.gathering.Gathering.end.Goals as goal
 
 pub returns : goal.returns
 returns c =

@@ -1,6 +1,6 @@
 use Rattle.std.proofs.Common.{◌≡◌, false}
 use Rattle.apexview.specs.Stretches.{KeepsSame}
-use Rattle.apexview.proofs.stretch.Gathering.add_after.Given as goal
+use Rattle.apexview.proofs.gathering.Gathering.add_after.Given as goal
 
 abbrev pub invariant-records : goal.invariant-records
 invariant-records g l = record {

@@ -1,0 +1,62 @@
+// A round of records, as the input gives it.
+
+ghost use Rattle.std.specs.Prelude.{◌≡◌, ◌≤◌, ◌+◌, IfOk, None, false, length};
+ghost use Rattle.order_cert.specs.Kept.{place_of};
+ghost use Rattle.apex_machine.specs.Runs.{ArePlaced, AreOfCores};
+
+use crate::fault::ShowFault;
+use apex_types::Ordered;
+use csv_rows::TextSource;
+use placement::{Filled, InputFault, Placer};
+use std::alloc::Global;
+use std::sync::Wait;
+
+/// Records that follow one another.
+#[derive(Drop)]
+pub struct Round {
+    /// The place of the first record.
+    pub first: u64,
+    /// The place after the last record.
+    pub next: u64,
+    pub records: Vec<Ordered>,
+    /// How the input ends after the records, if it does: without a fault or with this one.
+    pub end: Option<Result<(), InputFault>>,
+}
+
+/// The next records, the first of which is at this place; at most so many.
+///
+/// `Memory` if it is refused.
+pub fn next_round<R: Wait, S: TextSource, C: TextSource>(
+    rt: &R,
+    alloc: Global,
+    placer: &mut Placer<S, C>,
+    first: u64,
+    most: usize,
+) -> Result<Round, ShowFault>
+    requires going { placer.old.ended ≡ false }
+    requires first { place_of placer.old.kept ≡ first }
+    ensures first { IfOk result (λ round. round.first ≡ first) }
+    ensures next { IfOk result (λ round. round.next ≡ first + length round.records.items) }
+    ensures placed { IfOk result (λ round. ArePlaced first round.records.items) }
+    ensures cores { IfOk result (λ round. AreOfCores (length placer.old.lanes) round.records.items) }
+    ensures few { IfOk result (λ round. length round.records.items ≤ most) }
+    ensures going { IfOk result (λ round. round.end ≡ None → placer.new.ended ≡ false) }
+    ensures place { IfOk result (λ round. round.end ≡ None → place_of placer.new.kept ≡ round.next) }
+    ensures lanes { length placer.new.lanes ≡ length placer.old.lanes }
+{
+    let mut records = Vec::new(alloc);
+    let end = match placer.fill(rt, &mut records, most) {
+        Filled::Full => None,
+        Filled::Ended(end) => Some(end),
+        Filled::Memory => return Err(ShowFault::Memory),
+    };
+    let Some(next) = first.checked_add(records.len() as u64) else {
+        return Err(ShowFault::Memory);
+    };
+    Ok(Round {
+        first,
+        next,
+        records,
+        end,
+    })
+}
