@@ -32,7 +32,7 @@ pub struct Gathering {
     rejected: Option<Rejected>,
     is_broken: bool,
     after: Vec<Ordered>,
-    /// Whether no further record is one of the picture, but for those that are shown as not judged.
+    /// Whether the records of the picture have ended. A few of those after them are shown as not judged.
     pub has_ended: bool,
 }
 
@@ -66,6 +66,7 @@ impl Gathering {
         requires next { IsNext run.old.shown.now.config.now round self.old }
         requires going { AreGoing run.old.shown.now.config.now round.first run.old.walk }
         ensures goes_on { OnOk result (GoesOn run.old.shown.now.config.now round.next self.new) }
+        ensures stays { OnOk result (self.old.has_ended ≡ true → KeepsSame self.old self.new) }
         ensures going { OnOk result (AreGoing run.old.shown.now.config.now round.next run.new.walk) }
         ensures shown { run.new.shown ≡ run.old.shown }
     {
@@ -93,6 +94,7 @@ impl Gathering {
         requires next { IsNext run.now.shown.now.config.now round self.old }
         requires going { AreGoing run.now.shown.now.config.now round.next run.now.walk }
         ensures goes_on { OnOk result (GoesOn run.now.shown.now.config.now round.next self.new) }
+        ensures stays { OnOk result (self.old.has_ended ≡ true → KeepsSame self.old self.new) }
     {
         if self.has_ended {
             return self.show_after(VecDeque::from(round.records));

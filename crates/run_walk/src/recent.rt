@@ -4,9 +4,9 @@ ghost use Rattle.std.specs.Prelude.{◌≤◌, length};
 
 use crate::span::Span;
 
-/// The records that were taken last, in two spans, each of which has at most so many of them. When the later one is full, another one
-/// begins with a copy of the pieces, and the earlier one is given up. So nearly all records are judged once, and those that are too many
-/// at the end are judged twice.
+/// The records of the last rounds, in two spans, each of which has at most so many of them. Each round becomes a span; then another one
+/// begins with a copy of the pieces, and the span before the round is given up. So nearly all records are judged once, and those that are
+/// too many at the end are judged twice.
 #[derive(Drop)]
 pub struct Recent {
     pub most: usize,
