@@ -3,16 +3,18 @@
 use crate::names::InputNames;
 use crate::terminal::Terminal;
 use apex_types::{Cause, Ordered, View};
+use config_explanation::{tell_unknown_keys, tell_warnings};
 use explanation::Explanation;
-use input_explanation::{Compression, tell_compression, tell_unknown_keys};
+use input_explanation::{Foreign, tell_foreign};
 use module_config::Config;
 use piece_check::Piece;
 use report::{Last, LastItem, Witness};
-use rules_file::{RuleFault, RulesFault, RulesRefusal, unknown_field};
+use rules_explanation::{RefusedRules, tell_rules};
+use rules_file::{RulesFault, RulesRefusal};
 use std::alloc::Global;
 use std::fmt::Display;
 use user_rules::Relation;
-use wording::{Found, Words};
+use wording::Words;
 
 /// What explains the end of a run. As the witness of a check it explains the record at the place of a No or of a broken rule.
 #[derive(Drop)]
@@ -22,7 +24,9 @@ pub struct Explainer {
     explanation: Explanation,
     note: Words,
     unknown_keys: Words,
-    compression: Option<Compression>,
+    warnings: Words,
+    foreign: Option<Foreign>,
+    rules_line: Option<u64>,
     unopened: Option<String>,
     broken_rule: Words,
     last: Vec<LastItem>,
@@ -37,7 +41,9 @@ impl Explainer {
             explanation: Explanation::new(alloc),
             note: Words::new(alloc),
             unknown_keys: Words::new(alloc),
-            compression: None,
+            warnings: Words::new(alloc),
+            foreign: None,
+            rules_line: None,
             unopened: None,
             broken_rule: Words::new(alloc),
             last: Vec::new(alloc),
@@ -64,9 +70,19 @@ impl Explainer {
         &self.unknown_keys
     }
 
+    /// What may be a mistake in the configuration, although it is accepted; empty if there is nothing.
+    pub fn warnings(&self) -> &Words {
+        &self.warnings
+    }
+
     /// The file that could not be opened or read, if there is one.
     pub fn unopened(&self) -> Option<&str> {
         self.unopened.as_deref()
+    }
+
+    /// The line of a refused rules file that has the fault, counted from 1, if it was found.
+    pub fn rules_line(&self) -> Option<u64> {
+        self.rules_line
     }
 
     /// The rule that is broken: a rule of an option by its words, any other by its name. Empty if none is broken.
@@ -79,9 +95,9 @@ impl Explainer {
         self.last.as_slice()
     }
 
-    /// How the configuration is compressed, if it is.
-    pub fn compression(&self) -> Option<Compression> {
-        self.compression
+    /// What the configuration is, if it is not plain text.
+    pub fn foreign(&self) -> Option<Foreign> {
+        self.foreign
     }
 
     /// Notes which file could not be opened or read, and why.
@@ -117,22 +133,28 @@ impl Explainer {
 
     /// Notes why the rules file with this text is refused. A refusal of memory is reported by the line alone.
     pub fn note_rules(&mut self, names: &InputNames, refusal: &RulesRefusal, text: Option<&[u8]>) {
-        match (&names.rules, refusal.fault) {
-            (None, _) | (_, RulesFault::Memory) => {}
-            (Some(name), fault) => {
-                self.note.say(format_args!("{name}: {refusal}"));
-                if let Some(word) = unknown_word(self.alloc, fault, text) {
-                    self.note.say(format_args!(": {}", Found(word.as_bytes())));
-                }
-                tell_compression(&mut self.note, name, compression_of(text));
-            }
+        let Some(name) = &names.rules else {
+            return;
+        };
+        if refusal.fault == RulesFault::Memory {
+            return;
         }
+        let foreign = foreign_of(text);
+        let file = RefusedRules {
+            name: name.as_str(),
+            refusal: *refusal,
+            text: if foreign.is_none() { text } else { None },
+        };
+        self.rules_line = tell_rules(&mut self.note, self.alloc, file);
+        tell_foreign(&mut self.note, name, foreign);
     }
 
-    /// Notes the keys of the configuration with this text that are not known, and how the text is compressed.
+    /// Notes the keys of the configuration with this text that are not known, what else may be a mistake there, and what the text is, if
+    /// it is not plain text.
     pub fn note_configuration(&mut self, config: &[u8]) {
         tell_unknown_keys(&mut self.unknown_keys, self.alloc, config);
-        self.compression = Compression::of(config);
+        tell_warnings(&mut self.warnings, self.alloc, config);
+        self.foreign = Foreign::of(config);
     }
 
     /// Explains the record that this piece rejects for this cause. The piece is as it was before the record.
@@ -152,20 +174,9 @@ impl Explainer {
     }
 }
 
-// The word that is not the name of a field, if a rules file with this text is refused for it.
-fn unknown_word(alloc: Global, fault: RulesFault, text: Option<&[u8]>) -> Option<String> {
-    match fault {
-        RulesFault::Rule {
-            rule,
-            fault: RuleFault::UnknownField,
-        } => unknown_field(alloc, text?, rule),
-        RulesFault::Rule { .. } | RulesFault::File(_) | RulesFault::Memory => None,
-    }
-}
-
-// How a text is compressed, if there is one.
-fn compression_of(text: Option<&[u8]>) -> Option<Compression> {
-    Compression::of(text?)
+// What a text is, if there is one that is not plain text.
+fn foreign_of(text: Option<&[u8]>) -> Option<Foreign> {
+    Foreign::of(text?)
 }
 
 impl Witness for Explainer {

@@ -1,4 +1,5 @@
-//! What standard error says of an answer: why it is not Yes, in words, with the file and the line that they are about.
+//! What standard error says of a run: why the answer is not Yes, in words, with the file and the line that they are about; which recordings
+//! have no record; and what else a person needs to know of it (`notices.rt`).
 //!
 //! Promises two things beside that its functions end. The name of a core's file is the one that the command line gives. Of a configuration
 //! or a rules file, the bytes that are read configure the same as the whole file, and give the same rules. The words decide nothing. If
@@ -9,6 +10,8 @@ mod broken;
 mod explainer;
 mod files;
 mod names;
+mod notices;
+mod recordings;
 mod terminal;
 mod told;
 
@@ -16,5 +19,8 @@ pub use broken::note_broken;
 pub use explainer::Explainer;
 pub use files::{open, open_text};
 pub use names::InputNames;
+pub use notices::{
+    words_of_awaited, words_of_stored_run, words_of_unwritten_log, words_of_unwritten_output,
+};
 pub use terminal::Terminal;
 pub use told::{RunFiles, Told, name_of_core};

@@ -5,11 +5,12 @@ ghost use Rattle.std.specs.Prelude.{◌≡◌, map, option_map, slice_get, strin
 use crate::explainer::Explainer;
 use crate::files::{open, open_text};
 use crate::names::InputNames;
+use config_explanation::{tell_configuration, tell_recording_count};
 use csv_rows::{RowFields, read_decimal};
 use explanation::{Explanation, RecordNumber};
 use input_explanation::{
-    Compression, FoundRow, LONGEST_SIGNATURE, Row, TwoReaders, find_lines, find_row, find_rows,
-    tell_certificate, tell_compression, tell_configuration, tell_order, tell_row_fault,
+    Foreign, FoundRow, LONGEST_SIGNATURE, Row, TwoReaders, find_lines, find_row, find_rows,
+    tell_certificate, tell_foreign, tell_order, tell_row_fault,
 };
 use module_config::ConfigFault;
 use placement::InputFault;
@@ -18,37 +19,36 @@ use std::alloc::{AllocError, Global};
 use std::fs::Files;
 use std::io::{ErrorKind, Read};
 use std::{fs, io};
-use wording::{Count, Words};
+use wording::Words;
 
-/// Why the answer is not Yes: in words, with the file that they are about, and the row there, if it is found again.
+/// Why the answer is not Yes: in words, with the file that they are about, and the line and the row there, if they are found again.
 #[derive(Drop)]
 pub struct Told<'a> {
     pub words: Words,
     pub file: Option<&'a str>,
+    line: Option<u64>,
     row: Option<FoundRow>,
 }
 
 impl<'a> Told<'a> {
     // These words, which are about no file.
-    fn of(words: Words) -> Told<'a> {
+    pub(crate) fn of(words: Words) -> Told<'a> {
         Told {
             words,
             file: None,
+            line: None,
             row: None,
         }
     }
 
-    /// The line on which the row begins, counted from 1.
+    /// The line on which the row begins, or the line of the configuration that is refused, counted from 1.
     pub fn line(&self) -> Option<u64> {
-        match &self.row {
-            Some(row) => Some(row.line),
-            None => None,
-        }
+        self.line
     }
 
-    // The row, if it says something to a person: that of a compressed file does not.
-    fn row(&self, compression: Option<Compression>) -> Option<&FoundRow> {
-        match compression {
+    // The row, if it says something to a person: that of a file that is not plain text does not.
+    fn row(&self, foreign: Option<Foreign>) -> Option<&FoundRow> {
+        match foreign {
             None => self.row.as_ref(),
             Some(_) => None,
         }
@@ -80,13 +80,9 @@ impl<'a, R: Files<File = F>, F: Read + Drop> RunFiles<'a, R> {
                 words.say("out of memory: not all records were judged");
                 Some(Told::of(words))
             }
-            Err(CheckFault::Arguments(fault)) => Some(Told::of(words_of_arguments(
-                self.alloc,
-                *fault,
-                self.names.cores.len(),
-            ))),
+            Err(CheckFault::Arguments(fault)) => Some(Told::of(self.words_of_arguments(*fault))),
             Err(CheckFault::Config(fault)) => {
-                Some(self.told_of_configuration(*fault, explainer.compression()))
+                Some(self.told_of_configuration(*fault, explainer.foreign()))
             }
             Err(CheckFault::Input(fault)) => self.told_of_input(fault),
         }
@@ -94,12 +90,52 @@ impl<'a, R: Files<File = F>, F: Read + Drop> RunFiles<'a, R> {
 
     /// The unknown keys of the configuration, and that they are ignored; empty if every key is known.
     pub fn unknown_keys(&self, explainer: &Explainer) -> Words {
+        self.list_of(
+            "these keys are unknown and ignored",
+            explainer.unknown_keys(),
+        )
+    }
+
+    /// What may be a mistake in the configuration, although it is accepted; empty if there is nothing.
+    pub fn warnings(&self, explainer: &Explainer) -> Words {
+        self.list_of(
+            "these settings are accepted, but may be mistakes",
+            explainer.warnings(),
+        )
+    }
+
+    // A list of what the configuration has, after these words; empty if the list is.
+    fn list_of(&self, what: &str, list: &Words) -> Words {
         let mut words = Words::new(self.alloc);
-        if !explainer.unknown_keys().is_empty() {
-            words.say(format_args!("{}: these keys are unknown and ignored:", self.names.config));
-            words.append(explainer.unknown_keys());
+        if !list.is_empty() {
+            words.say(format_args!("{}: {what}:", self.names.config));
+        }
+        // A list that is empty for lack of memory says so.
+        words.append(list);
+        words
+    }
+
+    // What is wrong with the arguments of a check.
+    fn words_of_arguments(&self, fault: ArgumentFault) -> Words {
+        let mut words = Words::new(self.alloc);
+        words.say(fault);
+        words.next_line();
+        match fault {
+            ArgumentFault::NoWorkers | ArgumentFault::TooManyWorkers => {
+                words.say("--workers must be a number from 1 to 64");
+            }
+            ArgumentFault::NoDepth | ArgumentFault::TooDeep => {
+                words.say("--depth must be a number from 1 to 4096");
+            }
+            ArgumentFault::ReaderCount => self.tell_counts(&mut words),
         }
         words
+    }
+
+    // Reports how many recordings are named, and how many there must be.
+    fn tell_counts(&self, words: &mut Words) {
+        let text = self.text_of(&self.names.config, words);
+        tell_recording_count(words, self.alloc, self.names.cores.len(), text.as_deref());
     }
 
     // Where a refused certificate, order or recording is wrong, and what is wrong with it.
@@ -108,11 +144,11 @@ impl<'a, R: Files<File = F>, F: Read + Drop> RunFiles<'a, R> {
             InputFault::Cert { place, fault } => {
                 let name = &self.names.order;
                 let mut told = self.told_of_row(name, *place);
-                let compression = self.compression_of(name, &mut told.words);
+                let foreign = self.foreign_of(name, &mut told.words);
                 let mut words = Words::new(self.alloc);
-                tell_certificate(&mut words, *fault, fields_of(told.row(compression)));
+                tell_certificate(&mut words, *fault, *place, fields_of(told.row(foreign)));
                 told.words.append(&words);
-                tell_compression(&mut told.words, name, compression);
+                tell_foreign(&mut told.words, name, foreign);
                 Some(told)
             }
             InputFault::Order { place, core, fault } => {
@@ -124,12 +160,12 @@ impl<'a, R: Files<File = F>, F: Read + Drop> RunFiles<'a, R> {
             InputFault::Row { core, seq, fault } => {
                 let name = name_of_core(self.names, *core)?;
                 let mut told = self.told_of_row(name, *seq);
-                let compression = self.compression_of(name, &mut told.words);
+                let foreign = self.foreign_of(name, &mut told.words);
                 let mut words = Words::new(self.alloc);
-                let row = row_with(*seq, told.row(compression));
+                let row = row_with(*seq, told.row(foreign));
                 tell_row_fault(&mut words, self.alloc, *fault, row);
                 told.words.append(&words);
-                tell_compression(&mut told.words, name, compression);
+                tell_foreign(&mut told.words, name, foreign);
                 Some(told)
             }
         }
@@ -182,24 +218,20 @@ impl<'a, R: Files<File = F>, F: Read + Drop> RunFiles<'a, R> {
         Ok(Vec::new(self.alloc))
     }
 
-    // What is wrong with the configuration, which is compressed in this way.
-    fn told_of_configuration(
-        &self,
-        fault: ConfigFault,
-        compression: Option<Compression>,
-    ) -> Told<'a> {
+    // What is wrong with the configuration, which is this if it is not plain text.
+    fn told_of_configuration(&self, fault: ConfigFault, foreign: Option<Foreign>) -> Told<'a> {
         let name = &self.names.config;
         let mut words = Words::new(self.alloc);
-        words.say(format_args!("{name}: "));
-        let text = match compression {
+        let text = match foreign {
             None => self.text_of(name, &mut words),
             Some(_) => None,
         };
-        tell_configuration(&mut words, self.alloc, fault, text.as_deref());
-        tell_compression(&mut words, name, compression);
+        let line = tell_configuration(&mut words, self.alloc, name, fault, text.as_deref());
+        tell_foreign(&mut words, name, foreign);
         Told {
             words,
             file: Some(name.as_str()),
+            line,
             row: None,
         }
     }
@@ -222,9 +254,14 @@ impl<'a, R: Files<File = F>, F: Read + Drop> RunFiles<'a, R> {
             Some(row) => words.say(format_args!("{name}, line {}: ", row.line)),
             None => words.say(format_args!("{name}, row {number} (counted from 0): ")),
         }
+        let line = match &row {
+            Some(row) => Some(row.line),
+            None => None,
+        };
         Told {
             words,
             file: Some(name),
+            line,
             row,
         }
     }
@@ -247,7 +284,7 @@ impl<'a, R: Files<File = F>, F: Read + Drop> RunFiles<'a, R> {
     }
 
     // The file of this name, opened once for its rows and once for its lines.
-    fn read_twice(&self, name: &str) -> Result<Option<TwoReaders<F>>, AllocError> {
+    pub(crate) fn read_twice(&self, name: &str) -> Result<Option<TwoReaders<F>>, AllocError> {
         let rows = unless_memory(open(self.rt, name))?;
         let lines = unless_memory(open(self.rt, name))?;
         match (rows, lines) {
@@ -256,13 +293,13 @@ impl<'a, R: Files<File = F>, F: Read + Drop> RunFiles<'a, R> {
         }
     }
 
-    // How the file of this name is compressed, if it is. None if it is not a regular file. These words report a lack of memory.
-    fn compression_of(&self, name: &str, words: &mut Words) -> Option<Compression> {
+    // What the file of this name is, if it is not plain text. None if it is not a regular file. These words report a lack of memory.
+    fn foreign_of(&self, name: &str, words: &mut Words) -> Option<Foreign> {
         unless_refused(self.signature_of(name), words)
     }
 
-    // How the file of this name is compressed, by its first bytes.
-    fn signature_of(&self, name: &str) -> Result<Option<Compression>, AllocError> {
+    // What the file of this name is, by its first bytes, if it is not plain text.
+    fn signature_of(&self, name: &str) -> Result<Option<Foreign>, AllocError> {
         if !self.is_regular(name)? {
             return Ok(None);
         }
@@ -272,13 +309,13 @@ impl<'a, R: Files<File = F>, F: Read + Drop> RunFiles<'a, R> {
         };
         let mut first = [0u8; LONGEST_SIGNATURE];
         match file.read(&mut first) {
-            Ok(count) => Ok(Compression::of(&first[..count.min(LONGEST_SIGNATURE)])),
+            Ok(count) => Ok(Foreign::of(&first[..count.min(LONGEST_SIGNATURE)])),
             Err(_) => Ok(None),
         }
     }
 
     // Whether a file can be read again.
-    fn is_regular(&self, name: &str) -> Result<bool, AllocError> {
+    pub(crate) fn is_regular(&self, name: &str) -> Result<bool, AllocError> {
         match unless_memory(fs::metadata(self.rt, name))? {
             Some(metadata) => Ok(metadata.is_file()),
             None => Ok(false),
@@ -347,24 +384,4 @@ pub fn name_of_core(names: &InputNames, core: u32) -> Option<&str>
         Some(name) => Some(name.as_str()),
         None => None,
     }
-}
-
-// What is wrong with the arguments of a check.
-fn words_of_arguments(alloc: Global, fault: ArgumentFault, recordings: usize) -> Words {
-    let mut words = Words::new(alloc);
-    words.say(fault);
-    words.next_line();
-    match fault {
-        ArgumentFault::NoWorkers | ArgumentFault::TooManyWorkers => {
-            words.say("--workers must be a number from 1 to 64");
-        }
-        ArgumentFault::NoDepth | ArgumentFault::TooDeep => {
-            words.say("--depth must be a number from 1 to 4096");
-        }
-        ArgumentFault::ReaderCount => words.say(format_args!(
-            "the command line names {}; expected one for each configured core",
-            Count(recordings, "recording")
-        )),
-    }
-    words
 }

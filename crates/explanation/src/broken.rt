@@ -50,7 +50,8 @@ pub fn tell_view(words: &mut Words, view: &View, relation: &Relation) {
         }
     }
     words.next_line();
-    words.say("views and their numbers: docs/SPECIFICATION.md, part 12");
+    words.say("views and their numbers: ");
+    words.say_document("SPECIFICATION.md", "part 12");
 }
 
 // The word for a number of a field, if there is one.

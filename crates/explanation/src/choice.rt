@@ -4,6 +4,7 @@ use crate::module::tell_time;
 use crate::processes::{tell_numbered, tell_ready};
 use crate::refusal::{Refusal, Refusing};
 use apex_types::{Body, CoreId, PartId, Who};
+use piece_check::is_ready;
 use wording::{Numbered, Part, Words};
 
 /// Reports the choice of a core and its occupant, for a record that does not agree with the choice.
@@ -55,27 +56,26 @@ fn tell_chosen(words: &mut Words, refusing: &Refusing<'_>, core: CoreId, choice:
     }
 }
 
-// Reports the processes that the record names, other than the occupant.
+// Reports the processes that the record names, and the occupant of its core.
 fn tell_named(
     words: &mut Words,
     refusal: &Refusal<'_>,
     refusing: &Refusing<'_>,
     occupant: &Option<Who>,
 ) {
-    let core = refusal.core();
     match &refusal.ordered.rec.body {
-        Body::Disp(Some(who)) => tell_dispatched(words, refusing, who),
+        Body::Disp(Some(who)) => tell_dispatched(words, refusing, refusal.core(), who),
         Body::Disp(None) => {}
-        Body::Tick(_) => tell_occupant(words, refusing, core, occupant),
-        Body::Call(call) => tell_actor(words, refusing, core, occupant, &call.who),
-        Body::Ret(ret) => tell_actor(words, refusing, core, occupant, &ret.who),
+        Body::Tick(_) => tell_occupant(words, refusal, refusing, occupant),
+        Body::Call(call) => tell_actor(words, refusal, refusing, occupant, &call.who),
+        Body::Ret(ret) => tell_actor(words, refusal, refusing, occupant, &ret.who),
     }
 }
 
-// Reports the state of the process to which a core is dispatched.
-fn tell_dispatched(words: &mut Words, refusing: &Refusing<'_>, who: &Who) {
+// Reports the process to which a core is dispatched.
+fn tell_dispatched(words: &mut Words, refusing: &Refusing<'_>, core: CoreId, who: &Who) {
     if who.part == refusing.number {
-        tell_numbered(words, refusing.state, *who);
+        tell_unready(words, refusing, core, who);
         return;
     }
     words.next_line();
@@ -85,8 +85,14 @@ fn tell_dispatched(words: &mut Words, refusing: &Refusing<'_>, who: &Who) {
     ));
 }
 
-// Reports the occupant of a core, and its state if it is a process of the partition.
-fn tell_occupant(words: &mut Words, refusing: &Refusing<'_>, core: CoreId, occupant: &Option<Who>) {
+// Reports the occupant of a core, and why it is not ready there.
+fn tell_occupant(
+    words: &mut Words,
+    refusal: &Refusal<'_>,
+    refusing: &Refusing<'_>,
+    occupant: &Option<Who>,
+) {
+    let core = refusal.core();
     words.next_line();
     match occupant {
         Some(occupant) => {
@@ -95,32 +101,40 @@ fn tell_occupant(words: &mut Words, refusing: &Refusing<'_>, core: CoreId, occup
                 core.number(),
                 Numbered(*occupant)
             ));
-            tell_own(words, refusing, occupant);
+            tell_unready(words, refusing, core, occupant);
         }
-        None => words.say(format_args!(
-            "core {} is idle: there was no dispatch before this record, or the last one named no process",
-            core.number()
-        )),
+        None => {
+            words.say(format_args!("core {} is idle: ", core.number()));
+            words.say(if refusal.ordered.rec.seq == 0 {
+                "this is its first record"
+            } else {
+                "there was no dispatch before this record, or the last one named no process"
+            });
+        }
     }
 }
 
-// Reports the state of a process, if it is one of the partition's.
-fn tell_own(words: &mut Words, refusing: &Refusing<'_>, who: &Who) {
-    if who.part == refusing.number {
-        tell_numbered(words, refusing.state, *who);
+// Reports the state of a process of the partition. Those that are ready on the core were reported with the choice.
+fn tell_unready(words: &mut Words, refusing: &Refusing<'_>, core: CoreId, who: &Who) {
+    if who.part != refusing.number {
+        return;
+    }
+    match refusing.state.processes().proc(who.proc) {
+        Some(process) if is_ready(process, core) => {}
+        _ => tell_numbered(words, refusing.state, *who),
     }
 }
 
-// Reports the occupant and the state of the process that calls or returns.
+// Reports the occupant, and the state of the process that calls or returns.
 fn tell_actor(
     words: &mut Words,
+    refusal: &Refusal<'_>,
     refusing: &Refusing<'_>,
-    core: CoreId,
     occupant: &Option<Who>,
     who: &Who,
 ) {
-    tell_occupant(words, refusing, core, occupant);
+    tell_occupant(words, refusal, refusing, occupant);
     if *occupant != Some(*who) {
-        tell_own(words, refusing, who);
+        tell_unready(words, refusing, refusal.core(), who);
     }
 }

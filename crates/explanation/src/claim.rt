@@ -1,6 +1,9 @@
 // What a call claims, compared with what the rules give it.
 
-use crate::claimed::{ClaimField, tell_bytes, tell_outcome, tell_recorded_values, tell_values};
+use crate::claimed::{
+    ClaimField, tell_bytes, tell_no_value, tell_outcome, tell_recorded_outcome,
+    tell_recorded_values, tell_values,
+};
 use crate::conditions::{tell_codes, tell_conditions, tell_no_condition};
 use crate::judged::{tell_basis, tell_holder};
 use crate::refusal::{Refusal, Refusing};
@@ -9,32 +12,31 @@ use piece_check::{Misnaming, misnamed_by};
 use wait_set::{Conditions, Given, WaitSet};
 use wording::{Numbered, Part, Words, answer_rule, conditions_rule, out_name, tell_processes};
 
-/// Reports the outcomes of a call on which error conditions hold, if its claim is none of them.
+/// Reports the error conditions that hold for a call, and where its claim is not the code of one of them alone.
 pub fn tell_refused_outcome(words: &mut Words, refusal: &Refusal<'_>, conditions: &Conditions) {
     let (Some(call), Some(field)) = (refusal.call(), ClaimField::of(refusal.cause)) else {
         return;
     };
-    words.next_line();
-    words.say("an error condition holds, so the call returns ");
-    words.begin_part(Part::Expected);
-    tell_codes(words, conditions);
-    words.end_part();
-    match field {
-        ClaimField::Channel => words.say(" and goes through no channel"),
-        ClaimField::Outcome => {
-            words.say("; recorded ");
-            words.say_part(Part::Recorded, out_name(call.claim.out));
-        }
-        ClaimField::Values => words.say(" and gives no value"),
-        ClaimField::Message => words.say(" and gives no message"),
-        ClaimField::Woken => words.say(" and wakes no process"),
-    }
     tell_conditions(words, refusal.config, call, conditions);
     words.next_line();
-    words.say(format_args!(
-        "rule: docs/SPECIFICATION.md, part 6, {}",
-        conditions_rule(&call.request)
-    ));
+    match field {
+        ClaimField::Channel => tell_no_channel(words, &call.claim),
+        ClaimField::Outcome => tell_expected_codes(words, conditions, &call.claim),
+        ClaimField::Values => tell_no_value(words, &call.claim),
+        ClaimField::Message => tell_bytes(words, &[], &call.claim),
+        ClaimField::Woken => tell_ended(words, None, None, call.claim.woken.as_slice()),
+    }
+    words.rule(format_args!("part 6, {}", conditions_rule(&call.request)));
+}
+
+// Reports the codes of the conditions, and the outcome that is claimed.
+fn tell_expected_codes(words: &mut Words, conditions: &Conditions, claim: &Claim) {
+    words.say("expected ");
+    words.begin_part(Part::Expected);
+    words.say("the outcome ");
+    tell_codes(words, conditions);
+    words.end_part();
+    tell_recorded_outcome(words, claim);
 }
 
 /// Reports what a partition sees of a call through this channel, if its claim is different.
@@ -62,13 +64,7 @@ pub fn tell_through(words: &mut Words, refusal: &Refusal<'_>, channel: ChanId) {
 fn tell_port(words: &mut Words, channel: ChanId, claimed: Option<ChanId>) {
     words.say("its port belongs to ");
     words.say_part(Part::Expected, format_args!("channel {}", channel.number()));
-    words.say(", but the record names ");
-    match claimed {
-        Some(claimed) => {
-            words.say_part(Part::Recorded, format_args!("channel {}", claimed.number()));
-        }
-        None => words.say_part(Part::Recorded, "no channel"),
-    }
+    tell_recorded_channel(words, claimed);
     words.rule("part 10, Call, outcome (IsThrough); the channel of a port: part 5 (channel_of)");
 }
 
@@ -91,7 +87,7 @@ pub fn tell_answer(words: &mut Words, refusal: &Refusal<'_>, given: &Given<'_>) 
     };
     if let Some(refusing) = refusal.partition() {
         if field == ClaimField::Channel {
-            tell_no_channel(words);
+            tell_unused_channel(words, &call.claim);
             return;
         }
         tell_judged(words, refusal, &refusing, call, field);
@@ -108,11 +104,29 @@ pub fn tell_answer(words: &mut Words, refusal: &Refusal<'_>, given: &Given<'_>) 
     words.rule(answer_rule(&call.request));
 }
 
-// Reports that a call goes through no channel.
-fn tell_no_channel(words: &mut Words) {
+// Reports that a service uses no port, and so no channel.
+fn tell_unused_channel(words: &mut Words, claim: &Claim) {
     words.next_line();
-    words.say("the call goes through no channel, but the record names one");
+    tell_no_channel(words, claim);
     words.rule("part 10, Call, outcome (IsAnswered)");
+}
+
+// Reports that a call goes through no channel, and the channel that is claimed.
+fn tell_no_channel(words: &mut Words, claim: &Claim) {
+    words.say("the call goes through ");
+    words.say_part(Part::Expected, "no channel");
+    tell_recorded_channel(words, claim.chan);
+}
+
+// Reports the channel that is claimed.
+fn tell_recorded_channel(words: &mut Words, claimed: Option<ChanId>) {
+    words.say(", but the record names ");
+    match claimed {
+        Some(claimed) => {
+            words.say_part(Part::Recorded, format_args!("channel {}", claimed.number()));
+        }
+        None => words.say_part(Part::Recorded, "no channel"),
+    }
 }
 
 // Reports by what a partition judges a call.
@@ -141,7 +155,7 @@ pub fn tell_new_number(words: &mut Words, refusal: &Refusal<'_>) {
         return;
     };
     if field == ClaimField::Channel {
-        tell_no_channel(words);
+        tell_unused_channel(words, &call.claim);
         return;
     }
     tell_judged(words, refusal, &refusing, call, field);
@@ -212,7 +226,8 @@ fn tell_ended(words: &mut Words, woken: Option<Who>, woken_all: Option<&WaitSet>
 // Reports which processes of the partition are not named, though the call ends their waits.
 fn tell_missing(words: &mut Words, refusing: &Refusing<'_>, given: &Given<'_>, call: &Call) {
     let table = refusing.state.processes();
-    for index in 0..table.len() {
+    // The initialising process is in the table, and not counted.
+    for index in 0..table.len().saturating_add(1) {
         let Some((number, _)) = table.at(index) else {
             return;
         };

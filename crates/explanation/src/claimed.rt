@@ -2,7 +2,7 @@
 
 use apex_types::{Cause, Claim, Out};
 use wait_set::{Given, WaitSet};
-use wording::{Bytes, Part, Words, out_name, tell_further};
+use wording::{Bytes, Part, Words, out_name};
 
 /// A field of what a call claims.
 #[derive(Clone, Copy, Debug, PartialEq, Eq)]
@@ -39,9 +39,20 @@ impl ClaimField {
 pub fn tell_values(words: &mut Words, given: &Given<'_>, claim: &Claim) {
     words.say("expected ");
     words.begin_part(Part::Expected);
-    tell_value(words, given.val.map(signed));
-    tell_further(words, given.val2.map(signed), given.val3.map(signed));
+    tell_numbers(
+        words,
+        given.val.map(signed),
+        given.val2.map(signed),
+        given.val3.map(signed),
+    );
     words.end_part();
+    tell_recorded_values(words, claim);
+}
+
+/// Reports that a call gives no value, and the values that are claimed.
+pub fn tell_no_value(words: &mut Words, claim: &Claim) {
+    words.say("expected ");
+    words.say_part(Part::Expected, "no value");
     tell_recorded_values(words, claim);
 }
 
@@ -52,6 +63,11 @@ pub fn tell_outcome(words: &mut Words, out: Out, claim: &Claim) {
         Part::Expected,
         format_args!("the outcome {}", out_name(out)),
     );
+    tell_recorded_outcome(words, claim);
+}
+
+/// Reports the outcome that is claimed.
+pub fn tell_recorded_outcome(words: &mut Words, claim: &Claim) {
     words.say(", recorded ");
     words.say_part(Part::Recorded, out_name(claim.out));
 }
@@ -64,12 +80,11 @@ pub fn tell_bytes(words: &mut Words, bytes: &[u8], claim: &Claim) {
     words.say_part(Part::Recorded, Bytes(claim.bytes.as_bytes()));
 }
 
-/// Reports the values that a claim has.
+/// Reports the values that are claimed.
 pub fn tell_recorded_values(words: &mut Words, claim: &Claim) {
     words.say("; recorded ");
     words.begin_part(Part::Recorded);
-    tell_value(words, claim.val);
-    tell_further(words, claim.val2, claim.val3);
+    tell_numbers(words, claim.val, claim.val2, claim.val3);
     words.end_part();
 }
 
@@ -78,10 +93,22 @@ fn signed(number: u64) -> i64 {
     i64::try_from(number).unwrap_or(i64::MAX)
 }
 
-// Reports a value that is expected or recorded.
-fn tell_value(words: &mut Words, value: Option<i64>) {
-    match value {
-        Some(number) => words.say(format_args!("the value {number}")),
-        None => words.say("no value"),
+// Reports the values that are expected or recorded, as far as there are any.
+fn tell_numbers(words: &mut Words, val: Option<i64>, val2: Option<i64>, val3: Option<i64>) {
+    let named = [
+        (val, "the value"),
+        (val2, "the second value"),
+        (val3, "the third value"),
+    ];
+    let mut begun = false;
+    for (value, name) in named {
+        if let Some(number) = value {
+            words.say(if begun { ", " } else { "" });
+            words.say(format_args!("{name} {number}"));
+            begun = true;
+        }
+    }
+    if !begun {
+        words.say("no value");
     }
 }

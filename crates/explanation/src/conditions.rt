@@ -4,7 +4,7 @@ use apex_machine::{Condition, Direction};
 use apex_types::{Call, Discipline, NewObject, Request};
 use module_config::{Config, QueuingPort, SamplingPort};
 use wait_set::Conditions;
-use wording::{Words, code_name};
+use wording::{Count, Words, code_name};
 
 /// Reports that no error condition holds.
 pub fn tell_no_condition(words: &mut Words) {
@@ -12,35 +12,53 @@ pub fn tell_no_condition(words: &mut Words) {
     words.say("no error condition holds");
 }
 
-/// Reports which error conditions hold, each with its code.
+/// Reports which error conditions hold, each with its code: one on the line that says so, several on lines of their own.
 pub fn tell_conditions(words: &mut Words, config: &Config, call: &Call, conditions: &Conditions) {
-    for condition in conditions.as_slice() {
-        words.next_line();
-        words.say(format_args!("an error condition holds: {}", condition.text()));
-        words.say(format_args!(": {}", code_name(condition.code())));
+    let held = conditions.as_slice();
+    words.next_line();
+    if held.len() == 1 {
+        words.say("an error condition holds: ");
+    } else {
+        words.say(format_args!("{} hold:", Count(held.len(), "error condition")));
+    }
+    for condition in held {
+        if held.len() != 1 {
+            words.next_line();
+            words.say("  ");
+        }
+        words.say(format_args!("{} ({})", condition.text(), code_name(condition.code())));
         if *condition == Condition::NotAsConfigured {
             tell_configured(words, config, call);
         }
     }
 }
 
-/// Reports the codes of the conditions, each once.
+/// Reports the codes of the conditions, each once: `A`, `A or B`, `A, B or C`.
 pub fn tell_codes(words: &mut Words, conditions: &Conditions) {
     let held = conditions.as_slice();
+    let mut begun = false;
     for (index, condition) in held.iter().enumerate() {
-        let code = condition.code();
-        if held
-            .iter()
-            .take(index)
-            .any(|earlier| earlier.code() == code)
-        {
+        if !has_new_code(held, index) {
             continue;
         }
-        if index > 0 {
-            words.say(" or ");
+        if begun {
+            let mut others = held.iter().enumerate().skip(index.saturating_add(1));
+            let is_last = !others.any(|(other, _)| has_new_code(held, other));
+            words.say(if is_last { " or " } else { ", " });
         }
-        words.say(code_name(code));
+        begun = true;
+        words.say(code_name(condition.code()));
     }
+}
+
+// Whether no condition before the one at this index has its code.
+fn has_new_code(held: &[Condition], index: usize) -> bool {
+    let Some(condition) = held.get(index) else {
+        return false;
+    };
+    held.iter()
+        .take(index)
+        .all(|earlier| earlier.code() != condition.code())
 }
 
 // Reports how the port is configured whose name a creation gives.

@@ -1,8 +1,8 @@
 // Processes whose waits end at a tick or by a call of another partition, and that a record names wrongly.
 
-use crate::processes::{tell_numbered, tell_standing};
+use crate::processes::{tell_process, tell_standing};
 use crate::refusal::{Refusal, Refusing};
-use apex_machine::Process;
+use apex_machine::{Process, Wait};
 use apex_types::{Body, Call, Who, Woken};
 use piece_check::Misnaming;
 use wording::{Numbered, Words};
@@ -56,7 +56,11 @@ fn tell_misnamed(words: &mut Words, who: Who, process: &Process, misnaming: Misn
         }
         Misnaming::Unexpected => {
             words.say(format_args!("; its core is {}", process.affinity.number()));
-            words.say(": its wait does not end at this tick, but the record names it");
+            words.say(if process.wait == Wait::Nothing {
+                ": it waits for nothing, but the record names it"
+            } else {
+                ": its wait does not end at this tick, but the record names it"
+            });
         }
     }
 }
@@ -65,18 +69,32 @@ fn tell_misnamed(words: &mut Words, who: Who, process: &Process, misnaming: Misn
 fn tell_unknown(words: &mut Words, refusing: &Refusing<'_>, named: &[Who]) {
     for who in named {
         if who.part == refusing.number && refusing.state.processes().proc(who.proc).is_none() {
-            words.next_line();
-            words.say(format_args!("there is no {}, but the record names it", Numbered(*who)));
+            tell_nonexistent(words, *who);
         }
     }
+}
+
+// Reports a named process that its partition does not have.
+fn tell_nonexistent(words: &mut Words, who: Who) {
+    words.next_line();
+    words.say(format_args!("there is no {}, but the record names it", Numbered(who)));
 }
 
 // Reports the processes that a call of another partition names and that do not wait at its channel.
 fn tell_foreign(words: &mut Words, refusal: &Refusal<'_>, refusing: &Refusing<'_>, call: &Call) {
     for who in call.claim.woken.as_slice() {
-        if who.part == refusing.number && !refusal.piece.may_wake(call, who.proc) {
-            tell_numbered(words, refusing.state, *who);
-            words.say(": it does not wait where this call can end a wait");
+        if who.part != refusing.number || refusal.piece.may_wake(call, who.proc) {
+            continue;
+        }
+        match refusing.state.processes().proc(who.proc) {
+            Some(process) => {
+                words.next_line();
+                tell_process(words, *who, process);
+                words.say(
+                    ": it does not wait where this call can end a wait, but the record names it",
+                );
+            }
+            None => tell_nonexistent(words, *who),
         }
     }
     words.rule("part 11, cause Woken (WakesHere)");

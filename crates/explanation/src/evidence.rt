@@ -13,17 +13,14 @@ use piece_check::Evidence;
 use wording::Words;
 
 /// Reports what shows that the demand fails.
-pub fn tell_evidence(words: &mut Words, refusal: &Refusal<'_>) {
-    match refusal
-        .piece
-        .evidence(refusal.config, refusal.ordered, refusal.cause)
-    {
+pub fn tell_evidence(words: &mut Words, refusal: &Refusal<'_>, evidence: &Evidence<'_>) {
+    match evidence {
         Evidence::Nothing => {}
-        Evidence::UnknownPartition(number) => tell_unknown_partition(words, number),
-        Evidence::UnknownChannel(number) => tell_unknown_channel(words, number),
-        Evidence::LeftBack(core) => tell_left_back(words, refusal, core),
-        Evidence::Window { owner, occupant } => tell_window(words, refusal, owner, occupant),
-        Evidence::Choice { choice, occupant } => tell_choice(words, refusal, &choice, &occupant),
+        Evidence::UnknownPartition(number) => tell_unknown_partition(words, *number),
+        Evidence::UnknownChannel(number) => tell_unknown_channel(words, *number),
+        Evidence::LeftBack(core) => tell_left_back(words, refusal, *core),
+        Evidence::Window { owner, occupant } => tell_window(words, refusal, *owner, *occupant),
+        Evidence::Choice { choice, occupant } => tell_choice(words, refusal, choice, occupant),
         Evidence::Waits => tell_waits(words),
         Evidence::Pending(outcome) => tell_pending(words, refusal, outcome),
         Evidence::NothingPending => tell_nothing_pending(words, refusal),
@@ -37,12 +34,12 @@ pub fn tell_evidence(words: &mut Words, refusal: &Refusal<'_>) {
             owned,
             elsewhere,
         } => {
-            tell_priority(words, refusal, current, base);
-            tell_mutexes(words, refusal, before, owned, elsewhere);
+            tell_priority(words, refusal, *current, *base);
+            tell_mutexes(words, refusal, *before, *owned, *elsewhere);
         }
-        Evidence::Conditions(conditions) => tell_refused_outcome(words, refusal, &conditions),
-        Evidence::Through(channel) => tell_through(words, refusal, channel),
-        Evidence::Answer(given) => tell_answer(words, refusal, &given),
+        Evidence::Conditions(conditions) => tell_refused_outcome(words, refusal, conditions),
+        Evidence::Through(channel) => tell_through(words, refusal, *channel),
+        Evidence::Answer(given) => tell_answer(words, refusal, given),
         Evidence::NewNumber => tell_new_number(words, refusal),
         Evidence::OtherKind => tell_other_kind(words),
         Evidence::AtNeitherEnd => tell_neither_end(words),

@@ -3,11 +3,12 @@
 use crate::broken::tell_view;
 use crate::demand::tell_demand;
 use crate::evidence::tell_evidence;
+use crate::other_core::tell_other_core;
 use crate::refusal::Refusal;
 use crate::through::tell_channel;
 use apex_types::{Cause, CoreId, Ordered, View};
 use module_config::Config;
-use piece_check::{Piece, Subject};
+use piece_check::{Evidence, Piece, Subject};
 use std::alloc::Global;
 use user_rules::Relation;
 use wording::{Ascii, Numbered, Part, Words, tell_record};
@@ -100,9 +101,18 @@ fn tell_refusal(words: &mut Words, refusal: &Refusal<'_>) {
         &refusal.ordered.rec.body,
         refusal.cause,
     );
-    tell_actor(words, refusal);
+    let evidence = refusal.evidence();
+    if !shows_actor(&evidence) {
+        tell_actor(words, refusal);
+    }
     tell_channel(words, refusal);
-    tell_evidence(words, refusal);
+    tell_evidence(words, refusal, &evidence);
+    tell_other_core(words, refusal);
+}
+
+// Whether the process that calls or returns is reported with the evidence.
+fn shows_actor(evidence: &Evidence<'_>) -> bool {
+    matches!(evidence, Evidence::Choice { .. } | Evidence::NothingPending)
 }
 
 // Reports which piece rejects a record.

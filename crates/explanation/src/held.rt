@@ -1,5 +1,6 @@
 // What objects and channels hold, in words.
 
+use crate::processes::tell_since;
 use apex_types::{Discipline, Name, ObjectKind};
 use channel::Channel;
 use message_queue::MessageQueue;
@@ -144,11 +145,8 @@ fn tell_waiters(words: &mut Words, set: &WaitSet, what: &str) {
         words.say(format_args!("; nobody waits {what}"));
         return;
     }
-    if count == 1 {
-        words.say(format_args!("; 1 process waits {what}"));
-    } else {
-        words.say(format_args!("; {count} processes wait {what}"));
-    }
+    let verb = if count == 1 { "waits" } else { "wait" };
+    words.say(format_args!("; {} {verb} {what}", Count(count, "process")));
     words.say(match set.discipline() {
         Discipline::Fifo => " in FIFO order",
         Discipline::Priority => " in PRIORITY order",
@@ -163,8 +161,8 @@ fn tell_waiters(words: &mut Words, set: &WaitSet, what: &str) {
             return;
         };
         words.say(if index == 0 { ": " } else { ", then " });
-        words.say(format_args!("{} since ", Numbered(entry.who)));
-        words.say_place(entry.place.number());
+        words.say(Numbered(entry.who));
+        tell_since(words, entry.place.number());
         words.say(format_args!(" with priority {}", entry.priority));
     }
     if count > MOST_WAITERS {

@@ -9,7 +9,8 @@
 //! function here (`evidence.rt`). At a broken rule it receives the record and its view.
 //!
 //! The files are by subject: the demands by their causes, the module, the choice, pending outcomes, priorities, who is named wrongly,
-//! claims beside what the rules give, error conditions, objects and channels, and uses outside the profile.
+//! claims beside what the rules give, error conditions, objects and channels, uses outside the profile, and recordings that may be named for
+//! the wrong cores.
 //!
 //! The crate does not depend on `report`, so the two are proved side by side; `apexcheck` passes it what the witness of a check receives
 //! (`Explainer`). The check has its answer before a witness receives it, and no clause speaks of the words. The functions have no
@@ -28,6 +29,7 @@ mod explanation;
 mod held;
 mod judged;
 mod module;
+mod other_core;
 mod outside;
 mod pending;
 mod priority;

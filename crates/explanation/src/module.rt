@@ -3,7 +3,7 @@
 use crate::refusal::Refusal;
 use apex_types::{Body, Cause, ChanId, PartId, Who};
 use module_config::Config;
-use wording::{Occupant, Words};
+use wording::{Count, Occupant, Words};
 
 /// The place of the rule of the names.
 const NAMES: &str = "part 10, the names of each record (names)";
@@ -30,19 +30,24 @@ pub fn tell_left_back(words: &mut Words, refusal: &Refusal<'_>, other: usize) {
     let next = refusal.time().saturating_add(1);
     words.next_line();
     words.say(format_args!(
-        "core {} would reach time {next}; the skew allows it to be at most {} ticks ahead of another core",
+        "core {} would reach time {next}; the skew allows it to be at most {} ahead of another core",
         refusal.core().number(),
-        refusal.config.skew()
+        ticks(refusal.config.skew())
     ));
     if let Some(state) = clock.states().get(other) {
         words.next_line();
         words.say(format_args!(
-            "core {other} is at time {}, which is {} ticks behind",
+            "core {other} is at time {}, which is {} behind",
             state.time,
-            next.saturating_sub(state.time)
+            ticks(next.saturating_sub(state.time))
         ));
     }
     words.rule("part 10, Tick, skew (KeepsSkew)");
+}
+
+// A number of ticks.
+fn ticks(count: u64) -> Count {
+    Count(usize::try_from(count).unwrap_or(usize::MAX), "tick")
 }
 
 /// Reports whose window a core is in.
@@ -72,9 +77,7 @@ pub fn tell_window(
 // Reports the occupant of a core that ticks while it is in no window.
 fn tell_idle(words: &mut Words, body: &Body, occupant: Option<Who>) {
     if let Body::Tick(_) = body {
-        words.next_line();
-        words.say(format_args!("its occupant is {}", Occupant(occupant)));
-        words.say("; outside every window, a core must be idle when it ticks");
+        words.say(format_args!("; its occupant is {}", Occupant(occupant)));
     }
     words.rule("part 11, cause Idle; the windows: part 1 (window_at)");
 }

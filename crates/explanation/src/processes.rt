@@ -10,13 +10,31 @@ use wording::{Ascii, Numbered, Set, Words};
 pub fn tell_process(words: &mut Words, who: Who, process: &Process) {
     let proc = who.proc;
     words.say(Numbered(who));
+    tell_name(words, process);
+    tell_standing(words, proc, process);
+    words.say(format_args!("; its core is {}", process.affinity.number()));
+    words.say(format_args!(" and its current priority is {}", process.current_priority));
+}
+
+// Reports the name of a process, if it has one.
+fn tell_name(words: &mut Words, process: &Process) {
     let name = process.name.as_bytes();
     if !name.is_empty() {
         words.say(format_args!(", \"{}\",", Ascii(name)));
     }
-    tell_standing(words, proc, process);
-    words.say(format_args!("; its core is {}", process.affinity.number()));
-    words.say(format_args!(" and its current priority is {}", process.current_priority));
+}
+
+/// Reports since when a process is ready or waits: since the record at this place.
+///
+/// No record at place 0 makes a process ready or lets it wait: every core is idle before it, so it is no lawful call, and no process waits
+/// whose wait it could end. A process that has been ready since place 0 has been ready from the start.
+pub fn tell_since(words: &mut Words, place: u64) {
+    words.say(" since ");
+    if place == 0 {
+        words.say("the start of the run");
+    } else {
+        words.say_place(place);
+    }
 }
 
 /// Reports the state of a process: dormant, suspended, waiting, or ready.
@@ -43,8 +61,8 @@ fn tell_wait(words: &mut Words, process: &Process) {
     match process.wait {
         Wait::Nothing => {
             if !process.suspended {
-                words.say(" has been ready since ");
-                words.say_place(process.ready_position);
+                words.say(" has been ready");
+                tell_since(words, process.ready_position);
             }
         }
         Wait::NormalMode => words.say(" waits for NORMAL mode"),
@@ -108,10 +126,10 @@ pub fn tell_ready(words: &mut Words, state: &PartitionState, core: CoreId, choic
 // Reports why a ready process is chosen or not.
 fn tell_candidate(words: &mut Words, proc: ProcId, process: &Process, is_choice: bool) {
     words.next_line();
-    words.say(format_args!("  process {} has been ready", proc.number()));
-    words.say(format_args!(" with priority {}", process.current_priority));
-    words.say(" since ");
-    words.say_place(process.ready_position);
+    words.say(format_args!("  process {}", proc.number()));
+    tell_name(words, process);
+    words.say(format_args!(" has been ready with priority {}", process.current_priority));
+    tell_since(words, process.ready_position);
     if is_choice {
         words.say(": the choice");
     }

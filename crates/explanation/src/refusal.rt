@@ -4,7 +4,7 @@ use apex_types::{Body, Call, Cause, CoreId, Ordered, PartId, Who};
 use dispatch_rule::Clock;
 use module_config::Config;
 use partition_state::PartitionState;
-use piece_check::{Piece, Seen};
+use piece_check::{Evidence, Piece, Seen};
 
 /// A record that a piece rejects for a cause. The piece is as it was before the record.
 #[derive(Clone, Copy)]
@@ -23,6 +23,11 @@ pub struct Refusing<'a> {
 }
 
 impl<'a> Refusal<'a> {
+    /// What shows that the demand fails.
+    pub fn evidence(&self) -> Evidence<'a> {
+        self.piece.evidence(self.config, self.ordered, self.cause)
+    }
+
     /// The core of the record.
     pub fn core(&self) -> CoreId {
         self.ordered.core
@@ -58,6 +63,14 @@ impl<'a> Refusal<'a> {
         match &self.ordered.rec.body {
             Body::Call(call) => Some(call),
             Body::Ret(_) | Body::Disp(_) | Body::Tick(_) => None,
+        }
+    }
+
+    /// The process that runs on the core by the record: the one that calls or returns, or that is dispatched. None if there is none.
+    pub fn runner(&self) -> Option<Who> {
+        match &self.ordered.rec.body {
+            Body::Disp(who) => *who,
+            Body::Call(_) | Body::Ret(_) | Body::Tick(_) => self.actor(),
         }
     }
 

@@ -18,7 +18,7 @@ pub fn tell_channel(words: &mut Words, refusal: &Refusal<'_>) {
 /// Reports that the caller waits at the channel.
 pub fn tell_waits(words: &mut Words) {
     words.next_line();
-    words.say("the caller waits at an end of the channel already");
+    words.say("the caller already waits at an end of the channel");
     words.rule("part 11, cause Choice of a channel (has_entry_in)");
 }
 

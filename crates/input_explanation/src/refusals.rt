@@ -1,11 +1,17 @@
 // The refusals of a certificate and of an order in words.
 
+use crate::likeness::tell_certificate_likeness;
 use csv_rows::RowFields;
 use order_cert::{CertFault, OrderFault};
 use wording::{Count, Found, Part, Words};
 
-/// Reports the fault of a row of the certificate.
-pub fn tell_certificate(words: &mut Words, fault: CertFault, fields: Option<&RowFields>) {
+/// Reports the fault of the row at a place of the certificate, which has these fields, if they could be read again.
+pub fn tell_certificate(
+    words: &mut Words,
+    fault: CertFault,
+    place: u64,
+    fields: Option<&RowFields>,
+) {
     words.say(fault);
     if let Some(fields) = fields {
         words.next_line();
@@ -23,9 +29,13 @@ pub fn tell_certificate(words: &mut Words, fault: CertFault, fields: Option<&Row
             Part::Expected,
             "core,seq, two numbers from 0 to 4294967295 in their shortest form",
         );
+        if place == 0 {
+            tell_certificate_likeness(words, fields);
+        }
     }
     words.next_line();
-    words.say("the certificate: docs/FORMATS.md, The certificate");
+    words.say("the certificate: ");
+    words.say_document("FORMATS.md", "The certificate");
 }
 
 /// Reports why a pair may not be at its place, or why the order may not end there. The core's next record has this number, and the pair
@@ -54,7 +64,8 @@ pub fn tell_order(words: &mut Words, fault: OrderFault, core: u32, named: Option
         words.say("; each record is named once, in its core's order");
     }
     words.next_line();
-    words.say("lawful orders: docs/SPECIFICATION.md, part 15 (IsLawfulOrder)");
+    words.say("lawful orders: ");
+    words.say_document("SPECIFICATION.md", "part 15 (IsLawfulOrder)");
 }
 
 // What is expected instead of an order's fault.

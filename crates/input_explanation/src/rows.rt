@@ -1,5 +1,6 @@
 // The faults of rows in words: which field, what it holds, and what was expected.
 
+use crate::likeness::tell_recording_likeness;
 use apex_types::Format;
 use apex_types::limits::{LONGEST_MESSAGE, LONGEST_NAME};
 use csv_rows::RowFields;
@@ -28,8 +29,12 @@ pub fn tell_row_fault(words: &mut Words, alloc: Global, fault: RowFault, row: Op
         Err(misread) if misread.fault == RowFault::Memory => words.note_lack_of_memory(),
         _ => {}
     }
+    if row.number == 0 {
+        tell_recording_likeness(words, row.fields);
+    }
     words.next_line();
-    words.say("the rows: docs/FORMATS.md, Refusals of a row");
+    words.say("the rows: ");
+    words.say_document("FORMATS.md", "Refusals of a row");
 }
 
 // Reports the field that has the fault, or how many fields there are, and what was expected.
@@ -43,7 +48,7 @@ fn tell_misread(words: &mut Words, misread: Misread, row: Row<'_>) {
         words.next_line();
         words.say("it has ");
         words.say_part(Part::Recorded, Count(row.fields.len(), "field"));
-        expect(words, "18 if the first row has 18, otherwise 16");
+        expect_field_count(words, row);
     }
 }
 
@@ -88,6 +93,25 @@ fn tell_expected(words: &mut Words, fault: RowFault, column: Column, row: Row<'_
 fn expect(words: &mut Words, expected: impl Display + Drop) {
     words.say("; expected ");
     words.say_part(Part::Expected, expected);
+}
+
+// Reports how many fields a row must have: as many as the first row, which may have either number.
+fn expect_field_count(words: &mut Words, row: Row<'_>) {
+    if row.number == 0 {
+        expect(
+            words,
+            format_args!(
+                "{}, or {} in format 2",
+                Count(Format::One.field_count(), "field"),
+                Format::Two.field_count()
+            ),
+        );
+    } else {
+        expect(
+            words,
+            format_args!("{}, as the first row has", row.format.field_count()),
+        );
+    }
 }
 
 // Reports which numbers a column can have.

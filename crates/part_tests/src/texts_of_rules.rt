@@ -6,7 +6,7 @@ use rules_file::RuleFault::{
     self, BadName, Empty, Missing, NotToml, TooDeep, TooMany, UnknownField, UnknownKey,
     UnknownName, WrongType,
 };
-use rules_file::{RulesFault, read};
+use rules_file::{FIELD_NAMES, RulesFault, read};
 use std::alloc::Global;
 use std::test::Fail;
 
@@ -130,6 +130,18 @@ fn compares_each_field(rt: HostRuntime) -> Result<(), Fail> {
                 assert_eq!(rt; answer(heap, &holds, &view)?, Some(expected), "{holds}");
             }
         }
+    }
+    Ok(())
+}
+
+// Each name that is given to a person as that of a field is read as one.
+#[test]
+fn knows_each_field(rt: HostRuntime) -> Result<(), Fail> {
+    let heap: Global = rt.alloc();
+    for name in FIELD_NAMES {
+        let holds = format!(in heap; "{{ field = \"{name}\", equal = 0 }}")?;
+        let found = refusal(heap, &rule_text(heap, &holds)?);
+        assert_eq!(rt; found, None, "{name}");
     }
     Ok(())
 }

@@ -15,6 +15,11 @@ use apex_types::Field;
 use record_read::{Kind, find_kind, find_out, find_service};
 use toml::Value;
 
+/// The names of the fields.
+pub const FIELD_NAMES: [&'static str; 11] = [
+    "kind", "core", "time", "part", "proc", "service", "prio", "out", "val", "elapsed", "woken",
+];
+
 /// The field whose name a value is.
 pub(crate) fn read_field(value: &Value) -> Result<Field, RuleRefusal>
     ensures { result ≡ field_in (view value.now) }

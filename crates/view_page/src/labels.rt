@@ -8,7 +8,7 @@ use apex_types::{Body, Code, Ordered, Out, Who};
 use piece_check::{Piece, Seen};
 use std::alloc::{AllocError, Global};
 use std::fmt::Display;
-use wording::{Ascii, Words, code_name, out_name, tell_record};
+use wording::{Ascii, Look, Words, code_name, out_name, tell_record};
 
 // The occupant of a core, in a few words.
 #[derive(Clone, Copy)]
@@ -115,7 +115,7 @@ pub(crate) fn words_of(alloc: Global, ordered: &Ordered) -> Result<String, Alloc
     let mut words = Words::new(alloc);
     tell_record(&mut words, ordered);
     words.say(END);
-    let mut text = format!(in alloc; "{}", words.shown(false))?;
+    let mut text = format!(in alloc; "{}", words.shown(Look::plain()))?;
     match text.pop() {
         Some(END) => Ok(text),
         _ => Err(AllocError),

@@ -155,7 +155,7 @@ impl fmt::Display for HeldInFull<'_> {
                 write!(f, "shows {}", Bytes(bytes.as_slice()))
             }
             Contents::Semaphore { value, maximum } => {
-                write!(f, "has the value {value}, and at most {maximum}")
+                write!(f, "has the value {value} (maximum {maximum})")
             }
             Contents::Event { is_up: true } => write!(f, "is up"),
             Contents::Event { is_up: false } => write!(f, "is down"),
@@ -218,7 +218,7 @@ impl fmt::Display for QueueInFull<'_> {
         if self.1.is_empty() {
             return Ok(());
         }
-        write!(f, "; there wait {}: ", self.0)?;
+        write!(f, "; waiting {}: ", self.0)?;
         for (index, waiter) in self.1.iter().enumerate() {
             write!(f, "{}", if index == 0 { "" } else { ", then " })?;
             write!(

@@ -12,7 +12,7 @@ use piece_check::{Piece, Seen, Subject};
 use run_view::{Change, CoreView, Followed, ProcessState, ProcessView, ThingKey, view_of};
 use sink::Sink;
 use std::alloc::{AllocError, Global};
-use wording::{Ascii, Numbered, Words, tell_record};
+use wording::{Ascii, Look, Numbered, Words, tell_record};
 
 /// The processes of the trace: one for the cores, one for the channels, and one for each partition from a number on.
 const CORES: u64 = 1;
@@ -159,7 +159,7 @@ impl<'a, W: Sink> Tracer<'a, W> {
         if words.lacks_memory() {
             return Err(AllocError);
         }
-        format!(in self.alloc; "{}", words.shown(false))
+        format!(in self.alloc; "{}", words.shown(Look::plain()))
     }
 
     fn time_of(&self, core: &CoreId) -> u64 {

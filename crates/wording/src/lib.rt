@@ -1,5 +1,5 @@
 //! How things are put into words, for the person who reads an answer: texts that grow up to a bound, the names of what a module has,
-//! records and requests, and the place in the specification of a service's rule.
+//! records and requests, the place in the specification of a service's rule, and the name that a misspelt word probably means.
 //!
 //! Promises only that its functions end and take no memory except for their texts. A text has at most about 16 KiB. If memory is refused,
 //! or the text is too long, nothing more is added; whether memory was refused is kept (`Words::lacks_memory`).
@@ -12,11 +12,13 @@ mod naming;
 mod request;
 mod rules;
 mod said;
+mod spelling;
 mod words;
 
 pub use naming::{
-    Ascii, Bytes, Count, Found, Numbered, Occupant, Set, code_name, kind_name, out_name,
+    Ascii, Bytes, Count, Found, Numbered, Occupant, Set, ThereAre, code_name, kind_name, out_name,
 };
 pub use rules::{answer_rule, conditions_rule};
 pub use said::{tell_further, tell_message, tell_processes, tell_record, tell_value};
-pub use words::{Part, Shown, Words};
+pub use spelling::nearest;
+pub use words::{Look, Part, Shown, Words};

@@ -87,7 +87,7 @@ impl fmt::Display for Bytes<'_> {
     }
 }
 
-/// A number of things, whose plural ends in `s`.
+/// A number of things, whose plural ends in `s`, or in `es` after an `s`.
 #[derive(Clone, Copy)]
 pub struct Count(pub usize, pub &'static str);
 
@@ -95,9 +95,23 @@ impl fmt::Display for Count {
     fn fmt<W: fmt::Write>(&self, f: &mut fmt::Formatter<W>) -> fmt::Result {
         let (count, what) = (self.0, self.1);
         if count == 1 {
-            return write!(f, "1 {what}");
+            write!(f, "1 {what}")
+        } else if what.ends_with("s") {
+            write!(f, "{count} {what}es")
+        } else {
+            write!(f, "{count} {what}s")
         }
-        write!(f, "{count} {what}s")
+    }
+}
+
+/// That there is this number of things: `there is 1 recording`, `there are 2 recordings`.
+#[derive(Clone, Copy)]
+pub struct ThereAre(pub usize, pub &'static str);
+
+impl fmt::Display for ThereAre {
+    fn fmt<W: fmt::Write>(&self, f: &mut fmt::Formatter<W>) -> fmt::Result {
+        let verb = if self.0 == 1 { "is" } else { "are" };
+        write!(f, "there {verb} {}", Count(self.0, self.1))
     }
 }
 

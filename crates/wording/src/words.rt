@@ -1,5 +1,6 @@
 // A text in words, which grows up to a bound.
 
+use crate::spelling::nearest;
 use std::alloc::Global;
 use std::fmt;
 use std::fmt::{Display, Write};
@@ -10,13 +11,15 @@ const LONGEST: usize = 16_384;
 /// How many places are kept.
 const MOST_PLACES: usize = 8;
 
-/// The characters that begin and end the mark of a part in a text. No word contains the first of them, since it is a control character.
+/// The character that begins a mark in a text. No word contains it, since it is a control character. One character follows it, which says
+/// what is marked.
 const MARK: char = '\u{1b}';
 
-const MARK_END: char = 'm';
+/// What follows the mark at the end of a part.
+const PLAIN: &str = "0";
 
-/// The mark at the end of a part.
-const PLAIN: &str = "\u{1b}[0m";
+/// What follows the mark before the name of a document.
+const DOCUMENT: &str = "d";
 
 /// A part of a text that may be shown in a colour of its own.
 #[derive(Clone, Copy, Debug, PartialEq, Eq)]
@@ -30,12 +33,43 @@ pub enum Part {
 }
 
 impl Part {
-    // The mark at the beginning of the part, as a terminal takes it.
+    // What follows the mark at the beginning of the part.
     fn mark(self) -> &'static str {
         match self {
-            Part::Record => "\u{1b}[1m",
-            Part::Expected => "\u{1b}[32m",
-            Part::Recorded => "\u{1b}[31m",
+            Part::Record => "b",
+            Part::Expected => "g",
+            Part::Recorded => "r",
+        }
+    }
+}
+
+/// How the text of words is shown.
+#[derive(Clone, Copy, Debug)]
+pub struct Look<'a> {
+    /// Whether the parts have colours, as a terminal takes them.
+    pub in_colour: bool,
+    /// The folder of the documents that the words name.
+    pub documents: &'a str,
+}
+
+impl Look<'_> {
+    /// Without colours, and with the documents as in the sources.
+    pub fn plain() -> Look<'static> {
+        Look {
+            in_colour: false,
+            documents: "docs",
+        }
+    }
+
+    // What is shown for what follows a mark.
+    fn of_mark(&self, mark: &str) -> &str {
+        match mark {
+            DOCUMENT => self.documents,
+            _ if !self.in_colour => "",
+            "b" => "\u{1b}[1m",
+            "g" => "\u{1b}[32m",
+            "r" => "\u{1b}[31m",
+            _ => "\u{1b}[0m",
         }
     }
 }
@@ -103,12 +137,12 @@ impl Words {
 
     /// Begins a part, which continues up to `end_part`.
     pub fn begin_part(&mut self, part: Part) {
-        self.add(part.mark());
+        self.mark(part.mark());
     }
 
     /// Ends the part that was begun.
     pub fn end_part(&mut self) {
-        self.add(PLAIN);
+        self.mark(PLAIN);
     }
 
     /// Adds these words as a part.
@@ -129,10 +163,30 @@ impl Words {
         self.add("\n    ");
     }
 
+    /// Adds the name of a document, with the folder of the documents, and a place in it.
+    pub fn say_document(&mut self, name: &str, place: impl Display + Drop) {
+        self.mark(DOCUMENT);
+        self.say(format_args!("/{name}, {place}"));
+    }
+
     /// Reports the rule that is broken, by its place in the specification.
-    pub fn rule(&mut self, place: &str) {
+    pub fn rule(&mut self, place: impl Display + Drop) {
         self.next_line();
-        self.say(format_args!("rule: docs/SPECIFICATION.md, {place}"));
+        self.say("rule: ");
+        self.say_document("SPECIFICATION.md", place);
+    }
+
+    /// Adds the name among these that a misspelt word probably means, if there is one.
+    pub fn suggest(&mut self, word: &str, names: &[&str]) {
+        match nearest(self.alloc, word, names) {
+            Ok(Some(name)) => {
+                self.say("; did you mean ");
+                self.say_part(Part::Expected, format_args!("'{name}'"));
+                self.say("?");
+            }
+            Ok(None) => {}
+            Err(_) => self.note_lack_of_memory(),
+        }
     }
 
     /// Notes that memory was refused to what is said here, so that less is said of it.
@@ -150,17 +204,22 @@ impl Words {
         self.text.is_empty()
     }
 
-    /// The text, with its parts in colours or without.
-    pub fn shown(&self, in_colour: bool) -> Shown<'_> {
+    /// The text, as it is to be shown.
+    pub fn shown<'a>(&'a self, look: Look<'a>) -> Shown<'a> {
         Shown {
             text: self.text.as_str(),
-            in_colour,
+            look,
         }
     }
 
     // Whether this text can be added without being cut off.
     fn has_room_for(&self, text: &str) -> bool {
         self.text.len().saturating_add(text.len()) <= LONGEST
+    }
+
+    // Adds a mark.
+    fn mark(&mut self, what: &str) {
+        self.add(format_args!("{MARK}{what}"));
     }
 
     // Adds a text unchanged.
@@ -182,25 +241,23 @@ impl Words {
 #[derive(Clone, Copy)]
 pub struct Shown<'a> {
     text: &'a str,
-    in_colour: bool,
+    look: Look<'a>,
 }
 
 impl Display for Shown<'_> {
     fn fmt<W: fmt::Write>(&self, f: &mut fmt::Formatter<W>) -> fmt::Result {
-        if self.in_colour {
-            // A text that is cut off does not end in a colour either.
-            return write!(f, "{}{PLAIN}", self.text);
-        }
         let mut parts = self.text.split(MARK);
         if let Some(words) = parts.next() {
             f.write_str(words)?;
         }
         for part in parts {
-            // What comes first is the rest of a mark.
-            if let Some((_, words)) = part.split_once(MARK_END) {
+            // What comes first says what is marked.
+            if let Some((mark, words)) = part.split_at_checked(1) {
+                f.write_str(self.look.of_mark(mark))?;
                 f.write_str(words)?;
             }
         }
-        Ok(())
+        // A text that is cut off does not end in a colour either.
+        f.write_str(self.look.of_mark(PLAIN))
     }
 }

@@ -1,8 +1,8 @@
-// The refusals of a configuration in words: the key at which the reader refuses it, what is found there, and what is expected. The text is
-// read again, and the reader reports where it refuses it.
+// The refusals of a configuration in words: the key at which the reader refuses it, with its line, what is found there, and what is
+// expected. The text is read again, and the reader reports where it refuses it.
 
-use crate::unknown_keys::items;
 use crate::whole::tell_misfit;
+use crate::written::Written;
 use apex_types::limits::{
     GREATEST_CHANNEL, GREATEST_PARTITION, GREATEST_SPAN, LONGEST_MESSAGE, MOST_CORES,
     MOST_MESSAGES, MOST_OBJECTS, MOST_PROCESSES,
@@ -10,133 +10,150 @@ use apex_types::limits::{
 use module_config::{Config, ConfigFault, ConfigKey, ConfigPlace, ConfigTable};
 use std::alloc::Global;
 use std::fmt;
-use toml::{Table, Value};
+use toml::Value;
+use toml::de::Error;
+use toml_lines::Position;
 use wording::{Count, Found, Part, Words};
 
 /// The most bytes of a text that is read again, which takes memory for it twice. A text with one window too many has some 200,000.
 const LONGEST: usize = 262_144;
 
-/// Reports the refusal of a configuration, from this text, if it could be read again.
+/// Reports the refusal of the configuration of this name, from this text, if it could be read again. Returns the line that is refused, if
+/// it is found.
 pub fn tell_configuration(
     words: &mut Words,
     alloc: Global,
+    name: &str,
     fault: ConfigFault,
     text: Option<&[u8]>,
-) {
-    words.say(fault);
-    if let Some(text) = text {
-        if text.len() <= LONGEST {
-            tell_text(words, alloc, fault, text);
-        }
+) -> Option<u64> {
+    let mut reason = Words::new(alloc);
+    let position = match text {
+        Some(text) if text.len() <= LONGEST => tell_text(&mut reason, alloc, fault, text),
+        _ => Position::Unknown,
+    };
+    words.say(format_args!("{name}{position}: "));
+    if reason.is_empty() {
+        words.say(fault);
     }
+    words.append(&reason);
     words.next_line();
-    words.say("the keys and their refusals: docs/FORMATS.md, The configuration");
+    words.say("the keys and their refusals: ");
+    words.say_document("FORMATS.md", "The configuration");
+    position.line()
 }
 
 // Reports where a text has the fault. If the text has changed in the meantime, so that it has another fault, nothing is reported.
-fn tell_text(words: &mut Words, alloc: Global, fault: ConfigFault, text: &[u8]) {
+fn tell_text(words: &mut Words, alloc: Global, fault: ConfigFault, text: &[u8]) -> Position {
     let keys = match toml::table_from_slice(alloc, text) {
         Ok(keys) => keys,
         Err(why) => {
             if why.is_memory() {
                 words.note_lack_of_memory();
             } else if fault == ConfigFault::NotToml {
-                words.next_line();
-                words.say(why);
+                return tell_toml(words, &why, text);
             }
-            return;
+            return Position::Unknown;
         }
     };
     let Err(explained) = Config::read_explained(alloc, text) else {
-        return;
+        return Position::Unknown;
     };
     if explained.refusal.fault != fault {
         if explained.refusal.fault.is_memory() {
             words.note_lack_of_memory();
         }
-        return;
+        return Position::Unknown;
     }
-    if let Some(place) = explained.refusal.place {
-        tell_key(words, &keys, place);
+    let module = Written::module(&keys, text);
+    match (explained.refusal.place, &explained.misfit) {
+        (Some(place), _) => {
+            tell_key(words, fault, module, place);
+            Position::of_line(line_of(module, place))
+        }
+        (None, Some(misfit)) => Position::of_line(tell_misfit(words, module, misfit)),
+        (None, None) => Position::Unknown,
     }
-    if let Some(misfit) = &explained.misfit {
-        tell_misfit(words, &keys, misfit);
+}
+
+// Reports why a text is not TOML, and where.
+fn tell_toml(words: &mut Words, why: &Error, text: &[u8]) -> Position {
+    words.say(ConfigFault::NotToml);
+    words.next_line();
+    words.say(why.message());
+    match why.span() {
+        Some(span) => Position::after(text, span.start),
+        None => Position::Unknown,
+    }
+}
+
+// The line of a key, or of the table that lacks it. None if neither is found, or if the table is that of the module.
+fn line_of(module: Written<'_>, place: ConfigPlace) -> Option<u64> {
+    let table = module.table(place.table)?;
+    if table.value(place.key).is_some() {
+        table.line_of(place.key.text())
+    } else if place.table == ConfigTable::Module {
+        None
+    } else {
+        table.line()
     }
 }
 
 // Reports the key at which a text is refused: what is found there, and what is expected.
-fn tell_key(words: &mut Words, keys: &Table, place: ConfigPlace) {
-    words.next_line();
-    say_table(words, keys, place);
+fn tell_key(words: &mut Words, fault: ConfigFault, module: Written<'_>, place: ConfigPlace) {
+    let value = match module.table(place.table) {
+        Some(table) => table.value(place.key),
+        None => None,
+    };
+    // That a key is missing is said of the key itself.
+    if value.is_some() {
+        words.say(fault);
+        words.next_line();
+    }
+    say_table(words, module, place);
     let key = place.key.text();
     words.say(format_args!("{key} is "));
-    match value_at(keys, place) {
+    match value {
         Some(value) => words.say_part(Part::Recorded, Given(value)),
         None => words.say_part(Part::Recorded, "missing"),
     }
     words.say("; expected ");
     words.begin_part(Part::Expected);
-    match range_at(keys, place) {
+    match range_at(module, place) {
         Some((least, most)) if least <= most => {
             words.say(format_args!("a number from {least} to {most}"));
         }
         Some(_) => words.say("a start before the end of the frame"),
-        None => say_expected(words, keys, place),
+        None => say_expected(words, module, place),
     }
     words.end_part();
 }
 
-// The value under a key, if there is one.
-fn value_at(keys: &Table, place: ConfigPlace) -> Option<&Value> {
-    table_at(keys, place.table)?.get(place.key.text())
-}
-
-// A table of a configuration, if there is one.
-fn table_at(keys: &Table, table: ConfigTable) -> Option<&Table> {
-    match table {
-        ConfigTable::Module => Some(keys),
-        ConfigTable::Item { list, index } => item(keys, list, index),
-        ConfigTable::End { list, index, end } => {
-            item(keys, list, index)?.get(end.text())?.as_table()
-        }
-        ConfigTable::Destination { channel, index } => item(
-            item(keys, ConfigKey::Sampling, channel)?,
-            ConfigKey::Destinations,
-            index,
-        ),
-    }
-}
-
-// The table at an index of a list, if there is one.
-fn item(keys: &Table, list: ConfigKey, index: usize) -> Option<&Table> {
-    items(keys, list.text()).get(index)?.as_table()
-}
-
 // Reports in which table a key is: by its list and its index there, and by its number, if that is read before the key.
-fn say_table(words: &mut Words, keys: &Table, place: ConfigPlace) {
+fn say_table(words: &mut Words, module: Written<'_>, place: ConfigPlace) {
     match place.table {
         ConfigTable::Module => {}
-        ConfigTable::Item { list, index } => say_item(words, keys, list, index, place.key),
+        ConfigTable::Item { list, index } => say_item(words, module, list, index, place.key),
         ConfigTable::End { list, index, end } => {
-            say_item(words, keys, list, index, place.key);
+            say_item(words, module, list, index, place.key);
             words.say(format_args!("{}, ", end.text()));
         }
         ConfigTable::Destination { channel, index } => {
-            say_item(words, keys, ConfigKey::Sampling, channel, place.key);
+            say_item(words, module, ConfigKey::Sampling, channel, place.key);
             words.say(format_args!("{} {index}, ", ConfigKey::Destinations.text()));
         }
     }
 }
 
 // Reports the table at an index of a list, and its number, if that is read before a key.
-fn say_item(words: &mut Words, keys: &Table, list: ConfigKey, index: usize, key: ConfigKey) {
+fn say_item(words: &mut Words, module: Written<'_>, list: ConfigKey, index: usize, key: ConfigKey) {
     words.say(format_args!("{} {index}", list.text()));
     let number_key = match list {
         ConfigKey::Partition => ConfigKey::Number,
         _ => ConfigKey::Channel,
     };
     if key != number_key {
-        if let Some(number) = number_at(item(keys, list, index), number_key) {
+        if let Some(number) = number_at(module.item(list, index), number_key) {
             words.say(format_args!(" ({} {number})", number_key.text()));
         }
     }
@@ -144,12 +161,12 @@ fn say_item(words: &mut Words, keys: &Table, list: ConfigKey, index: usize, key:
 }
 
 // The number under a key of a table, if there is one.
-fn number_at(table: Option<&Table>, key: ConfigKey) -> Option<u64> {
-    u64::try_from(table?.get(key.text())?.as_integer()?).ok()
+fn number_at(table: Option<Written<'_>>, key: ConfigKey) -> Option<u64> {
+    table?.number(key)
 }
 
 // The least and the greatest number that may be under a key, if the value must be a number with limits.
-fn range_at(keys: &Table, place: ConfigPlace) -> Option<(u64, u64)> {
+fn range_at(module: Written<'_>, place: ConfigPlace) -> Option<(u64, u64)> {
     let is_module = place.table == ConfigTable::Module;
     match place.key {
         ConfigKey::Cores if is_module => Some((1, MOST_CORES as u64)),
@@ -165,12 +182,12 @@ fn range_at(keys: &Table, place: ConfigPlace) -> Option<(u64, u64)> {
         | ConfigKey::Events
         | ConfigKey::Mutexes => Some((0, MOST_OBJECTS as u64)),
         ConfigKey::Core => {
-            let cores = number_at(Some(keys), ConfigKey::Cores)?;
+            let cores = module.number(ConfigKey::Cores)?;
             Some((0, cores.saturating_sub(1)))
         }
         ConfigKey::Length => {
-            let frame = number_at(Some(keys), ConfigKey::Frame)?;
-            let start = number_at(table_at(keys, place.table), ConfigKey::Start)?;
+            let frame = module.number(ConfigKey::Frame)?;
+            let start = number_at(module.table(place.table), ConfigKey::Start)?;
             Some((1, frame.saturating_sub(start)))
         }
         ConfigKey::Channel => Some((0, GREATEST_CHANNEL as u64)),
@@ -181,12 +198,14 @@ fn range_at(keys: &Table, place: ConfigPlace) -> Option<(u64, u64)> {
 }
 
 // Reports what is expected under a key whose value is not a number with limits.
-fn say_expected(words: &mut Words, keys: &Table, place: ConfigPlace) {
+fn say_expected(words: &mut Words, module: Written<'_>, place: ConfigPlace) {
     match place.key {
-        ConfigKey::Partition => words.say("a list of one or more tables"),
+        ConfigKey::Partition => {
+            words.say("a list of one or more tables, each with the header [[partition]]");
+        }
         ConfigKey::Cores => {
             words.say("a strictly ascending list of one or more numbers below ");
-            if let Some(cores) = number_at(Some(keys), ConfigKey::Cores) {
+            if let Some(cores) = module.number(ConfigKey::Cores) {
                 words.say(cores);
             }
         }
@@ -199,7 +218,10 @@ fn say_expected(words: &mut Words, keys: &Table, place: ConfigPlace) {
             words.say("\"FIFO\" or \"PRIORITY\"");
         }
         ConfigKey::Port => words.say("a string of 1 to 32 bytes from 0x20 to 0x7E"),
-        _ => words.say("a list of tables"),
+        list => words.say(format_args!(
+            "a list of tables, each with the header [[{}]]",
+            list.text()
+        )),
     }
 }
 

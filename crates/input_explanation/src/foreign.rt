@@ -1,11 +1,39 @@
-// Compressed files, which are recognised by their first bytes.
+// Files that are not plain text, which are recognised by their first bytes: compressed ones, and those in UTF-16.
 
 use std::fmt;
 use std::fmt::Write;
 use wording::Words;
 
-/// How many first bytes of a file show how it is compressed.
+/// How many first bytes of a file show that it is not plain text.
 pub const LONGEST_SIGNATURE: usize = 10;
+
+/// What a file is that is not plain text.
+#[derive(Clone, Copy, Debug, PartialEq, Eq)]
+pub enum Foreign {
+    Compressed(Compression),
+    Utf16,
+}
+
+impl Foreign {
+    /// What a file with these first bytes is; None if it may be plain text.
+    pub fn of(first: &[u8]) -> Option<Foreign> {
+        match first {
+            [0xFF, 0xFE, ..] | [0xFE, 0xFF, ..] => Some(Foreign::Utf16),
+            _ => match Compression::of(first) {
+                Some(compression) => Some(Foreign::Compressed(compression)),
+                None => None,
+            },
+        }
+    }
+
+    // The command that writes the text of such a file to its output, as far as the name of the file.
+    fn command(self) -> &'static str {
+        match self {
+            Foreign::Compressed(compression) => compression.command(),
+            Foreign::Utf16 => "iconv -f UTF-16 -t UTF-8",
+        }
+    }
+}
 
 // What follows the first bytes of bzip2: the first block, or the end of an empty text.
 const BZIP2_BLOCK: [u8; 6] = [0x31, 0x41, 0x59, 0x26, 0x53, 0x59];
@@ -22,8 +50,8 @@ pub enum Compression {
 }
 
 impl Compression {
-    /// How a file with these first bytes is compressed, if it is.
-    pub fn of(first: &[u8]) -> Option<Compression> {
+    // How a file with these first bytes is compressed, if it is.
+    fn of(first: &[u8]) -> Option<Compression> {
         match first {
             [0x1F, 0x8B, ..] => Some(Compression::Gzip),
             [0xFD, 0x37, 0x7A, 0x58, 0x5A, 0x00, ..] => Some(Compression::Xz),
@@ -86,20 +114,24 @@ fn is_plain(byte: u8) -> bool {
     byte.is_ascii_alphanumeric() || matches!(byte, b'/' | b'.' | b'_' | b'-' | b'+')
 }
 
-/// Reports how a file of this name is compressed, if it is, and how its text can be given instead.
-pub fn tell_compression(words: &mut Words, name: &str, compression: Option<Compression>) {
-    let Some(compression) = compression else {
+/// Reports what a file of this name is, if it is not plain text, and how its text can be given instead.
+pub fn tell_foreign(words: &mut Words, name: &str, foreign: Option<Foreign>) {
+    let Some(foreign) = foreign else {
         return;
     };
     words.next_line();
-    words.say(format_args!(
-        "the file is compressed with {}, and apexcheck reads only plain text",
-        compression.name()
-    ));
+    match foreign {
+        Foreign::Compressed(compression) => words.say(format_args!(
+            "the file is compressed with {}",
+            compression.name()
+        )),
+        Foreign::Utf16 => words.say("the file is in UTF-16"),
+    }
+    words.say("; only plain text in UTF-8 is read");
     words.next_line();
     words.say(format_args!(
         "in bash, write <({} {}) in place of its name",
-        compression.command(),
+        foreign.command(),
         ShellWord(name)
     ));
 }
