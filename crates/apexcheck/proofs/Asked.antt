@@ -12,7 +12,7 @@ use Rattle.clap.specs.declared.builder.command.Command.{Command}
 use Rattle.clap.specs.declared.parser.matches.ArgMatches.{ArgMatches}
 use Rattle.rule_options.specs.Options.{values_of}
 use Rattle.apexcheck.specs.CommandLine.{command_line, found_in}
-use Rattle.apexcheck.specs.Settings.{settings_of}
+use Rattle.apexcheck.specs.Settings.{least_of, settings_of}
 use Rattle.apexcheck.specs.Words.{AreNamed, AsksFor, Tells}
 use Rattle.apexcheck.specs.Wrong.{IsIncomplete, LacksFiles}
 use Rattle.apexcheck.specs.declared.usage.FilesAsked.{FilesAsked}
@@ -52,9 +52,10 @@ module _ (matches : ArgMatches) (given : List Row) (is : rows_of (found_of match
       → Ok asked.options ≡ ok_or (values_of (first_value (found_of matches) (codes "max-elapsed")) (first_value (found_of matches) (codes "forbid"))) UsageFault.Usage
       → Ok asked.settings
       ≡ ok_or (option_and_then (λ workers. settings_of workers (first_value (found_of matches) (codes "depth"))) (first_value (found_of matches) (codes "workers"))) UsageFault.Usage
+      → Ok asked.at_least ≡ ok_or (least_of (first_value (found_of matches) (codes "at-least"))) UsageFault.Usage
       → Tells (one_text (found_of matches) (codes "last")) asked.last → Tells (one_text (found_of matches) (codes "quiet")) asked.quiet
       → AsksFor given asked
-  asks_for asked names sarif options settings last quiet = record {
+  asks_for asked names sarif options settings least last quiet = record {
     config = names.config ∙ first (codes "config");
     rules = names.rules ∙ first (codes "rules");
     order = names.order ∙ first (codes "order");
@@ -63,6 +64,7 @@ module _ (matches : ArgMatches) (given : List Row) (is : rows_of (found_of match
     options = value_of _ UsageFault.Usage asked.options options ∙ ap₂ values_of (first (codes "max-elapsed")) (first (codes "forbid"));
     settings = value_of _ UsageFault.Usage asked.settings settings
         ∙ ap₂ (λ depth text. option_and_then (λ workers. settings_of workers depth) text) (first (codes "depth")) (first (codes "workers"));
+    at_least = value_of _ UsageFault.Usage asked.at_least least ∙ ap least_of (first (codes "at-least"));
     last = subst (λ text. Tells text asked.last) (one (codes "last")) last;
     quiet = subst (λ text. Tells text asked.quiet) (one (codes "quiet")) quiet;
   }
@@ -85,8 +87,12 @@ module _ (matches : ArgMatches) (given : List Row) (is : rows_of (found_of match
       ≡ ok_or (option_and_then (λ workers. settings_of workers (first_value (found_of matches) (codes "depth"))) (first_value (found_of matches) (codes "workers"))) UsageFault.Usage
       → IsIncomplete given
   lacks_settings fault refused =
-      inr (inr (inr (inr (sym (ap₂ (λ depth text. option_and_then (λ workers. settings_of workers depth) text) (first (codes "depth")) (first (codes "workers")))
-      ∙ none_of _ UsageFault.Usage fault refused))))
+      inr (inr (inr (inr (inl (sym (ap₂ (λ depth text. option_and_then (λ workers. settings_of workers depth) text) (first (codes "depth")) (first (codes "workers")))
+      ∙ none_of _ UsageFault.Usage fault refused)))))
+
+  -- nor is a least number of records that is no number
+  pub lacks_least : (fault : UsageFault) → Err fault ≡ ok_or (least_of (first_value (found_of matches) (codes "at-least"))) UsageFault.Usage → IsIncomplete given
+  lacks_least fault refused = inr (inr (inr (inr (inr (sym (ap least_of (first (codes "at-least"))) ∙ none_of _ UsageFault.Usage fault refused)))))
 
 -- what holds of the error that a result has
 pub of_error : {Value Fault : Type 0} (Same Fact : Fault → Type 0) → ((fault : Fault) → Same fault → Fact fault) → (result : Result Value Fault) → IsErrAnd result Same

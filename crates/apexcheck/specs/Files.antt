@@ -24,7 +24,7 @@ given_of known can_fail opened = given_by opened.config.items (map known opened.
 -- a run over opened texts ends as it was requested
 abbrev pub EndsAsAsked : {S : Type 0} → (S → Option (List ℕ)) → Bool → Opened S → FilesAsked → Ending → Type 0
 EndsAsAsked known can_fail opened asked ending =
-    IsRuledEnding (given_of known can_fail opened) (in_order asked.options) (option_map (λ text. text.items) opened.rules) asked.settings asked.last ending
+    IsRuledEnding (given_of known can_fail opened) (in_order asked.options) (option_map (λ text. text.items) opened.rules) asked.settings asked.at_least asked.last ending
 
 -- a file was opened for each recording that is named, and the rules file if one is named
 pub record AreOpened {S : Type 0} (names : InputNames) (opened : Opened S) : Type 0 where

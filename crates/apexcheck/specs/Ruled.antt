@@ -15,8 +15,7 @@ use Rattle.user_rules.specs.declared.relation.Relation.{Relation}
 use Rattle.user_rules.specs.Meets.{meets}
 use Rattle.verdict_merge.specs.declared.verdict.Verdict.{Verdict}
 use Rattle.apexcheck.specs.declared.ending.Ending.{Ending}
-use Rattle.apexcheck.specs.declared.ending.Ending.TheVariants.{Checked}
-use Rattle.apexcheck.specs.Endings.{out_of_memory, refused_by}
+use Rattle.apexcheck.specs.Endings.{end_of_check, out_of_memory, refused_by}
 
 -- the rules of a rules file, or where the walk over it stops; there are none if there is no file
 abbrev pub walk_given : Option (List ℕ) → Result (List SaidRule) RulesRefusal
@@ -48,15 +47,16 @@ abbrev pub where_asked : Bool → List LastItem → Option (List LastItem)
 where_asked true last = Some last
 where_asked false last = None
 
--- the end for a rules file: its first refusal, else the answer under its rules, with the last records if they are requested
-abbrev pub IsEndingBy : Result (List SaidRule) RulesFault → Given → List RuleOption → Settings → Bool → Ending → Type 0
-IsEndingBy (Err fault) given options settings asked ending = ending ≡ refused_by fault
-IsEndingBy (Ok rules) given options settings asked ending =
-    (outcome : Result Verdict CheckFault) × (last : List LastItem) × (ending ≡ Checked outcome (where_asked asked last))
+-- the end for a rules file: its first refusal, else the end by the answer under its rules, which refuses a Yes for fewer records than are
+-- required, with the last records if they are requested
+abbrev pub IsEndingBy : Result (List SaidRule) RulesFault → Given → List RuleOption → Settings → Option ℕ → Bool → Ending → Type 0
+IsEndingBy (Err fault) given options settings least asked ending = ending ≡ refused_by fault
+IsEndingBy (Ok rules) given options settings least asked ending =
+    (outcome : Result Verdict CheckFault) × (last : List LastItem) × (ending ≡ end_of_check least outcome (where_asked asked last))
     × AnswersRuled given options rules settings outcome last
 
--- the end of a run over these inputs, with the rules file if there is one, and with the last records if they are requested; a lack of
--- memory outranks it
-abbrev pub IsRuledEnding : Given → List RuleOption → Option (List ℕ) → Settings → Bool → Ending → Type 0
-IsRuledEnding given options rules settings asked ending =
-    (ending ≡ out_of_memory) ⊎ IsEndingBy (rules_given rules) given options settings asked ending
+-- the end of a run over these inputs, with the rules file if there is one, with the number of records that are required, if it is given, and
+-- with the last records if they are requested; a lack of memory outranks it
+abbrev pub IsRuledEnding : Given → List RuleOption → Option (List ℕ) → Settings → Option ℕ → Bool → Ending → Type 0
+IsRuledEnding given options rules settings least asked ending =
+    (ending ≡ out_of_memory) ⊎ IsEndingBy (rules_given rules) given options settings least asked ending

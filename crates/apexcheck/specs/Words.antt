@@ -8,7 +8,7 @@ use Rattle.rule_options.specs.Options.{values_of}
 use Rattle.apexcheck.specs.declared.usage.Asked.{Asked}
 use Rattle.apexcheck.specs.declared.usage.Asked.TheVariants.{Files}
 use Rattle.apexcheck.specs.declared.usage.FilesAsked.{FilesAsked}
-use Rattle.apexcheck.specs.Settings.{settings_of}
+use Rattle.apexcheck.specs.Settings.{least_of, settings_of}
 
 -- after the program's own name comes only `--version`
 abbrev pub asks_version : List (List ℕ) → Bool
@@ -28,8 +28,8 @@ pub record Tells (text : Option (List ℕ)) (given : Bool) : Type 0 where
   pub is_not : text ≡ Some (codes "false") → given ≡ false
   pub is_unknown : text ≡ None → given ≡ false
 
--- what is requested is what the words give: the files by their options, the recordings in their order, the rules, the settings, and what is
--- reported
+-- what is requested is what the words give: the files by their options, the recordings in their order, the rules, the settings, the number
+-- of records that are required, and what is reported
 pub record AsksFor (given : List Row) (asked : FilesAsked) : Type 0 where
   pub config : Some (string_bytes asked.names.config) ≡ first_of (codes "config") given
   pub rules : option_map string_bytes asked.names.rules ≡ first_of (codes "rules") given
@@ -38,6 +38,7 @@ pub record AsksFor (given : List Row) (asked : FilesAsked) : Type 0 where
   pub sarif : option_map string_bytes asked.sarif ≡ first_of (codes "sarif") given
   pub options : Some asked.options ≡ values_of (first_of (codes "max-elapsed") given) (first_of (codes "forbid") given)
   pub settings : Some asked.settings ≡ option_and_then (λ workers. settings_of workers (first_of (codes "depth") given)) (first_of (codes "workers") given)
+  pub at_least : Some asked.at_least ≡ least_of (first_of (codes "at-least") given)
   pub last : Tells (one_of (codes "last") given) asked.last
   pub quiet : Tells (one_of (codes "quiet") given) asked.quiet
 

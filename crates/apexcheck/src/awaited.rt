@@ -2,7 +2,8 @@
 
 ghost use Rattle.std.specs.Prelude.{◌≡◌};
 
-use answer_words::InputNames;
+use crate::explained::tell;
+use answer_words::{InputNames, words_of_awaited};
 use csv_rows::TextSource;
 use std::alloc::{AllocError, Global};
 use std::fs::Files;
@@ -11,7 +12,7 @@ use std::sync::{Arc, Condvar, Mutex, Wait};
 use std::thread::{Builder, JoinHandle, Threads};
 use std::time::{Clock, Duration};
 use std::{fs, io};
-use wording::Words;
+use wording::Look;
 
 /// How many milliseconds a read may continue after the answer is known before it is reported.
 const PATIENCE: u64 = 1_000;
@@ -100,12 +101,7 @@ impl Awaited {
         }
         for (name, reading) in self.names.iter().zip(self.reading.iter()) {
             if reading.load(Ordering::SeqCst) {
-                let mut words = Words::new(self.alloc);
-                words.say(format_args!(
-                    "the answer is known, and will be printed once {name} sends more or ends"
-                ));
-                // Standard error only helps a person, so a failure there changes nothing.
-                let _ = rt.eprintln(format_args!("apexcheck: {}", words.shown(false)));
+                tell(rt, &words_of_awaited(self.alloc, name), Look::plain());
             }
         }
     }

@@ -2,8 +2,8 @@
 
 ghost use Rattle.std.specs.Prelude.{◌≡◌, ◌≢◌, ◌<◌, ◌++◌, OnErr, OnOk};
 ghost use Rattle.report.specs.Text.{report_of};
-ghost use Rattle.apexcheck.specs.declared.ending.Ending.TheVariants.{BadRule, BadRules};
-ghost use Rattle.apexcheck.specs.Endings.{exit_status_of, lines_after, out_of_memory, text_of, refused_by, refused_words, rule_fault_name};
+ghost use Rattle.apexcheck.specs.declared.ending.Ending.TheVariants.{BadRule, BadRules, Few};
+ghost use Rattle.apexcheck.specs.Endings.{end_of_check, exit_status_of, lines_after, out_of_memory, text_of, refused_by, refused_words, rule_fault_name};
 ghost use Rattle.sink.specs.Written.{IsCut, IsWritten};
 
 use crate::usage::UsageFault;
@@ -24,6 +24,10 @@ pub enum Ending {
         outcome: Result<Verdict, CheckFault>,
         /// The last records before the place of a No, if they are requested.
         last: Option<Last>,
+    },
+    /// The answer is a Yes, but for fewer records than are required.
+    Few {
+        records: u64,
     },
     /// The words of the command line are not those of the usage.
     BadUsage,
@@ -47,7 +51,25 @@ pub fn status_of(ending: &Ending) -> u8
     match ending {
         Ending::Checked { outcome, .. } => status_of_outcome(outcome),
         Ending::Version => 0,
-        Ending::BadUsage | Ending::Unopened | Ending::BadRules(_) | Ending::BadRule { .. } => 2,
+        Ending::Few { .. }
+        | Ending::BadUsage
+        | Ending::Unopened
+        | Ending::BadRules(_)
+        | Ending::BadRule { .. } => 2,
+    }
+}
+
+/// The end of a check by its outcome, with the last records if they are requested. A Yes for fewer records than are required is refused.
+pub fn end_of_check(
+    at_least: Option<u64>,
+    outcome: Result<Verdict, CheckFault>,
+    last: Option<Last>,
+) -> Ending
+    ensures { result ≡ end_of_check at_least outcome last }
+{
+    match (at_least, outcome) {
+        (Some(least), Ok(Verdict::Yes { records })) if records < least => Ending::Few { records },
+        (_, outcome) => Ending::Checked { outcome, last },
     }
 }
 
@@ -113,6 +135,7 @@ pub fn write_ending<W: Sink>(w: &mut W, ending: &Ending) -> Result<(), WriteFaul
 {
     match ending {
         Ending::Checked { outcome, last } => write_outcome(w, outcome, last),
+        Ending::Few { records } => write_few(w, *records),
         Ending::BadUsage => put_all(w, b"REFUSED usage\n"),
         Ending::Unopened => put_all(w, b"REFUSED open\n"),
         Ending::BadRules(fault) => write_bad_rules(w, *fault),
@@ -137,6 +160,24 @@ fn write_outcome<W: Sink>(
         Some(last) => write_last(w, last),
         None => Ok(()),
     }
+}
+
+// Writes the refusal of a Yes for this number of records.
+fn write_few<W: Sink>(w: &mut W, records: u64) -> Result<(), WriteFault>
+    ensures whole { OnOk result (IsWritten (W.bytes w.old) (text_of (Few records)) (W.bytes w.new)) }
+    ensures same { OnOk result (W.failures w.new ≡ W.failures w.old) }
+    ensures cut { OnErr result (IsCut (W.bytes w.old) (text_of (Few records)) (W.bytes w.new)) }
+    ensures failed { OnErr result (W.failures w.old < W.failures w.new) }
+{
+    let mut number = Buffer::new();
+    put_parts(
+        w,
+        &[
+            b"REFUSED few records=",
+            number.format(records).as_bytes(),
+            b"\n",
+        ],
+    )
 }
 
 // Writes the refusal of a rules file for this fault.

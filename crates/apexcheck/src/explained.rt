@@ -1,17 +1,23 @@
 // The answer in words, on standard error, after its line. It decides nothing: a failure there, or a lack of memory, ends only the words.
 
-use crate::ending::Ending;
+use crate::ending::{Ending, UNWRITTEN};
 use crate::sarif::write_log;
-use crate::usage::{Asked, FilesAsked, UsageFault, tell_usage};
-use answer_words::{Explainer, RunFiles};
+use crate::usage::{Asked, FilesAsked, UsageFault};
+use answer_words::{
+    Explainer, RunFiles, Told, words_of_stored_run, words_of_unwritten_log,
+    words_of_unwritten_output,
+};
+use program_words::{Documents, Program, tell_usage};
+use report::Verdict;
 use std::alloc::Global;
 use std::fs::Files;
 use std::io::{Read, Write};
 use std::rt::Env;
-use wording::Words;
+use wording::{Look, Words};
 
-/// Explains the line to a person: where the record, the row or the key is, what was found and what was expected; and which keys
-/// of the configuration are ignored. With `--quiet` it prints only what was noted. With `--sarif` it writes the outcome as a log.
+/// Explains the line to a person: where the record, the row or the key is, what was found and what was expected; which keys of the
+/// configuration are ignored; and which recordings have no record. With `--quiet` it prints only what was noted. With `--sarif` it writes
+/// the outcome as a log.
 ///
 /// `status` is the exit status of the program.
 pub fn explain<'a, R: Env + Files<File = F> + Eprint + AllocGlobal, F: Read + Write + Drop>(
@@ -22,10 +28,19 @@ pub fn explain<'a, R: Env + Files<File = F> + Eprint + AllocGlobal, F: Read + Wr
     explainer: &'a Explainer,
     status: u8,
 ) {
+    let documents = Documents::find(rt, alloc);
+    let look = Look {
+        in_colour: explainer.terminal().in_colour,
+        documents: documents.folder(),
+    };
     match asked {
-        Ok(Asked::Files(asked)) => explain_files(rt, alloc, asked, ending, explainer, status),
-        Ok(Asked::StoredRun | Asked::Version) | Err(UsageFault::Memory) => {}
-        Err(UsageFault::Usage) => tell_usage(rt, alloc, explainer.terminal().in_colour),
+        Ok(Asked::StoredRun) => tell(rt, &words_of_stored_run(alloc), look),
+        Ok(Asked::Files(asked)) => explain_files(rt, alloc, asked, ending, explainer, look, status),
+        Ok(Asked::Version) | Err(UsageFault::Memory) => {}
+        Err(UsageFault::Usage) => tell_usage(rt, alloc, Program::Check, look),
+    }
+    if status == UNWRITTEN {
+        tell(rt, &words_of_unwritten_output(alloc), look);
     }
 }
 
@@ -36,38 +51,60 @@ fn explain_files<'a, R: Files<File = F> + Eprint, F: Read + Write + Drop>(
     asked: &'a FilesAsked,
     ending: &Ending,
     explainer: &'a Explainer,
+    look: Look<'_>,
     status: u8,
 ) {
-    let in_colour = explainer.terminal().in_colour;
-    tell(rt, explainer.noted(), in_colour);
+    tell(rt, explainer.noted(), look);
     let names = &asked.names;
     if asked.quiet && asked.sarif.is_none() {
         return;
     }
     let files = RunFiles { rt, alloc, names };
-    let told = match ending {
-        Ending::Checked { outcome, .. } => files.told_of(outcome, explainer),
-        _ => None,
-    };
+    let told = told_of(&files, asked, ending, explainer);
     if !asked.quiet {
-        tell(rt, &files.unknown_keys(explainer), in_colour);
+        tell(rt, &files.unknown_keys(explainer), look);
+        tell(rt, &files.warnings(explainer), look);
         if let Some(told) = &told {
-            tell(rt, &told.words, in_colour);
+            tell(rt, &told.words, look);
+        }
+        if let Ending::Checked {
+            outcome: Ok(Verdict::Yes { records }),
+            ..
+        } = ending
+        {
+            tell(rt, &files.without_records(*records), look);
         }
     }
     if let Some(name) = &asked.sarif {
         if let Err(e) = write_log(&files, name, ending, explainer, told.as_ref(), status) {
-            let mut words = Words::new(alloc);
-            words.say(format_args!("{name}: the log could not be written: {e}"));
-            tell(rt, &words, in_colour);
+            tell(rt, &words_of_unwritten_log(alloc, name, e), look);
         }
     }
 }
 
-// Prints the words, if there are any, with their parts in colours or without.
-fn tell(rt: &impl Eprint, words: &Words, in_colour: bool) {
+// Why the answer is not Yes. None after a Yes, or if only a note says why.
+fn told_of<'a, R: Files<File = F>, F: Read + Drop>(
+    files: &RunFiles<'a, R>,
+    asked: &FilesAsked,
+    ending: &Ending,
+    explainer: &Explainer,
+) -> Option<Told<'a>> {
+    match ending {
+        Ending::Checked { outcome, .. } => match files.told_of(outcome, explainer) {
+            Some(mut told) => {
+                files.tell_other_orders(&mut told, outcome);
+                Some(told)
+            }
+            None => None,
+        },
+        Ending::Few { records } => Some(files.told_of_few(*records, asked.at_least?)),
+        _ => None,
+    }
+}
+
+/// Prints the words, if there are any. A failure there changes nothing, since standard error only helps a person.
+pub fn tell(rt: &impl Eprint, words: &Words, look: Look<'_>) {
     if !words.is_empty() {
-        // Standard error only helps a person, so a failure there changes nothing.
-        let _ = rt.eprintln(format_args!("apexcheck: {}", words.shown(in_colour)));
+        let _ = rt.eprintln(format_args!("apexcheck: {}", words.shown(look)));
     }
 }

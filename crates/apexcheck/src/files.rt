@@ -7,7 +7,7 @@ ghost use Rattle.apexcheck.specs.Ruled.{where_asked};
 
 use crate::awaited::{Awaited, Observed, copy_of, end_watch, watch};
 use crate::course::Course;
-use crate::ending::{Ending, out_of_memory, refused_by};
+use crate::ending::{Ending, end_of_check, out_of_memory, refused_by};
 use crate::ruled::{check_ruled, read_rules};
 use crate::usage::FilesAsked;
 use answer_words::{Explainer, note_broken, open, open_text};
@@ -92,8 +92,9 @@ impl<F: Read + Drop + Send + 'static> Opened<Observed<Watched<F>>> {
 }
 
 impl<S: TextSource + Drop + Send + 'static> Opened<S> {
-    // Judges the rules file, and then checks the other files under the rules of the options and of the rules file. The end has the last
-    // records before the place of a No if they are requested. The explainer receives what explains the end.
+    // Judges the rules file, and then checks the other files under the rules of the options and of the rules file. A Yes for fewer records
+    // than are required is refused. The end has the last records before the place of a No if they are requested. The explainer receives
+    // what explains the end.
     fn check<R>(
         self,
         rt: &R,
@@ -141,10 +142,7 @@ impl<S: TextSource + Drop + Send + 'static> Opened<S> {
         if asked.sarif.is_some() {
             explainer.keep_last(&last);
         }
-        Ending::Checked {
-            outcome,
-            last: where_asked(asked.last, last),
-        }
+        end_of_check(asked.at_least, outcome, where_asked(asked.last, last))
     }
 }
 

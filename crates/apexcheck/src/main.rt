@@ -3,8 +3,8 @@
 //!
 //! Promises: what is printed is the text of how the run ended, and the exit status is that of the end; if the output could not be written,
 //! the status says so. A run with options that request rules and with a rules file ends with the file's first refusal, or with the outcome
-//! under relations that say what the options request and then what the rules of the file say. After it come the last records before the
-//! place of a No, if they are requested, and otherwise nothing.
+//! under relations that say what the options request and then what the rules of the file say. A Yes for fewer records than are required is
+//! refused. After the outcome come the last records before the place of a No, if they are requested, and otherwise nothing.
 //!
 //! The options of the command line are a definition (`CommandLine.antt`). What words ask for is what the parser finds in them for these
 //! options (`Words.antt`). Workers and depth are passed on as they are given, and the check refuses what is out of range. `main` first
@@ -32,7 +32,7 @@ mod stored;
 mod usage;
 
 use answer_words::{Explainer, Terminal};
-use ending::{Ending, UNWRITTEN, conclude, out_of_memory, refused_words};
+use ending::{Ending, conclude, out_of_memory, refused_words};
 use explained::explain;
 use sink::WriterSink;
 use std::alloc::Global;
@@ -64,10 +64,6 @@ fn main(rt: HostRuntime) -> ExitCode {
     let mut output = WriterSink::new(io::writer(&rt));
     let status = conclude(&mut output, &ending);
     explain(&rt, alloc, &asked, &ending, &explainer, status);
-    if status == UNWRITTEN {
-        // Standard error only helps a person, so a failure there changes nothing.
-        let _ = rt.eprintln("apexcheck: standard output could not be written");
-    }
     ExitCode::from(status)
 }
 

@@ -14,6 +14,7 @@ use std::fmt::{Debug, Display};
 use std::fs::{File, Files};
 use std::io::{ErrorKind, Read, Write};
 use std::{fs, io};
+use wording::Look;
 
 /// The version of the program that wrote a log.
 const VERSION: &str = "1.0.0";
@@ -114,14 +115,16 @@ fn rule_of(
             ),
             Err(CheckFault::Input(fault)) => rule_of_input(alloc, fault),
         },
-        Ending::Unopened => Ok(Some(OwnRule {
-            id: String::from_str(alloc, "open")?,
-            help: String::from_str(
-                alloc,
-                "a file cannot be opened, or the configuration or the rules file cannot be read.",
-            )?,
-            section: String::from_str(alloc, "docs/FORMATS.md, The command line")?,
-        })),
+        Ending::Few { .. } => rule_of_command_line(
+            alloc,
+            "few",
+            "The records that are judged are at least as many as --at-least requires.",
+        ),
+        Ending::Unopened => rule_of_command_line(
+            alloc,
+            "open",
+            "a file cannot be opened, or the configuration or the rules file cannot be read.",
+        ),
         Ending::BadRules(fault) | Ending::BadRule { fault, .. } => rule_of_fault(
             alloc,
             "rules",
@@ -168,12 +171,25 @@ fn rule_of_cause(alloc: Global, cause: Cause) -> Result<OwnRule, AllocError> {
 
 // The user's rule that is broken.
 fn rule_of_user(alloc: Global, explainer: &Explainer) -> Result<OwnRule, AllocError> {
-    let name = explainer.broken_rule().shown(false);
+    let name = explainer.broken_rule().shown(Look::plain());
     Ok(OwnRule {
         id: format!(in alloc; "rule/{name}")?,
         help: format!(in alloc; "The view of each record meets the rule: {name}.")?,
         section: String::from_str(alloc, "docs/SPECIFICATION.md, part 12")?,
     })
+}
+
+// A rule of the command line.
+fn rule_of_command_line(
+    alloc: Global,
+    id: &str,
+    help: &str,
+) -> Result<Option<OwnRule>, AllocError> {
+    Ok(Some(OwnRule {
+        id: String::from_str(alloc, id)?,
+        help: String::from_str(alloc, help)?,
+        section: String::from_str(alloc, "docs/FORMATS.md, The command line")?,
+    }))
 }
 
 // The rule of a fault of this kind of input.
@@ -198,9 +214,15 @@ fn message_of(
 ) -> Result<String, AllocError> {
     let noted = explainer.noted();
     match told {
-        Some(told) if noted.is_empty() => format!(in alloc; "{}", told.words.shown(false)),
-        Some(told) => { format!(in alloc; "{}\n{}", noted.shown(false), told.words.shown(false)) }
-        None => format!(in alloc; "{}", noted.shown(false)),
+        Some(told) if noted.is_empty() => format!(in alloc; "{}", told.words.shown(Look::plain())),
+        Some(told) => {
+            format!(in alloc;
+                "{}\n{}",
+                noted.shown(Look::plain()),
+                told.words.shown(Look::plain())
+            )
+        }
+        None => format!(in alloc; "{}", noted.shown(Look::plain())),
     }
 }
 
@@ -215,7 +237,7 @@ fn place_of(
     match ending {
         Ending::Unopened => place_in(alloc, explainer.unopened(), None),
         Ending::BadRules(_) | Ending::BadRule { .. } => {
-            place_in(alloc, names.rules.as_deref(), None)
+            place_in(alloc, names.rules.as_deref(), explainer.rules_line())
         }
         _ => match told {
             Some(told) => place_in(alloc, told.file, told.line()),

@@ -7,52 +7,19 @@ ghost use Rattle.clap.specs.Walk.{rows_of};
 ghost use Rattle.clap.specs.Words.{app_of, first_value, found_of, one_text, rule_of};
 ghost use Rattle.rule_options.specs.Options.{values_of};
 ghost use Rattle.apexcheck.specs.CommandLine.{command_line, flag_of, found_in, option_of, recordings};
-ghost use Rattle.apexcheck.specs.Settings.{settings_of};
+ghost use Rattle.apexcheck.specs.Settings.{least_of, settings_of};
 ghost use Rattle.apexcheck.specs.Words.{AreNamed, AsksFor, AsksForFiles, asks_version};
 ghost use Rattle.apexcheck.specs.Wrong.{IsWrong, LacksFiles};
 
-use crate::settings::read_settings;
+use crate::settings::{read_least, read_settings};
 use answer_words::InputNames;
 use clap::error::ErrorKind;
 use clap::{Arg, ArgAction, ArgMatches, Command};
-use input_explanation::tell_command_line;
 use report::Settings;
 use rule_options::RuleOptions;
 use std::alloc::{AllocError, Global};
 use std::rt::Env;
 use std::{env, io};
-use wording::Words;
-
-/// What is printed for a person whose command line is refused.
-pub const USAGE: &str = "usage: apexcheck --config FILE --order FILE --workers N [OPTION]... CORE...
-       apexcheck --version
-       apexcheck
-
-Checks the recordings of the cores of an ARINC 653 module, in one proposed
-order, and prints the answer in one line. Without arguments, it checks a small
-run of its own.
-
-Inputs:
-  --config FILE      the configuration of the module (required)
-  --order FILE       the certificate, which proposes the order (required)
-  CORE...            one recording for each core, core 0 first
-
-Speed, which does not change the answer:
-  --workers N        judge with N threads, 1 to 64 (required)
-  --depth N          read N records ahead in each recording, 1 to 4096
-                     (default 64)
-
-Rules of your own:
-  --max-elapsed N    every call that returns does so within N ticks
-  --forbid SERVICE   no call is of SERVICE
-  --rules FILE       the rules in FILE
-
-Output:
-  --last             after the line of a NO, print the last records before its
-                     place, at most 8
-  --quiet            do not explain the answer on standard error
-  --sarif FILE       write the outcome to FILE as a SARIF 2.1.0 log
-  --version          print the version; this must be the only argument";
 
 /// What the command line requests.
 #[derive(Debug, Drop)]
@@ -76,6 +43,8 @@ pub struct FilesAsked {
     pub options: RuleOptions,
     /// How the check is carried out.
     pub settings: Settings,
+    /// How many records a Yes must have, if a number is given.
+    pub at_least: Option<u64>,
     /// Whether the last records before the place of a No are requested.
     pub last: bool,
     /// Whether standard error should not explain why the answer is not Yes.
@@ -99,22 +68,6 @@ pub fn from_words(rt: &(impl Env + AllocGlobal), alloc: Global) -> Result<Asked,
         Err(_) => return Err(UsageFault::Usage),
     };
     read_words(alloc, words.as_slice())
-}
-
-/// Prints what is wrong with the words that were given to the program, in colours or without, and its usage.
-pub fn tell_usage(rt: &(impl Env + Eprint + AllocGlobal), alloc: Global, in_colour: bool) {
-    let mut reported = Words::new(alloc);
-    match env::args(rt) {
-        Ok(words) => {
-            if let Ok(words) = words.collect::<Vec<String>>(alloc) {
-                tell_command_line(&mut reported, words.as_slice());
-            }
-        }
-        Err(_) => reported.say("an argument is not valid UTF-8"),
-    }
-    // Standard error only helps a person, so a failure there changes nothing.
-    let _ = rt.eprintln(format_args!("apexcheck: {}", reported.shown(in_colour)));
-    let _ = rt.eprintln(USAGE);
 }
 
 // Reads what these words request. The first word is the program's own name.
@@ -149,7 +102,7 @@ fn run_over_files(alloc: Global, words: &[String]) -> Result<Asked, UsageFault>
     Ok(Asked::Files(files_asked(alloc, words)?))
 }
 
-// The files, the rules and the settings that the words request.
+// The files, the rules, the settings and the number of records that the words request.
 fn files_asked(alloc: Global, words: &[String]) -> Result<FilesAsked, UsageFault>
     ensures asked { IfOk result (AsksFor (found_in (map string_bytes words.now))) }
     ensures refused { IfErr result (λ fault. fault ≡ UsageFault.Usage → IsWrong (map string_bytes words.now)) }
@@ -160,6 +113,7 @@ fn files_asked(alloc: Global, words: &[String]) -> Result<FilesAsked, UsageFault
         sarif: sarif_asked(alloc, &matches)?,
         options: rule_options(&matches)?,
         settings: settings_asked(&matches)?,
+        at_least: least_asked(&matches)?,
         last: asks_last(&matches),
         quiet: asks_quiet(&matches),
     })
@@ -189,6 +143,13 @@ fn settings_asked(matches: &ArgMatches<'_>) -> Result<Settings, UsageFault>
     let workers = text_of(matches, "workers").ok_or(UsageFault::Usage)?;
     let depth = text_of(matches, "depth");
     read_settings(workers, depth).ok_or(UsageFault::Usage)
+}
+
+// The number of records that are required, if it is given.
+fn least_asked(matches: &ArgMatches<'_>) -> Result<Option<u64>, UsageFault>
+    ensures { result ≡ ok_or (least_of (first_value (found_of matches.now) (codes "at-least"))) UsageFault.Usage }
+{
+    read_least(text_of(matches, "at-least")).ok_or(UsageFault::Usage)
 }
 
 // Whether the last records are requested.
@@ -315,6 +276,7 @@ fn command<'a>(alloc: Global) -> Result<Command<'a>, AllocError>
         .arg(option(alloc, "max-elapsed"))?
         .arg(option(alloc, "forbid"))?
         .arg(option(alloc, "rules"))?
+        .arg(option(alloc, "at-least"))?
         .arg(flag(alloc, "last"))?
         .arg(flag(alloc, "quiet"))?
         .arg(option(alloc, "sarif"))?

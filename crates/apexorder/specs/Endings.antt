@@ -12,11 +12,12 @@ use Rattle.order_run.specs.Proposal.{IsProposed}
 use Rattle.order_run.specs.Rows.{rows_of}
 use Rattle.report.specs.declared.fault.CheckFault.TheVariants as fault
 use Rattle.apexorder.specs.declared.ending.Ending.{Ending}
-use Rattle.apexorder.specs.declared.ending.Ending.TheVariants.{Proposed, Refused, BadUsage, Unopened, Unwritten, Version}
+use Rattle.apexorder.specs.declared.ending.Ending.TheVariants.{Proposed, Refused, BadUsage, Unopened, Unwritten, Version, Help}
 use Rattle.apexorder.specs.declared.usage.UsageFault.{UsageFault}
 use Rattle.apexorder.specs.declared.usage.UsageFault.TheVariants as words
 
--- 0 for an order and for the version, 1 if none was found, 3 if memory is refused, 2 for every other refusal, and 4 if the output failed
+-- 0 for an order, the version and the help, 1 if no order was found, 3 if memory is refused, 2 for every other refusal, and 4 if the
+-- output failed
 abbrev pub status_of : Ending → ℕ
 status_of (Proposed (Found records)) = 0
 status_of (Proposed (NotFound refused)) = 1
@@ -26,6 +27,7 @@ status_of BadUsage = 2
 status_of Unopened = 2
 status_of Unwritten = 4
 status_of Version = 0
+status_of Help = 0
 
 -- the end where there is no proposal
 abbrev pub ending_of : ProposalFault → Ending

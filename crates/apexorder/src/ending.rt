@@ -10,7 +10,7 @@ use report::CheckFault;
 /// How a run of the program ends.
 #[derive(Clone, Copy, Debug, Drop)]
 pub enum Ending {
-    /// All records are in an order, in which they are a run of the machine, or up to a place.
+    /// All records were put in an order. In it they are a run of the machine, or the first of them are, up to a place.
     Proposed(Proposal),
     /// The inputs are refused, or memory is.
     Refused(CheckFault),
@@ -18,20 +18,22 @@ pub enum Ending {
     BadUsage,
     /// A file could not be opened, or the configuration could not be read.
     Unopened,
-    /// The certificate could not be written.
+    /// Standard output could not be written.
     Unwritten,
-    /// The version was asked for.
+    /// The version was requested.
     Version,
+    /// The help was requested.
+    Help,
 }
 
 impl Ending {
-    /// The exit status: 0 for an order or the version, 1 if none was found, 2 if an input is refused, 3 if memory is, and 4 if the
-    /// output failed.
+    /// The exit status: 0 for an order, the version or the help, 1 if no order was found, 2 if an input is refused, 3 if memory is, and 4
+    /// if the output failed.
     pub fn status(&self) -> u8
         ensures { result ≡ status_of self.now }
     {
         match self {
-            Ending::Proposed(Proposal::Found { .. }) | Ending::Version => 0,
+            Ending::Proposed(Proposal::Found { .. }) | Ending::Version | Ending::Help => 0,
             Ending::Proposed(Proposal::NotFound(_)) => 1,
             Ending::Refused(CheckFault::Memory) => 3,
             Ending::Refused(_) | Ending::BadUsage | Ending::Unopened => 2,
@@ -40,7 +42,7 @@ impl Ending {
     }
 }
 
-/// The end where the command line is refused.
+/// The end by a refusal of the command line.
 pub fn refused_words(fault: UsageFault) -> Ending
     ensures { result ≡ ending_of_words fault }
 {
@@ -50,7 +52,7 @@ pub fn refused_words(fault: UsageFault) -> Ending
     }
 }
 
-/// The end where there is no proposal.
+/// The end without a proposal.
 pub fn refused_by(fault: ProposalFault) -> Ending
     ensures { result ≡ ending_of fault }
 {

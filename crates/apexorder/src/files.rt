@@ -14,12 +14,12 @@ use std::io;
 use std::io::{ErrorKind, Read};
 use std::rt::Clock;
 
-// Why the files are not all there.
+// Why not all files were opened.
 #[derive(Clone, Copy, Debug, PartialEq, Eq)]
 enum OpenFault {
     // A file cannot be opened, or the configuration cannot be read.
     Unopened,
-    // Memory was refused on the way.
+    // Memory was refused.
     Memory,
 }
 
@@ -29,8 +29,8 @@ impl<T: Drop> From<AllocFailed<T>> for OpenFault {
     }
 }
 
-/// Searches for an order of the recordings in the files that are asked for, and writes it to standard output. The configuration is
-/// read first, then the recordings are opened, core 0 first.
+/// Searches for an order of the recordings in the files that the command line names, and writes it to standard output. The configuration
+/// is read first, and then the recordings are opened, core 0 first.
 pub fn propose_for<R, F>(
     rt: &R,
     alloc: Global,
@@ -46,14 +46,18 @@ where
             let Opened { text, cores } = opened;
             seen.note_configuration(&text);
             let mut output = WriterSink::new(io::writer(rt));
-            propose_into(alloc, asked.effort, &text, cores, seen, &mut output)
+            let ending = propose_into(alloc, asked.effort, &text, cores, seen, &mut output);
+            if let Ending::Refused(CheckFault::Arguments(_)) = &ending {
+                seen.note_recording_count(asked.cores.len(), &text);
+            }
+            ending
         }
         Err(OpenFault::Unopened) => Ending::Unopened,
         Err(OpenFault::Memory) => Ending::Refused(CheckFault::Memory),
     }
 }
 
-// What is opened: the text of the configuration, and the recordings.
+// What was opened: the text of the configuration, and the recordings.
 #[derive(Drop)]
 struct Opened<F> {
     text: Vec<u8>,

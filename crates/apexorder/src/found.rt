@@ -1,14 +1,14 @@
-// The line of a row in a file, which is read once more for it.
+// The line of a row in a file, which is read again for it.
 
 use crate::files::open;
-use input_explanation::{Compression, FoundRow, LONGEST_SIGNATURE, TwoReaders, find_row};
+use input_explanation::{Foreign, FoundRow, LONGEST_SIGNATURE, TwoReaders, find_row};
 use std::alloc::Global;
 use std::fs;
 use std::fs::Files;
 use std::io::Read;
 use wording::Words;
 
-/// Adds where the row of this number is: its file and its line, or its number if it is not found once more. Returns the row.
+/// Adds the file and the line of the row of this number, or its number if it is not found again. Returns the row.
 pub fn tell_place<R: Files<File = F>, F: Read + Drop>(
     rt: &R,
     alloc: Global,
@@ -19,12 +19,12 @@ pub fn tell_place<R: Files<File = F>, F: Read + Drop>(
     let row = row_of(rt, alloc, name, number);
     match &row {
         Some(row) => words.say(format_args!("{name}, line {}: ", row.line)),
-        None => words.say(format_args!("{name}, row {number}, counted from 0: ")),
+        None => words.say(format_args!("{name}, row {number} (counted from 0): ")),
     }
     row
 }
 
-// The row of this number in the file of this name. None if it is no regular file: a pipe gives its text once.
+// The row of this number in the file of this name, read again. None if it is not a regular file: a pipe gives its text only once.
 fn row_of<R: Files<File = F>, F: Read + Drop>(
     rt: &R,
     alloc: Global,
@@ -43,25 +43,22 @@ fn row_of<R: Files<File = F>, F: Read + Drop>(
     }
 }
 
-/// How the file of this name is compressed, if it is. None if it is no regular file.
-pub fn compression_of<R: Files<File = F>, F: Read + Drop>(
-    rt: &R,
-    name: &str,
-) -> Option<Compression> {
+/// What the file of this name is, if it is not plain text. None if it is not a regular file.
+pub fn foreign_of<R: Files<File = F>, F: Read + Drop>(rt: &R, name: &str) -> Option<Foreign> {
     if !is_regular(rt, name) {
         return None;
     }
     let mut first = [0u8; LONGEST_SIGNATURE];
     match open(rt, name) {
         Ok(mut file) => match file.read(&mut first) {
-            Ok(count) => Compression::of(first.get(..count)?),
+            Ok(count) => Foreign::of(first.get(..count)?),
             Err(_) => None,
         },
         Err(_) => None,
     }
 }
 
-/// Whether a file can be read once more.
+/// Whether a file can be read again.
 pub fn is_regular(rt: &impl Files, name: &str) -> bool {
     match fs::metadata(rt, name) {
         Ok(metadata) => metadata.is_file(),

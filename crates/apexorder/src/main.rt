@@ -1,12 +1,13 @@
 //! The program: searches for an order of the recordings of several cores, and prints it as a certificate.
 //!
-//! Promises: what goes to standard output are rows of a certificate, of which `order_run` says what they are; the exit status is the one
-//! of the end. Standard error shows a person the end, and what stops each core if no order was found.
+//! Promises: what goes to standard output during a search are rows of a certificate, of which `order_run` says what they are; the exit
+//! status is the one of the end. Standard error shows a person the end, and what stops each core if no order was found.
 #![tactic(auto)]
 
 mod ending;
 mod files;
 mod found;
+mod of_itself;
 mod progress;
 mod proposing;
 mod seen;
@@ -15,6 +16,7 @@ mod usage;
 
 use ending::{Ending, refused_words};
 use files::propose_for;
+use of_itself::{print_help, print_version};
 use seen::Seen;
 use sink::WriterSink;
 use std::alloc::Global;
@@ -41,15 +43,15 @@ fn main(rt: HostRuntime) -> ExitCode {
     ExitCode::from(ending.status())
 }
 
-// Whether the progress is shown: on a terminal, unless it is not wanted.
+// Whether the progress is shown: on a terminal, unless `--quiet` is given.
 fn wants_progress(asked: &Result<Asked, UsageFault>, is_terminal: bool) -> bool {
     match asked {
         Ok(Asked::Order(asked)) => is_terminal && !asked.quiet,
-        Ok(Asked::Version) | Err(_) => false,
+        Ok(Asked::Version | Asked::Help) | Err(_) => false,
     }
 }
 
-// Does what the command line asks for.
+// Does what the command line requests.
 fn run<R: Files<File = File> + Clock + Print + Eprint + AllocGlobal>(
     rt: &R,
     alloc: Global,
@@ -58,10 +60,8 @@ fn run<R: Files<File = File> + Clock + Print + Eprint + AllocGlobal>(
 ) -> Ending {
     match asked {
         Ok(Asked::Order(asked)) => propose_for(rt, alloc, asked, seen),
-        Ok(Asked::Version) => match rt.println("apexorder 1.0.0") {
-            Ok(()) => Ending::Version,
-            Err(_) => Ending::Unwritten,
-        },
+        Ok(Asked::Version) => print_version(rt),
+        Ok(Asked::Help) => print_help(rt, alloc),
         Err(fault) => refused_words(*fault),
     }
 }

@@ -1,34 +1,34 @@
-// How far a search has come, on standard error while it goes on.
+// The progress of a search, on standard error.
 
 use std::rt::Clock;
 use std::time::Instant;
 
-/// How many milliseconds there are at least between two lines.
+/// The least number of milliseconds between two lines.
 const PAUSE: u64 = 500;
 
-/// After how many calls the clock is read.
+/// How many calls there are between two looks at the clock.
 const CALLS: u64 = 1_024;
 
 // What clears a line: it is longer than any of them.
 const BLANK: &str = "\r                                                            \r";
 
-/// Shows how many records are placed, and how many in a second, where that is wanted.
+/// Shows how many records are placed, and how many per second, if that is requested.
 #[derive(Drop)]
 pub struct Progress<'a, R> {
     rt: &'a R,
     start: Option<Instant>,
-    // How often it was called since the clock was read.
+    // How often it was called since the last look at the clock.
     calls: u64,
-    // The milliseconds from the start to the last line, 0 where there was none.
+    // The milliseconds from the start to the last line, 0 if there was none.
     shown: u64,
 }
 
 impl<'a, R: Clock + Eprint> Progress<'a, R> {
-    /// The progress of a search that begins now. It shows nothing where that is not wanted, or where there is no clock.
-    pub fn new(rt: &'a R, is_wanted: bool) -> Progress<'a, R> {
+    /// The progress of a search that begins now. It shows nothing if that is not requested, or if there is no clock.
+    pub fn new(rt: &'a R, is_requested: bool) -> Progress<'a, R> {
         Progress {
             rt,
-            start: if is_wanted {
+            start: if is_requested {
                 Instant::now(rt).ok()
             } else {
                 None
@@ -38,7 +38,7 @@ impl<'a, R: Clock + Eprint> Progress<'a, R> {
         }
     }
 
-    /// So many records are placed.
+    /// Notes how many records are placed.
     pub fn reach(&mut self, records: u64) {
         let Some(start) = self.start else {
             return;
@@ -54,12 +54,12 @@ impl<'a, R: Clock + Eprint> Progress<'a, R> {
     pub fn clear(&mut self) {
         if self.shown > 0 {
             self.shown = 0;
-            // Standard error only helps a person, so that a failure there changes nothing.
+            // Standard error only helps a person, so a failure there changes nothing.
             let _ = self.rt.eprint(BLANK);
         }
     }
 
-    // Shows how many records are placed, unless a line was shown just now.
+    // Shows how many records are placed, unless the last line is too recent.
     fn show(&mut self, start: Instant, records: u64) {
         let Ok(elapsed) = start.elapsed(self.rt) else {
             return;

@@ -1,4 +1,4 @@
-// The search over texts that are opened.
+// The search over recordings that are opened.
 
 ghost use Rattle.std.specs.Prelude.{◌≡◌, ℕ, List, Ok, Some, map};
 ghost use Rattle.apex_machine.specs.Configuration.{Configuration};

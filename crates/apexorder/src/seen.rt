@@ -1,9 +1,10 @@
-// What was seen of a search, for a person.
+// What a person learns of a search.
 
 use crate::progress::Progress;
 use apex_types::{Cause, Ordered};
+use config_explanation::{tell_recording_count, tell_unknown_keys, tell_warnings};
 use explanation::Explanation;
-use input_explanation::{Compression, tell_unknown_keys};
+use input_explanation::Foreign;
 use module_config::Config;
 use order_tip::Watcher;
 use piece_check::Piece;
@@ -12,7 +13,7 @@ use std::fmt::Display;
 use std::rt::Clock;
 use wording::Words;
 
-/// What was seen of a search: its progress, which is shown at once, and what stops each core.
+/// What a person learns of a search: its progress, which is shown at once, and what stops each core.
 #[derive(Drop)]
 pub struct Seen<'a, R> {
     alloc: Global,
@@ -20,11 +21,13 @@ pub struct Seen<'a, R> {
     stops: Vec<Explanation>,
     note: Words,
     unknown_keys: Words,
-    compression: Option<Compression>,
+    warnings: Words,
+    foreign: Option<Foreign>,
+    recording_count: Words,
 }
 
 impl<'a, R: Clock + Eprint> Seen<'a, R> {
-    /// Nothing yet. The progress is shown where that is wanted.
+    /// Nothing yet. The progress is shown if that is requested.
     pub fn new(rt: &'a R, alloc: Global, wants_progress: bool) -> Seen<'a, R> {
         Seen {
             alloc,
@@ -32,11 +35,13 @@ impl<'a, R: Clock + Eprint> Seen<'a, R> {
             stops: Vec::new(alloc),
             note: Words::new(alloc),
             unknown_keys: Words::new(alloc),
-            compression: None,
+            warnings: Words::new(alloc),
+            foreign: None,
+            recording_count: Words::new(alloc),
         }
     }
 
-    /// Clears what is shown, before other text is.
+    /// Clears the progress that is shown, before other text follows.
     pub fn clear(&mut self) {
         self.progress.clear();
     }
@@ -46,10 +51,22 @@ impl<'a, R: Clock + Eprint> Seen<'a, R> {
         self.note.say(format_args!("{name}: {why}"));
     }
 
-    /// Notes the keys of the configuration with this text that are not known, and how the text is compressed.
+    /// Notes the unknown keys of the configuration with this text, what else may be a mistake there, and what the text is, if it is not
+    /// plain text.
     pub fn note_configuration(&mut self, text: &[u8]) {
         tell_unknown_keys(&mut self.unknown_keys, self.alloc, text);
-        self.compression = Compression::of(text);
+        tell_warnings(&mut self.warnings, self.alloc, text);
+        self.foreign = Foreign::of(text);
+    }
+
+    /// Notes that so many recordings are named, and how many cores the configuration with this text has.
+    pub fn note_recording_count(&mut self, recordings: usize, config: &[u8]) {
+        tell_recording_count(
+            &mut self.recording_count,
+            self.alloc,
+            recordings,
+            Some(config),
+        );
     }
 
     /// What is printed before anything else, empty if there is nothing.
@@ -57,14 +74,24 @@ impl<'a, R: Clock + Eprint> Seen<'a, R> {
         &self.note
     }
 
-    /// The keys of the configuration that are not known, empty where each is.
+    /// The unknown keys of the configuration; empty if every key is known.
     pub fn unknown_keys(&self) -> &Words {
         &self.unknown_keys
     }
 
-    /// How the configuration is compressed, if it is.
-    pub fn compression(&self) -> Option<Compression> {
-        self.compression
+    /// What may be a mistake in the configuration, although it is accepted; empty if there is nothing.
+    pub fn warnings(&self) -> &Words {
+        &self.warnings
+    }
+
+    /// What the configuration is, if it is not plain text.
+    pub fn foreign(&self) -> Option<Foreign> {
+        self.foreign
+    }
+
+    /// How many recordings are named, and how many cores there are; empty if that was not noted.
+    pub fn recording_count(&self) -> &Words {
+        &self.recording_count
     }
 
     /// What stops the cores, as far as there was memory for it.
@@ -81,7 +108,7 @@ impl<'a, R: Clock + Eprint> Watcher for Seen<'a, R> {
     fn rejected(&mut self, config: &Config, piece: &Piece, ordered: &Ordered, cause: Cause) {
         let mut explanation = Explanation::new(self.alloc);
         explanation.tell_refused(config, piece, ordered, cause);
-        // Where memory is refused there are fewer of them.
+        // If memory is refused, there are fewer of them.
         let _ = self.stops.push(explanation);
     }
 }

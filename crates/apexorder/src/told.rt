@@ -2,42 +2,47 @@
 
 use crate::ending::Ending;
 use crate::files::open;
-use crate::found::{compression_of, is_regular, tell_place};
+use crate::found::{foreign_of, is_regular, tell_place};
 use crate::seen::Seen;
-use crate::usage::{Asked, OrderAsked, USAGE, UsageFault};
+use crate::usage::{Asked, OrderAsked, UsageFault};
+use config_explanation::tell_configuration;
 use explanation::{Explanation, RecordNumber};
-use input_explanation::{
-    Compression, FoundRow, Row, tell_compression, tell_configuration, tell_row_fault,
-};
+use input_explanation::{Foreign, FoundRow, Row, tell_foreign, tell_row_fault};
 use module_config::ConfigFault;
 use order_run::Proposal;
 use placement::InputFault;
+use program_words::{Documents, Program, tell_usage};
 use report::{CheckFault, write_report};
 use sink::Sink;
 use std::alloc::Global;
 use std::fs::Files;
 use std::io::Read;
-use std::rt::Clock;
-use wording::{Count, Words};
+use std::rt::{Clock, Env};
+use wording::{Look, Words};
 
-/// Tells a person how the search ended: the line of a refusal, which goes to this output; else what stops each core where no order was
-/// found; and at last the end in one line.
-pub fn tell<R: Files<File = F> + Clock + Eprint, F: Read + Drop, W: Sink>(
+/// Reports to a person how the run ended. The line of a refusal goes to this output. If no order was found, what stops each core follows.
+/// The last line is the end in words.
+pub fn tell<R, F: Read + Drop, W: Sink>(
     rt: &R,
     alloc: Global,
     output: &mut W,
     asked: &Result<Asked, UsageFault>,
     ending: &Ending,
     seen: &Seen<'_, R>,
-) {
+)
+where
+    R: Files<File = F> + Env + Clock + Eprint + AllocGlobal,
+{
     tell_refusal(rt, output, ending);
+    let documents = Documents::find(rt, alloc);
+    let look = Look {
+        in_colour: false,
+        documents: documents.folder(),
+    };
     match asked {
-        Ok(Asked::Order(asked)) => tell_order(rt, alloc, asked, ending, seen),
-        Ok(Asked::Version) | Err(UsageFault::Memory) => {}
-        Err(UsageFault::Usage) => {
-            // Standard error only helps a person, so that a failure there changes nothing.
-            let _ = rt.eprintln(USAGE);
-        }
+        Ok(Asked::Order(asked)) => tell_order(rt, alloc, asked, ending, seen, look),
+        Ok(Asked::Version | Asked::Help) | Err(UsageFault::Memory) => {}
+        Err(UsageFault::Usage) => tell_usage(rt, alloc, Program::Order, look),
     }
 }
 
@@ -53,39 +58,50 @@ fn tell_refusal<W: Sink>(rt: &impl Eprint, output: &mut W, ending: &Ending) {
         Ending::Unopened => {
             let _ = rt.eprintln("REFUSED open");
         }
-        Ending::Proposed(_) | Ending::Unwritten | Ending::Version => {}
+        Ending::Proposed(_) | Ending::Unwritten | Ending::Version | Ending::Help => {}
     }
 }
 
-// Tells how the search for an order ended.
+// Reports how the search for an order ended.
 fn tell_order<R: Files<File = F> + Clock + Eprint, F: Read + Drop>(
     rt: &R,
     alloc: Global,
     asked: &OrderAsked,
     ending: &Ending,
     seen: &Seen<'_, R>,
+    look: Look<'_>,
 ) {
-    say(rt, seen.noted());
+    say(rt, seen.noted(), look);
     if !asked.quiet {
-        if !seen.unknown_keys().is_empty() {
-            let mut words = Words::new(alloc);
-            words.say(format_args!(
-                "{}: these keys are not known and are ignored:",
-                asked.config
-            ));
-            words.append(seen.unknown_keys());
-            say(rt, &words);
-        }
+        let config = asked.config.as_str();
+        let unknown = "these keys are unknown and ignored";
+        say(
+            rt,
+            &list_of(alloc, config, unknown, seen.unknown_keys()),
+            look,
+        );
+        let doubtful = "these settings are accepted, but may be mistakes";
+        say(rt, &list_of(alloc, config, doubtful, seen.warnings()), look);
         if let Ending::Proposed(Proposal::NotFound(_)) = ending {
             for explanation in seen.stops() {
-                say(rt, &stop_of(rt, alloc, asked, explanation));
+                say(rt, &stop_of(rt, alloc, asked, explanation), look);
             }
         }
     }
-    say(rt, &end_of(rt, alloc, asked, ending, seen.compression()));
+    say(rt, &end_of(rt, alloc, asked, ending, seen), look);
 }
 
-// What stops a core: where its next record is, and why a piece rejects it.
+// A list of what the configuration of this name has, after these words; empty if the list is.
+fn list_of(alloc: Global, config: &str, what: &str, list: &Words) -> Words {
+    let mut words = Words::new(alloc);
+    if !list.is_empty() {
+        words.say(format_args!("{config}: {what}:"));
+        words.append(list);
+    }
+    words
+}
+
+// What stops a core: the file and the line of its next record, and why a piece rejects it.
 fn stop_of<R: Files<File = F>, F: Read + Drop>(
     rt: &R,
     alloc: Global,
@@ -103,15 +119,18 @@ fn stop_of<R: Files<File = F>, F: Read + Drop>(
 }
 
 // The end in words.
-fn end_of<R: Files<File = F>, F: Read + Drop>(
+fn end_of<R: Files<File = F> + Clock + Eprint, F: Read + Drop>(
     rt: &R,
     alloc: Global,
     asked: &OrderAsked,
     ending: &Ending,
-    compression: Option<Compression>,
+    seen: &Seen<'_, R>,
 ) -> Words {
     let mut words = Words::new(alloc);
     match ending {
+        Ending::Proposed(Proposal::Found { records: 1 }) => {
+            words.say("an order was found, which has the one record");
+        }
         Ending::Proposed(Proposal::Found { records }) => words.say(format_args!(
             "an order was found, which has all {records} records"
         )),
@@ -119,41 +138,38 @@ fn end_of<R: Files<File = F>, F: Read + Drop>(
             "no order was found: the records go together up to place {}, where none can follow",
             refused.pos.number()
         )),
-        Ending::Refused(fault) => tell_fault(rt, alloc, asked, fault, compression, &mut words),
+        Ending::Refused(fault) => tell_fault(rt, alloc, asked, fault, seen, &mut words),
         Ending::Unwritten => words.say("standard output could not be written"),
-        Ending::BadUsage | Ending::Unopened | Ending::Version => {}
+        Ending::BadUsage | Ending::Unopened | Ending::Version | Ending::Help => {}
     }
     words
 }
 
-// Tells why the inputs are refused.
-fn tell_fault<R: Files<File = F>, F: Read + Drop>(
+// Reports why the inputs are refused.
+fn tell_fault<R: Files<File = F> + Clock + Eprint, F: Read + Drop>(
     rt: &R,
     alloc: Global,
     asked: &OrderAsked,
     fault: &CheckFault,
-    compression: Option<Compression>,
+    seen: &Seen<'_, R>,
     words: &mut Words,
 ) {
     match fault {
-        CheckFault::Memory => words.say("out of memory: the order is not whole"),
-        CheckFault::Arguments(_) => words.say(format_args!(
-            "there are {}; expected one for each of the configuration's cores",
-            Count(asked.cores.len(), "recording")
-        )),
+        CheckFault::Memory => words.say("out of memory: the order is incomplete"),
+        CheckFault::Arguments(_) => words.append(seen.recording_count()),
         CheckFault::Config(fault) => {
-            tell_config(rt, alloc, &asked.config, *fault, compression, words);
+            tell_config(rt, alloc, &asked.config, *fault, seen.foreign(), words);
         }
         CheckFault::Input(InputFault::Row { core, seq, fault }) => {
             if let Some(name) = asked.cores.get(*core as usize) {
-                let compression = compression_of(rt, name);
+                let foreign = foreign_of(rt, name);
                 let found = tell_place(rt, alloc, words, name, *seq);
-                let row = match compression {
+                let row = match foreign {
                     None => row_with(*seq, found.as_ref()),
                     Some(_) => None,
                 };
                 tell_row_fault(words, alloc, *fault, row);
-                tell_compression(words, name, compression);
+                tell_foreign(words, name, foreign);
             }
         }
         CheckFault::Input(fault) => words.say(*fault),
@@ -172,32 +188,31 @@ fn row_with(number: u64, row: Option<&FoundRow>) -> Option<Row<'_>> {
     }
 }
 
-// Tells what is wrong with the configuration, which is compressed in this way.
+// Reports what is wrong with the configuration, which is this if it is not plain text.
 fn tell_config<R: Files<File = F>, F: Read + Drop>(
     rt: &R,
     alloc: Global,
     name: &str,
     fault: ConfigFault,
-    compression: Option<Compression>,
+    foreign: Option<Foreign>,
     words: &mut Words,
 ) {
-    words.say(format_args!("{name}: "));
     let mut text = Vec::new(alloc);
-    let is_read = compression.is_none()
+    let is_read = foreign.is_none()
         && is_regular(rt, name)
         && match open(rt, name) {
             Ok(mut file) => file.read_to_end(&mut text).is_ok(),
             Err(_) => false,
         };
     let text = if is_read { Some(text.as_slice()) } else { None };
-    tell_configuration(words, alloc, fault, text);
-    tell_compression(words, name, compression);
+    let _line = tell_configuration(words, alloc, name, fault, text);
+    tell_foreign(words, name, foreign);
 }
 
 // Prints the words, if there are any.
-fn say(rt: &impl Eprint, words: &Words) {
+fn say(rt: &impl Eprint, words: &Words, look: Look<'_>) {
     if !words.is_empty() {
-        // Standard error only helps a person, so that a failure there changes nothing.
-        let _ = rt.eprintln(format_args!("apexorder: {}", words.shown(false)));
+        // Standard error only helps a person, so a failure there changes nothing.
+        let _ = rt.eprintln(format_args!("apexorder: {}", words.shown(look)));
     }
 }

@@ -7,51 +7,39 @@ use std::alloc::{AllocError, Global};
 use std::rt::Env;
 use std::{env, io};
 
-/// What a person reads whose command line is refused.
-pub const USAGE: &str = "usage: apexorder --config FILE [--effort N] [--quiet] CORE...
-       apexorder --version
-
-Searches for an order of the records of the cores of an ARINC 653 module, and
-prints it as a certificate for apexcheck.
-
-  --config FILE      the configuration of the module (required)
-  CORE...            one recording for each core, core 0 first
-  --effort N         try at most N records for each record that is placed
-                     (default 1000)
-  --quiet            show no progress, and not what stops each core
-  --version          print the version; this must be the only word";
-
-/// How many records are tried for each one placed, unless it is said.
+/// How many records may be tried for each one placed, if `--effort` is omitted.
 pub const USUAL_EFFORT: u64 = 1_000;
 
-/// What the command line asks for.
+/// What the command line requests.
 #[derive(Debug, Drop)]
 pub enum Asked {
     /// The one word is `--version`.
     Version,
+    /// The one word is `--help` or `-h`.
+    Help,
     /// An order of the recordings in files.
     Order(OrderAsked),
 }
 
-/// An order that is to be searched for.
+/// A search for an order, as the command line requests it.
 #[derive(Debug, Drop)]
 pub struct OrderAsked {
     /// The file with the configuration.
     pub config: String,
     /// How many records may be tried for each one placed.
     pub effort: u64,
-    /// Whether no progress is shown, and not what stops each core.
+    /// Whether standard error shows no progress, and not what stops each core.
     pub quiet: bool,
     /// The files with the recordings, one for each core, core 0 first.
     pub cores: Vec<String>,
 }
 
-/// Why a command line says nothing that can be done.
+/// Why a command line requests nothing that can be done.
 #[derive(Clone, Copy, Debug, PartialEq, Eq)]
 pub enum UsageFault {
-    /// The words are not those of the usage. A word that is no UTF-8 text is none of them.
+    /// The words are not those of the usage. A word that is not UTF-8 is not one of them.
     Usage,
-    /// Memory was refused on the way.
+    /// Memory was refused.
     Memory,
 }
 
@@ -61,7 +49,7 @@ impl From<AllocError> for UsageFault {
     }
 }
 
-/// Reads the words that the program was given.
+/// Reads the words that were given to the program.
 pub fn from_words(rt: &(impl Env + AllocGlobal), alloc: Global) -> Result<Asked, UsageFault> {
     let words: Vec<String> = match env::args(rt) {
         Ok(words) => match words.collect(alloc) {
@@ -73,11 +61,12 @@ pub fn from_words(rt: &(impl Env + AllocGlobal), alloc: Global) -> Result<Asked,
     };
     match words.as_slice() {
         [_, word] if word.as_str() == "--version" => Ok(Asked::Version),
+        [_, word] if word.as_str() == "--help" || word.as_str() == "-h" => Ok(Asked::Help),
         words => Ok(Asked::Order(order_asked(alloc, words)?)),
     }
 }
 
-// The order that the words ask for.
+// The search that the words request.
 fn order_asked(alloc: Global, words: &[String]) -> Result<OrderAsked, UsageFault> {
     let Ok(command) = command(alloc) else {
         return Err(UsageFault::Memory);
@@ -91,7 +80,7 @@ fn order_asked(alloc: Global, words: &[String]) -> Result<OrderAsked, UsageFault
     }
 }
 
-// What the parser has found.
+// The search that the parser found in the words.
 fn asked_in(alloc: Global, matches: &ArgMatches<'_>) -> Result<OrderAsked, UsageFault> {
     let Some(config) = matches.get_str("config") else {
         return Err(UsageFault::Usage);
@@ -111,7 +100,7 @@ fn asked_in(alloc: Global, matches: &ArgMatches<'_>) -> Result<OrderAsked, Usage
     })
 }
 
-// Texts of their own.
+// Owned texts.
 fn owned(alloc: Global, texts: &[&str]) -> Result<Vec<String>, AllocError> {
     let mut owned = Vec::new(alloc);
     for text in texts {
@@ -120,7 +109,7 @@ fn owned(alloc: Global, texts: &[&str]) -> Result<Vec<String>, AllocError> {
     Ok(owned)
 }
 
-// The words of a run: no option twice, and CORE once or more.
+// The words of a run: no option twice, and at least one CORE.
 fn command<'a>(alloc: Global) -> Result<Command<'a>, AllocError> {
     Command::new(alloc, "apexorder")
         .disable_help_flag(true)
@@ -130,7 +119,7 @@ fn command<'a>(alloc: Global) -> Result<Command<'a>, AllocError> {
         .arg(recordings(alloc))
 }
 
-// The recordings, of which there is one at least.
+// The recordings, at least one.
 fn recordings<'a>(alloc: Global) -> Arg<'a> {
     Arg::new(alloc, "core")
         .required(true)
@@ -143,7 +132,7 @@ fn option<'a>(alloc: Global, name: &'static str) -> Arg<'a> {
     Arg::new(alloc, name).long(name).action(ArgAction::Set)
 }
 
-// The option of this name, which has none.
+// The flag of this name, which has no value.
 fn flag<'a>(alloc: Global, name: &'static str) -> Arg<'a> {
     Arg::new(alloc, name).long(name).action(ArgAction::SetTrue)
 }

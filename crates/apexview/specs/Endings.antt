@@ -7,14 +7,16 @@ use Rattle.rules_file.specs.declared.fault.RuleFault.TheVariants as rule
 use Rattle.rules_file.specs.declared.fault.RulesFault.{RulesFault}
 use Rattle.rules_file.specs.declared.fault.RulesFault.TheVariants as rules
 use Rattle.apexview.specs.declared.ending.Ending.{Ending}
-use Rattle.apexview.specs.declared.ending.Ending.TheVariants.{Checked, BadUsage, Unopened, BadRules, BadRule, Version, Unwritten}
+use Rattle.apexview.specs.declared.ending.Ending.TheVariants.{Checked, BadUsage, Unopened, BadRules, BadRule, Version, Help, Unwritten}
 use Rattle.apexview.specs.declared.usage.UsageFault.{UsageFault}
 use Rattle.apexview.specs.declared.usage.UsageFault.TheVariants as usage
 
--- the status of an outcome, 0 for the version, 4 if standard output could not be written, and 2 for what kept the check from running
+-- the status of an outcome, 0 for the version and the help, 4 if standard output could not be written, and 2 for what kept the check
+-- from running
 abbrev pub exit_status_of : Ending → ℕ
 exit_status_of (Checked outcome) = outcome_status_of outcome
 exit_status_of Version = 0
+exit_status_of Help = 0
 exit_status_of Unwritten = 4
 exit_status_of _ = 2
 
@@ -32,7 +34,7 @@ rule_fault_name rule.Empty = codes "Empty"
 rule_fault_name rule.TooDeep = codes "TooDeep"
 
 -- the report of an outcome, the refusal of what kept the check from running, or that standard output could not be written; after
--- the version there is no line
+-- the version and the help there is no line
 abbrev pub line_of : Ending → List ℕ
 line_of (Checked outcome) = report_of outcome
 line_of BadUsage = codes "REFUSED usage\n"
@@ -41,6 +43,7 @@ line_of (BadRules which) = codes "REFUSED rules fault=" ++ (rule_fault_name whic
 line_of (BadRule number which) =
     codes "REFUSED rules rule=" ++ (decimal number ++ (codes " fault=" ++ (rule_fault_name which ++ codes "\n")))
 line_of Version = []
+line_of Help = []
 line_of Unwritten = codes "apexview: standard output could not be written\n"
 
 -- the end by a lack of memory counts as the check's own

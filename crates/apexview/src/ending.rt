@@ -34,17 +34,19 @@ pub enum Ending {
     BadRule { rule: usize, fault: RuleFault },
     /// The version was requested.
     Version,
+    /// The help was requested.
+    Help,
     /// Standard output could not be written.
     Unwritten,
 }
 
-/// The exit status of an end: 0 yes or the version, 1 no, 2 refused, 3 out of memory, 4 not written. Takes no memory.
+/// The exit status of an end: 0 yes, the version or the help, 1 no, 2 refused, 3 out of memory, 4 not written. Takes no memory.
 pub fn status_of(ending: &Ending) -> u8
     ensures value { result ≡ exit_status_of ending.now }
 {
     match ending {
         Ending::Checked(outcome) => status_of_outcome(outcome),
-        Ending::Version => 0,
+        Ending::Version | Ending::Help => 0,
         Ending::BadUsage | Ending::Unopened | Ending::BadRules(_) | Ending::BadRule { .. } => 2,
         Ending::Unwritten => UNWRITTEN,
     }
@@ -126,7 +128,7 @@ pub fn write_line<W: Sink>(w: &mut W, ending: &Ending) -> Result<(), WriteFault>
         Ending::Unopened => put_all(w, b"REFUSED open\n"),
         Ending::BadRules(fault) => write_bad_rules(w, *fault),
         Ending::BadRule { rule, fault } => write_bad_rule(w, *rule, *fault),
-        Ending::Version => put_all(w, b""),
+        Ending::Version | Ending::Help => put_all(w, b""),
         Ending::Unwritten => put_all(w, b"apexview: standard output could not be written\n"),
     }
 }

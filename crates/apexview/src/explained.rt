@@ -4,15 +4,17 @@ ghost use Rattle.std.specs.Prelude.{◌≡◌, ◌⊎◌};
 ghost use Rattle.apexview.specs.Endings.{out_of_memory};
 
 use crate::ending::{Ending, Line, out_of_memory};
-use crate::usage::{Asked, UsageFault, tell_usage};
+use crate::usage::{Asked, UsageFault};
 use answer_words::{Explainer, InputNames, RunFiles};
+use program_words::{Documents, Program, Refusal};
 use std::alloc::Global;
 use std::fs::{File, Files};
-use wording::Words;
+use std::rt::Env;
+use wording::{Look, Words};
 
 /// Prints the line of an end, and explains it to a person. The end is the given one, or `Memory` if memory was refused to what explains
 /// it.
-pub fn explain<R: Files<File = File> + Eprint>(
+pub fn explain<R: Files<File = File> + Env + Eprint + AllocGlobal>(
     rt: &R,
     alloc: Global,
     asked: &Result<Asked, UsageFault>,
@@ -24,28 +26,51 @@ pub fn explain<R: Files<File = File> + Eprint>(
     match asked {
         Ok(Asked::Files(asked)) => {
             let explained = Explained::of(rt, alloc, &asked.names, &ending, explainer);
-            if explained.lacks_memory() {
-                let ending = out_of_memory();
-                tell_line(rt, &ending);
-                return ending;
+            let documents = Documents::find(rt, alloc);
+            if explained.lacks_memory() || documents.lacks_memory() {
+                return end_without_memory(rt);
             }
             tell_line(rt, &ending);
-            explained.tell(rt);
+            explained.tell(rt, look_with(&documents));
         }
-        Ok(Asked::Version) | Err(UsageFault::Memory) => tell_line(rt, &ending),
+        Ok(Asked::Version | Asked::Help) | Err(UsageFault::Memory) => tell_line(rt, &ending),
         Err(UsageFault::Usage) => {
+            let refusal = Refusal::find(rt, alloc, Program::View);
+            let documents = Documents::find(rt, alloc);
+            if refusal.lacks_memory() || documents.lacks_memory() {
+                return end_without_memory(rt);
+            }
             tell_line(rt, &ending);
-            tell_usage(rt);
+            refusal.tell(rt, look_with(&documents));
         }
     }
     ending
 }
 
-// What is said of an end after its line: what was noted, which keys of the configuration are ignored, and why the answer is not Yes.
+// The end if memory is refused to what is said, with its line.
+fn end_without_memory(rt: &impl Eprint) -> Ending
+    ensures { result ≡ out_of_memory }
+{
+    let ending = out_of_memory();
+    tell_line(rt, &ending);
+    ending
+}
+
+// How words are shown: without colours, and with these documents.
+fn look_with(documents: &Documents) -> Look<'_> {
+    Look {
+        in_colour: false,
+        documents: documents.folder(),
+    }
+}
+
+// What is said of an end after its line: what was noted, which keys of the configuration are ignored, what else may be a
+// mistake there, and why the answer is not Yes.
 #[derive(Drop)]
 struct Explained<'a> {
     noted: &'a Words,
     unknown_keys: Words,
+    warnings: Words,
     reason: Words,
 }
 
@@ -60,11 +85,13 @@ impl<'a> Explained<'a> {
         let mut explained = Explained {
             noted: explainer.noted(),
             unknown_keys: Words::new(alloc),
+            warnings: Words::new(alloc),
             reason: Words::new(alloc),
         };
         if let Ending::Checked(outcome) = ending {
             let files = RunFiles { rt, alloc, names };
             explained.unknown_keys = files.unknown_keys(explainer);
+            explained.warnings = files.warnings(explainer);
             if let Some(told) = files.told_of(outcome, explainer) {
                 explained.reason = told.words;
             }
@@ -74,13 +101,17 @@ impl<'a> Explained<'a> {
 
     // Whether memory was refused to it.
     fn lacks_memory(&self) -> bool {
-        self.noted.lacks_memory() || self.unknown_keys.lacks_memory() || self.reason.lacks_memory()
+        self.noted.lacks_memory()
+            || self.unknown_keys.lacks_memory()
+            || self.warnings.lacks_memory()
+            || self.reason.lacks_memory()
     }
 
-    fn tell(&self, rt: &impl Eprint) {
-        tell_words(rt, self.noted);
-        tell_words(rt, &self.unknown_keys);
-        tell_words(rt, &self.reason);
+    fn tell(&self, rt: &impl Eprint, look: Look<'_>) {
+        tell_words(rt, self.noted, look);
+        tell_words(rt, &self.unknown_keys, look);
+        tell_words(rt, &self.warnings, look);
+        tell_words(rt, &self.reason, look);
     }
 }
 
@@ -93,8 +124,8 @@ fn tell_line(rt: &impl Eprint, ending: &Ending) {
 }
 
 // Prints words, if there are any.
-fn tell_words(rt: &impl Eprint, words: &Words) {
+fn tell_words(rt: &impl Eprint, words: &Words, look: Look<'_>) {
     if !words.is_empty() {
-        let _ = rt.eprintln(format_args!("apexview: {}", words.shown(false)));
+        let _ = rt.eprintln(format_args!("apexview: {}", words.shown(look)));
     }
 }

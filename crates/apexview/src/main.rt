@@ -8,14 +8,15 @@
 #![tactic(auto)]
 
 ghost use Rattle.std.specs.Prelude.{◌≡◌, ◌⊎◌, IfErr, Ok};
-ghost use Rattle.apexview.specs.declared.ending.Ending.TheVariants.{Unwritten, Version};
-ghost use Rattle.apexview.specs.Endings.{refused_words};
+ghost use Rattle.apexview.specs.declared.ending.Ending.TheVariants.{Help, Unwritten, Version};
+ghost use Rattle.apexview.specs.Endings.{out_of_memory, refused_words};
 
 mod ending;
 mod explained;
 mod fault;
 mod files;
 mod gathering;
+mod of_itself;
 mod page;
 mod placed;
 mod round;
@@ -29,7 +30,8 @@ use answer_words::{Explainer, Terminal};
 use ending::{Ending, conclude, refused_words, status_of};
 use explained::explain;
 use files::show_files;
-use sink::{Sink, WriterSink, put_all};
+use of_itself::{print_help, print_version};
+use sink::{Sink, WriterSink};
 use std::alloc::Global;
 use std::fs::{File, Files};
 use std::io;
@@ -58,15 +60,14 @@ fn answer<R, W: Sink>(
     output: &mut W,
 ) -> Ending
 where
-    R: Files<File = File> + Threads + Wait + Sync + Copy + Send + 'static,
+    R: Files<File = File> + AllocGlobal + Threads + Wait + Sync + Copy + Send + 'static,
     ensures version { asked.now ≡ Ok Asked.Version → (result ≡ Version) ⊎ (result ≡ Unwritten) }
+    ensures help { asked.now ≡ Ok Asked.Help → (result ≡ Help) ⊎ (result ≡ Unwritten) ⊎ (result ≡ out_of_memory) }
     ensures refused { IfErr asked.now (λ fault. result ≡ refused_words fault) }
 {
     match asked {
-        Ok(Asked::Version) => match put_all(output, b"apexview 1.0.0\n") {
-            Ok(()) => Ending::Version,
-            Err(_) => Ending::Unwritten,
-        },
+        Ok(Asked::Version) => print_version(output),
+        Ok(Asked::Help) => print_help(rt, alloc, output),
         Ok(Asked::Files(asked)) => show_files(rt, alloc, asked, explainer, output),
         Err(fault) => refused_words(*fault),
     }

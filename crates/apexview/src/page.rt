@@ -30,7 +30,7 @@ use view_page::{
     Added, Markup, PageTexts, Picture, Status, Strip, page_foot, page_head, strip_heading,
     strips_of, svg_foot, svg_head, table_foot, table_head, tell_rows, tell_strip,
 };
-use wording::{Count, Words};
+use wording::{Count, Look, Words};
 
 /// Shows the requested stretch of a run. Nothing is written if an input is refused.
 pub fn show_picture<R, S: TextSource, C: TextSource, W: Sink>(
@@ -145,7 +145,7 @@ fn explanation_of<R: Files<File = File>>(
     if words.lacks_memory() {
         return Err(AllocError);
     }
-    format!(in alloc; "{}", words.shown(false))
+    format!(in alloc; "{}", words.shown(Look::plain()))
 }
 
 // The files, in words.

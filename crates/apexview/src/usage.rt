@@ -9,33 +9,6 @@ use std::alloc::{AllocError, Global};
 use std::rt::Env;
 use std::{env, io};
 
-/// What is printed for a person whose command line is refused.
-pub const USAGE: &str = "usage: apexview --config FILE --order FILE [OPTION]... CORE...
-       apexview --version
-
-Shows a recording of the cores of an ARINC 653 module, in one proposed order,
-as a picture on standard output: the records before the first that is unlawful
-or breaks a rule, or before the end.
-
-Inputs:
-  --config FILE      the configuration of the module (required)
-  --order FILE       the certificate, which proposes the order (required)
-  CORE...            one recording for each core, core 0 first
-
-What is shown:
-  --format FORMAT    html: a page (default); svg: the picture alone;
-                     trace: the whole recording as Chrome trace events
-  --at PLACE         end the picture or the trace at this place
-  --span N           show N records before the end, 1 to 5000 (default 200)
-
-Rules of your own:
-  --max-elapsed N    every call that returns does so within N ticks
-  --forbid SERVICE   no call is of SERVICE
-  --rules FILE       the rules in FILE
-
-Output:
-  --version          print the version; this must be the only argument";
-
 /// How many records a picture shows before its end: if `--span` is omitted, and at most.
 const USUAL_SPAN: usize = 200;
 
@@ -57,6 +30,8 @@ pub enum Format {
 pub enum Asked {
     /// The one word is `--version`.
     Version,
+    /// The one word is `--help` or `-h`.
+    Help,
     /// A recording should be shown.
     Files(FilesAsked),
 }
@@ -92,16 +67,11 @@ pub fn from_words(rt: &(impl Env + AllocGlobal), alloc: Global) -> Result<Asked,
     read_words(alloc, words.as_slice())
 }
 
-/// Prints the usage of the program.
-pub fn tell_usage(rt: &impl Eprint) {
-    // Standard error only helps a person, so a failure there changes nothing.
-    let _ = rt.eprintln(USAGE);
-}
-
 // Reads what these words request. The first word is the program's own name.
 fn read_words(alloc: Global, words: &[String]) -> Result<Asked, UsageFault> {
     match words {
         [_, word] if word.as_str() == "--version" => Ok(Asked::Version),
+        [_, word] if word.as_str() == "--help" || word.as_str() == "-h" => Ok(Asked::Help),
         words => Ok(Asked::Files(files_asked(alloc, words)?)),
     }
 }

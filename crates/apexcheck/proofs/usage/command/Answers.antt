@@ -24,7 +24,8 @@ returns c =
     let elapsed = c.in_ok-arg-5.ensures.shape c.option-5.ensures.local ∙ ap₂ with_rule depth c.option-5.ensures.rule in
     let forbidden = c.in_ok-arg-6.ensures.shape c.option-6.ensures.local ∙ ap₂ with_rule elapsed c.option-6.ensures.rule in
     let ruled = c.in_ok-arg-7.ensures.shape c.option-7.ensures.local ∙ ap₂ with_rule forbidden c.option-7.ensures.rule in
-    let last = c.in_ok-arg-8.ensures.shape c.flag.ensures.local ∙ ap₂ with_rule ruled c.flag.ensures.rule in
-    let quiet = c.in_ok-arg-9.ensures.shape c.flag-2.ensures.local ∙ ap₂ with_rule last c.flag-2.ensures.rule in
-    let sarif = c.in_ok-arg-10.ensures.shape c.option-8.ensures.local ∙ ap₂ with_rule quiet c.option-8.ensures.rule in
-    IfOk-weaker c.arg-11.result _ _ (λ command added. added.shape c.recordings.ensures.local ∙ ap₂ with_rule sarif c.recordings.ensures.rule) c.arg-11.ensures
+    let least = c.in_ok-arg-8.ensures.shape c.option-8.ensures.local ∙ ap₂ with_rule ruled c.option-8.ensures.rule in
+    let last = c.in_ok-arg-9.ensures.shape c.flag.ensures.local ∙ ap₂ with_rule least c.flag.ensures.rule in
+    let quiet = c.in_ok-arg-10.ensures.shape c.flag-2.ensures.local ∙ ap₂ with_rule last c.flag-2.ensures.rule in
+    let sarif = c.in_ok-arg-11.ensures.shape c.option-9.ensures.local ∙ ap₂ with_rule quiet c.option-9.ensures.rule in
+    IfOk-weaker c.arg-12.result _ _ (λ command added. added.shape c.recordings.ensures.local ∙ ap₂ with_rule sarif c.recordings.ensures.rule) c.arg-12.ensures

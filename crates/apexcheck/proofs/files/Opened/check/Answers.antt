@@ -1,4 +1,4 @@
-use Rattle.std.proofs.Common.{◌≡◌, ◌∙◌, ℕ, List, Bool, Option, Result, Ok, ap, subst, sym, refl, inr, map, option_map}
+use Rattle.std.proofs.Common.{◌≡◌, ◌∙◌, ℕ, List, Bool, Option, Result, Ok, ap, subst, sym, inr, map, option_map}
 use Rattle.report.specs.declared.fault.CheckFault.{CheckFault}
 use Rattle.report.specs.declared.last.LastItem.{LastItem}
 use Rattle.report.specs.declared.settings.Settings.{Settings}
@@ -7,15 +7,19 @@ use Rattle.rule_options.specs.declared.option.RuleOption.{RuleOption}
 use Rattle.rule_options.specs.Options.{in_order}
 use Rattle.rules_file.specs.Reading.{SaidRule, said, without_key}
 use Rattle.verdict_merge.specs.declared.verdict.Verdict.{Verdict}
-use Rattle.apexcheck.specs.declared.ending.Ending.TheVariants.{Checked}
+use Rattle.apexcheck.specs.declared.ending.Ending.{Ending}
+use Rattle.apexcheck.specs.Endings.{end_of_check}
 use Rattle.apexcheck.specs.Files.{given_of}
 use Rattle.apexcheck.specs.Ruled.{AnswersRuled, IsRuledEnding, rules_given, where_asked}
 use Rattle.apexcheck.proofs.files.Opened.check.Goals as goal
 
 -- a run ends by the answer under the rules that its text says
-ends : (given : Given) (options : List RuleOption) (text : Option (List ℕ)) (settings : Settings) (asked : Bool) (rules : List SaidRule) (outcome : Result Verdict CheckFault) (last : List LastItem)
-    → rules_given text ≡ Ok rules → AnswersRuled given options rules settings outcome last → IsRuledEnding given options text settings asked (Checked outcome (where_asked asked last))
-ends given options text settings asked rules outcome last read is = inr (rw read (outcome, last, refl, is))
+ends : (given : Given) (options : List RuleOption) (text : Option (List ℕ)) (settings : Settings) (least : Option ℕ) (asked : Bool) (rules : List SaidRule)
+    → (outcome : Result Verdict CheckFault) (last : List LastItem) (reported : Option (List LastItem)) (ending : Ending)
+    → rules_given text ≡ Ok rules → reported ≡ where_asked asked last → ending ≡ end_of_check least outcome reported
+    → AnswersRuled given options rules settings outcome last → IsRuledEnding given options text settings least asked ending
+ends given options text settings least asked rules outcome last reported ending read same by is =
+    inr (rw read (outcome, last, by ∙ ap (end_of_check least outcome) same, is))
 
 pub returns : goal.returns
 returns g c =
@@ -28,6 +32,6 @@ returns g c =
     let last = c.check_ruled-outcome.new.last in
     let answers : AnswersRuled given c.in-Ok.options.items rules asked.settings outcome last =
     rw (c.new-inputs.ensures, c.deref.ensures.value, c.deref-2.ensures.value, c.deref-3.ensures.value) at (c.check_ruled-outcome.ensures c.in-Ok-new.ensures) in
-    subst (λ reported. IsRuledEnding given (in_order asked.options) text asked.settings asked.last (Checked outcome reported)) (sym c.where_asked.ensures)
-    (ends given (in_order asked.options) text asked.settings asked.last rules outcome last (ap rules_given (sym same) ∙ ap (λ walked. without_key walked) c.in-Ok-read_rules.ensures)
-    (subst (λ (options : List RuleOption). AnswersRuled given options rules asked.settings outcome last) c.in-Ok.ensures answers))
+    ends given (in_order asked.options) text asked.settings asked.at_least asked.last rules outcome last c.where_asked.result c.end_of_check.result
+    (ap rules_given (sym same) ∙ ap (λ walked. without_key walked) c.in-Ok-read_rules.ensures) c.where_asked.ensures c.end_of_check.ensures
+    (subst (λ (options : List RuleOption). AnswersRuled given options rules asked.settings outcome last) c.in-Ok.ensures answers)
