@@ -1,4 +1,4 @@
-# Checks many recordings, and skips each whose result is newer than its files and than the program:
+# Checks many recordings, and skips each whose result is newer than its files and than the programs:
 #
 #     make -f tools/campaign.mk -j 2            checks
 #     make -f tools/campaign.mk -j 2 report     checks, then writes report.xml
@@ -7,22 +7,25 @@
 RECORDINGS ?= recordings
 RESULTS ?= results
 REPORT ?= report.xml
-# The program, or the name of one on PATH; and the values of its options.
+# The programs, or the names of some on PATH; and the values of the options of apexcheck.
 APEXCHECK ?= apexcheck
+APEXORDER ?= apexorder
 WORKERS ?= 1
 DEPTH ?= 4096
 # Of the sorted recordings, this make checks every SHARES-th one, from number SHARE on, counted from 0.
 SHARES ?= 1
 SHARE ?= 0
-export APEXCHECK WORKERS DEPTH
+export APEXCHECK APEXORDER WORKERS DEPTH
 
-# Without this, make would look for a source from which it could build each csv file, and the program.
+# Without this, make would look for a source from which it could build each csv file, and the programs.
 MAKEFLAGS += --no-builtin-rules
 
 tools := $(dir $(lastword $(MAKEFILE_LIST)))
 
 program := $(shell command -v $(APEXCHECK))
 $(if $(program),,$(error $(APEXCHECK): no such program))
+# Without it, only a recording that needs a search for its order is not checked.
+searching := $(shell command -v $(APEXORDER))
 $(if $(wildcard $(RECORDINGS)/.),,$(error $(RECORDINGS): no such folder))
 $(if $(shell [ $(SHARE) -lt $(SHARES) ] 2> /dev/null && echo below),,$(error SHARE is $(SHARE), which is not below SHARES))
 
@@ -39,7 +42,7 @@ check: $(results)
 # The folder is newer than the result if a file was added, removed or renamed.
 files := config.toml order.csv options.txt rules.toml core*.csv
 .SECONDEXPANSION:
-$(results): $(RESULTS)/%.result: $(program) $(RECORDINGS)/% $$(wildcard $$(addprefix $(RECORDINGS)/$$*/,$(files)))
+$(results): $(RESULTS)/%.result: $(program) $(searching) $(RECORDINGS)/% $$(wildcard $$(addprefix $(RECORDINGS)/$$*/,$(files)))
 	@$(tools)check_recording $(RESULTS) $(RECORDINGS)/$*
 
 # The program refuses a link to a missing file. Without this rule, make would end the campaign there.

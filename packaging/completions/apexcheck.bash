@@ -43,19 +43,19 @@ _apexcheck() {
         --sarif) _apexcheck_files .sarif "$word" ;;
         --workers) _apexcheck_words "1 2 4 8 16 32 64" "$word" ;;
         --depth) _apexcheck_words "1 16 64 256 1024 4096" "$word" ;;
-        --max-elapsed) ;;
+        --max-elapsed | --at-least) ;;
         --forbid) _apexcheck_words "$_apexcheck_services" "$word" ;;
-        --version) ;;
+        --version | --help) ;;
         *)
             if [ -n "$ended" ] || [[ $word != -* ]]; then
                 _apexcheck_files .csv "$word"
                 return
             fi
-            # Each option may be given at most once, and --version only alone.
-            for given in --config --order --workers --depth --max-elapsed --forbid --rules --last --quiet --sarif; do
+            # Each option may be given at most once, and --version and --help only alone.
+            for given in --config --order --workers --depth --max-elapsed --forbid --rules --at-least --last --quiet --sarif; do
                 [[ " ${COMP_WORDS[*]:1:COMP_CWORD - 1} " == *" $given"[\ =]* ]] || options="$options $given"
             done
-            [ "$COMP_CWORD" != 1 ] || options="$options --version"
+            [ "$COMP_CWORD" != 1 ] || options="$options --version --help"
             _apexcheck_words "$options" "$word"
             ;;
     esac

@@ -12,10 +12,10 @@ set -l services \
     GET_EVENT_STATUS GET_MUTEX_ID GET_MUTEX_STATUS GET_SAMPLING_PORT_ID GET_SAMPLING_PORT_STATUS \
     GET_QUEUING_PORT_ID GET_QUEUING_PORT_STATUS
 
-# Whether an option may still be given: OPTION. Each may be given at most once, and none with --version.
+# Whether an option may still be given: OPTION. Each may be given at most once, and none with --version or --help.
 function __apexcheck_lacks
     set -l words (commandline -opc)
-    not contains -- --version $words; and not string match -qr -- "^$argv[1](=|\$)" $words
+    not contains -- --version $words; and not contains -- --help $words; and not string match -qr -- "^$argv[1](=|\$)" $words
 end
 
 # The same for an option with a value, which is completed right after the option.
@@ -38,7 +38,9 @@ complete -c apexcheck -l depth -x -a '1 16 64 256 1024 4096' -n '__apexcheck_tak
 complete -c apexcheck -l max-elapsed -x -n '__apexcheck_takes --max-elapsed' -d 'Require that calls return within so many ticks'
 complete -c apexcheck -l forbid -x -a "$services" -n '__apexcheck_takes --forbid' -d 'Forbid calls of a service'
 complete -c apexcheck -l rules -r -k -a '(__apexcheck_files .toml)' -n '__apexcheck_takes --rules' -d 'The rules file'
+complete -c apexcheck -l at-least -x -n '__apexcheck_takes --at-least' -d 'Refuse a YES for fewer records'
 complete -c apexcheck -l last -n '__apexcheck_lacks --last' -d 'Print the last records before the place of a NO'
 complete -c apexcheck -l quiet -n '__apexcheck_lacks --quiet' -d 'Do not explain the answer'
 complete -c apexcheck -l sarif -r -k -a '(__apexcheck_files .sarif)' -n '__apexcheck_takes --sarif' -d 'Write the outcome as a SARIF log'
 complete -c apexcheck -l version -n 'test (count (commandline -opc)) = 1' -d 'Print the version'
+complete -c apexcheck -l help -n 'test (count (commandline -opc)) = 1' -d 'Show a short help'

@@ -23,17 +23,17 @@ _apexorder() {
     case $option in
         --config) _apexorder_files .toml "$word" ;;
         --effort) mapfile -t COMPREPLY < <(compgen -W "100 1000 10000 100000" -- "$word") ;;
-        --version) ;;
+        --version | --help | -h) ;;
         *)
             if [ -n "$ended" ] || [[ $word != -* ]]; then
                 _apexorder_files .csv "$word"
                 return
             fi
-            # Each option may be given at most once, and --version only alone.
+            # Each option may be given at most once, and --version and --help only alone.
             for given in --config --effort --quiet; do
                 [[ " ${COMP_WORDS[*]:1:COMP_CWORD - 1} " == *" $given"[\ =]* ]] || options="$options $given"
             done
-            [ "$COMP_CWORD" != 1 ] || options="$options --version"
+            [ "$COMP_CWORD" != 1 ] || options="$options --version --help"
             mapfile -t COMPREPLY < <(compgen -W "$options" -- "$word")
             ;;
     esac

@@ -1,9 +1,9 @@
 # Completion of apexorder for fish.
 
-# Whether an option may still be given: OPTION. Each may be given at most once, and none with --version.
+# Whether an option may still be given: OPTION. Each may be given at most once, and none with --version or --help.
 function __apexorder_lacks
     set -l words (commandline -opc)
-    not contains -- --version $words; and not string match -qr -- "^$argv[1](=|\$)" $words
+    not string match -qr -- '^(--version|--help|-h)$' $words; and not string match -qr -- "^$argv[1](=|\$)" $words
 end
 
 # The same for an option with a value, which is completed right after the option.
@@ -23,3 +23,4 @@ complete -c apexorder -l config -r -k -a '(__apexorder_files .toml)' -n '__apexo
 complete -c apexorder -l effort -x -a '100 1000 10000 100000' -n '__apexorder_takes --effort' -d 'How many records are tried for each record placed'
 complete -c apexorder -l quiet -n '__apexorder_lacks --quiet' -d 'Show no progress, and not what stops each core'
 complete -c apexorder -l version -n 'test (count (commandline -opc)) -eq 1' -d 'Print the version'
+complete -c apexorder -l help -s h -n 'test (count (commandline -opc)) -eq 1' -d 'Print a short help'

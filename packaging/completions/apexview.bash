@@ -44,17 +44,17 @@ _apexview() {
         --span) _apexview_words "50 100 200 500 1000 5000" "$word" ;;
         --at | --max-elapsed) ;;
         --forbid) _apexview_words "$_apexview_services" "$word" ;;
-        --version) ;;
+        --version | --help | -h) ;;
         *)
             if [ -n "$ended" ] || [[ $word != -* ]]; then
                 _apexview_files .csv "$word"
                 return
             fi
-            # Each option may be given at most once, and --version only alone.
+            # Each option may be given at most once, and --version and --help only alone.
             for given in --config --order --format --at --span --max-elapsed --forbid --rules; do
                 [[ " ${COMP_WORDS[*]:1:COMP_CWORD - 1} " == *" $given"[\ =]* ]] || options="$options $given"
             done
-            [ "$COMP_CWORD" != 1 ] || options="$options --version"
+            [ "$COMP_CWORD" != 1 ] || options="$options --version --help"
             _apexview_words "$options" "$word"
             ;;
     esac

@@ -12,10 +12,10 @@ set -l services \
     GET_EVENT_STATUS GET_MUTEX_ID GET_MUTEX_STATUS GET_SAMPLING_PORT_ID GET_SAMPLING_PORT_STATUS \
     GET_QUEUING_PORT_ID GET_QUEUING_PORT_STATUS
 
-# Whether an option may still be given: OPTION. Each may be given at most once, and none with --version.
+# Whether an option may still be given: OPTION. Each may be given at most once, and none with --version or --help.
 function __apexview_lacks
     set -l words (commandline -opc)
-    not contains -- --version $words; and not string match -qr -- "^$argv[1](=|\$)" $words
+    not string match -qr -- '^(--version|--help|-h)$' $words; and not string match -qr -- "^$argv[1](=|\$)" $words
 end
 
 # The same for an option with a value, which is completed right after the option.
@@ -40,3 +40,4 @@ complete -c apexview -l max-elapsed -x -n '__apexview_takes --max-elapsed' -d 'R
 complete -c apexview -l forbid -x -a "$services" -n '__apexview_takes --forbid' -d 'Forbid calls of a service'
 complete -c apexview -l rules -r -k -a '(__apexview_files .toml)' -n '__apexview_takes --rules' -d 'The rules file'
 complete -c apexview -l version -n 'test (count (commandline -opc)) = 1' -d 'Print the version'
+complete -c apexview -l help -s h -n 'test (count (commandline -opc)) = 1' -d 'Print a short help'
