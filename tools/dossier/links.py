@@ -16,7 +16,7 @@ MOST_STEPS = 6
 # a clause that cites a definition further away is no news where there is a nearer one
 MOST_OF_SEVERAL = 4
 BESIDE_THE_PROGRAM = {
-    "apex_laws", "explanation", "input_explanation", "sarif_report", "wording", "run_view", "run_walk", "view_page", "view_trace", "apexview",
+    "apex_laws", "explanation", "input_explanation", "config_explanation", "rules_explanation", "toml_lines", "program_words", "sarif_report", "wording", "run_view", "run_walk", "view_page", "view_trace", "apexview",
     "part_tests", "intake_tests", "crate_tests",
 }
 Goal = Callable[[str], bool]
