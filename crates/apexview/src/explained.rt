@@ -7,6 +7,7 @@ use crate::ending::{Ending, Line, out_of_memory};
 use crate::usage::{Asked, UsageFault};
 use answer_words::{Explainer, InputNames, RunFiles};
 use program_words::{Documents, Program, Refusal};
+use report::Verdict;
 use std::alloc::Global;
 use std::fs::{File, Files};
 use std::rt::Env;
@@ -64,8 +65,8 @@ fn look_with(documents: &Documents) -> Look<'_> {
     }
 }
 
-// What is said of an end after its line: what was noted, which keys of the configuration are ignored, what else may be a
-// mistake there, and why the answer is not Yes.
+// What is said of an end after its line: what was noted, which keys of the configuration are ignored, what else may be a mistake there,
+// and why the answer is not Yes, or after a Yes which recordings have no record.
 #[derive(Drop)]
 struct Explained<'a> {
     noted: &'a Words,
@@ -92,8 +93,11 @@ impl<'a> Explained<'a> {
             let files = RunFiles { rt, alloc, names };
             explained.unknown_keys = files.unknown_keys(explainer);
             explained.warnings = files.warnings(explainer);
-            if let Some(told) = files.told_of(outcome, explainer) {
+            if let Some(mut told) = files.told_of(outcome, explainer) {
+                files.tell_other_orders(&mut told, outcome);
                 explained.reason = told.words;
+            } else if let Ok(Verdict::Yes { records }) = outcome {
+                explained.reason = files.without_records(*records);
             }
         }
         explained
