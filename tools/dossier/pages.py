@@ -61,7 +61,8 @@ def cut(items: list[str], file: str, most: int = MOST_SHOWN) -> str:
 def case_item(it: Exercise) -> str:
     """A file of cases, with how many of them exercise a rule, and those that are linked by name."""
     names = "".join(f", “{text(name)}”" for name in it.names)
-    return f"{at(it.file.path)}: {it.count} of {len(it.file.cases)} cases, {it.refusals} refused{names}"
+    cases = "1 case" if len(it.file.cases) == 1 else f"{len(it.file.cases)} cases"
+    return f"{at(it.file.path)}: {it.count} of {cases}, {it.refusals} refused{names}"
 
 
 def function_name(key: str) -> str:
@@ -253,7 +254,7 @@ def audits_list(dossier: Dossier) -> list[str]:
     for crate in sorted({body.crate for body in dossier.code.bodies} | set(dossier.code.audit.counts)):
         now = sum(body.crate == crate for body in dossier.code.bodies)
         tried = dossier.code.audit.counts.get(crate, (0, 0))[0]
-        other = "" if now == tried else f' <b class=none>there are {now} now</b>'
+        other = "" if now == tried else f' <b class=none>it has {now} now</b>'
         found.append(f"{crate}: {dossier.code.audit.of(crate)}{other}")
     return found
 
