@@ -10,6 +10,7 @@ use Rattle.run_view.specs.declared.change.Change.{Change}
 use Rattle.run_view.specs.declared.change.Change.TheVariants as change
 use Rattle.run_view.specs.declared.thing.ThingKey.TheVariants as key
 use Rattle.run_view.specs.Cores.{shown_core}
+use Rattle.run_view.specs.Objects.{numbers_in, numbers_of}
 use Rattle.run_view.specs.Processes.{shown_process}
 
 -- a change of a core: it is shown as the clock has it
@@ -17,14 +18,15 @@ abbrev pub IsOfCores : Configuration → List CoreState → Change → Type 0
 IsOfCores configuration cores (change.Core view) = view ≡ shown_core configuration cores view.core
 IsOfCores configuration cores other = ⊥
 
--- a change of a partition: its mode, a process as it is in its table, or a process or an object by its number
+-- a change of a partition: its mode; a process as it is in its table, or the end of one that is not in it; an object that is in its table,
+-- or the end of one that is not in it
 abbrev pub IsOfPartition : ℕ → Partition → Change → Type 0
 IsOfPartition number partition (change.Mode part mode) = (part ≡ number) × (mode ≡ partition.mode)
 IsOfPartition number partition (change.Process who view) =
     (process : Process) × Contains partition.table (who.proc, process) × (who.part ≡ number) × (view ≡ shown_process process)
-IsOfPartition number partition (change.Ended who) = who.part ≡ number
-IsOfPartition number partition (change.Thing (key.Object part kind object)) = part ≡ number
-IsOfPartition number partition (change.Removed (key.Object part kind object)) = part ≡ number
+IsOfPartition number partition (change.Ended who) = (who.part ≡ number) × ¬ Contains (numbers_in partition.table) who.proc
+IsOfPartition number partition (change.Thing (key.Object part kind object)) = (part ≡ number) × Contains (numbers_of kind partition) object
+IsOfPartition number partition (change.Removed (key.Object part kind object)) = (part ≡ number) × ¬ Contains (numbers_of kind partition) object
 IsOfPartition number partition other = ⊥
 
 -- a change of a channel

@@ -2,5 +2,12 @@ pub mod Processes
 pub mod Cores
 pub mod Waiters
 pub mod Things
+pub mod Plain
+pub mod Objects
 pub mod Changes
+pub mod Adds
+pub mod CoreChanges
+pub mod ProcessChanges
+pub mod ObjectChanges
+pub mod Seen
 pub mod Lawful

@@ -1,11 +1,12 @@
 -- What is shown of a process.
-use Rattle.std.specs.Prelude.{option_map, if◌then◌else◌}
+use Rattle.std.specs.Prelude.{ℕ, option_map, if◌then◌else◌}
 use Rattle.apex_machine.specs.declared.state.Process.{Process}
 use Rattle.apex_machine.specs.declared.state.Wait.{Wait}
 use Rattle.apex_machine.specs.declared.state.Wait.TheVariants as wait
 use Rattle.run_view.specs.declared.process.ProcessView.{ProcessView}
 use Rattle.run_view.specs.declared.process.ProcessState.{ProcessState}
 use Rattle.run_view.specs.declared.process.ProcessState.TheVariants.{Dormant, Ready, Waiting, Suspended}
+use Rattle.run_view.specs.declared.seen_process.SeenProcess.{SeenProcess}
 
 -- the state of a process that is neither dormant nor suspended by another one, by what it waits for
 abbrev pub state_by_wait : Wait → ProcessState
@@ -27,3 +28,7 @@ shown_process process = record {
   ready_position = process.ready_position;
   due = option_map (λ outcome. outcome.service) process.due;
 }
+
+-- a process with its number
+abbrev pub shown_entry : ℕ × Process → SeenProcess
+shown_entry entry = record { number = entry.0; view = shown_process entry.1 }

@@ -1,10 +1,13 @@
 // What a record changes.
 
+ghost use Rattle.std.specs.Prelude.{◌≡◌, ◌++◌, [], ◌∷◌, OnOk};
+
 use crate::cores::CoreView;
 use crate::process::ProcessView;
 use crate::thing::ThingKey;
 use apex_machine::Mode;
 use apex_types::{PartId, Who};
+use std::alloc::AllocError;
 
 /// Something that is no longer as it was last seen. What an object or a channel now holds is read from its piece.
 #[derive(Clone, Copy, Debug, PartialEq, Eq)]
@@ -18,4 +21,11 @@ pub enum Change {
     Thing(ThingKey),
     /// An object no longer exists: it ended with a restart of its partition.
     Removed(ThingKey),
+}
+
+// Adds a change.
+pub(crate) fn add(changes: &mut Vec<Change>, change: Change) -> Result<(), AllocError>
+    ensures { OnOk result (changes.new.items ≡ changes.old.items ++ change ∷ []) }
+{
+    changes.extend_from_slice(&[change])
 }

@@ -1,16 +1,21 @@
 //! What a run does, record by record, for a picture of it: who has each core, which state each process is in, what each object and each
 //! channel holds, and who waits there.
 //!
-//! Promises: what is reported of a core, a process, an object or a channel is what its piece holds, as far as a picture shows it. No clause
-//! says that every change is reported, or which record sent a message. Nothing here judges: the pieces accept or reject a record.
+//! Promises: what is reported of a core, a process, an object or a channel is what its piece holds, as far as a picture shows it. A look
+//! reports every difference between what was seen of the pieces before and what is seen of them now, and nothing else. No clause says which
+//! record sent a message. Nothing here judges: the pieces accept or reject a record.
 #![tactic(auto)]
 
+mod among;
 mod change;
 mod cores;
 mod last_seen;
 mod lawful;
 mod message_links;
 mod process;
+mod seen_core;
+mod seen_object;
+mod seen_process;
 mod thing;
 mod waiter;
 

@@ -1,11 +1,42 @@
+-- What is seen and found of a partition, one thing after another.
 use Rattle.std.proofs.lemmas.Result.{on_ok_weaker}
-use Rattle.apex_machine.specs.State.{Partition}
-use Rattle.run_view.specs.Changes.{AddsOnly, IsOfPartition}
-use Rattle.run_view.proofs.Adding.{adds_more}
+use Rattle.run_view.specs.Plain.{plain_objects}
+use Rattle.run_view.specs.Seen.{PieceSeen, piece_seen}
+use Rattle.run_view.proofs.AddsExactly.{adds_then}
+use Rattle.run_view.proofs.FoundInPart.{adds_of_partition, each_kind}
 use Rattle.run_view.proofs.last_seen.SeenPiece.look_at_partition.Goals as goal
 
 pub returns : goal.returns
 returns c =
-    on_ok_weaker c.look_at_objects.result
-    (λ (objects : (partition : Partition) → AddsOnly (IsOfPartition c.args.part partition) c.look_at_processes.new.changes.items c.look_at_objects.new.changes.items).
-    adds_more (adds_more c.in_ok-look_at_mode.ensures c.in_ok-look_at_processes.ensures) (objects c.args.state.now)) c.look_at_objects.ensures
+    let before = piece_seen c.args.self.now in
+    let after : PieceSeen = record {
+      cores = before.cores;
+      mode = c.look_at_mode.new.seen;
+      processes = c.look_at_processes.new.seen.items;
+      buffers = plain_objects c.look_at_kind.new.seen.items;
+      blackboards = plain_objects c.look_at_kind-2.new.seen.items;
+      semaphores = plain_objects c.look_at_kind-3.new.seen.items;
+      events = plain_objects c.look_at_kind-4.new.seen.items;
+      mutexes = plain_objects c.look_at_kind-5.new.seen.items;
+      channel = before.channel;
+    } in
+    record {
+      seen = on_ok_weaker c.look_at_kind-5.result
+          (λ mutexes. record {
+            mode = c.in_ok-look_at_mode.ensures.seen;
+            processes = c.in_ok-look_at_processes.ensures.seen;
+            objects = each_kind c.args.state.now after c.in_ok-look_at_kind.ensures.seen c.in_ok-look_at_kind-2.ensures.seen c.in_ok-look_at_kind-3.ensures.seen
+                c.in_ok-look_at_kind-4.ensures.seen
+                mutexes;
+          }) c.look_at_kind-5.ensures.seen;
+      changes = on_ok_weaker c.look_at_kind-5.result
+          (λ mutexes. adds_of_partition c.args.part before after
+          (adds_then
+          (adds_then
+          (adds_then
+          (adds_then (adds_then (adds_then c.in_ok-look_at_mode.ensures.changes c.in_ok-look_at_processes.ensures.changes) c.in_ok-look_at_kind.ensures.changes)
+          c.in_ok-look_at_kind-2.ensures.changes)
+          c.in_ok-look_at_kind-3.ensures.changes)
+          c.in_ok-look_at_kind-4.ensures.changes)
+          mutexes)) c.look_at_kind-5.ensures.changes;
+    }

@@ -1,0 +1,13 @@
+-- A process whose number is there has not ended.
+use Rattle.run_view.specs.declared.change.Change.TheVariants as variant
+use Rattle.run_view.proofs.Finding.{none_if, one_if_not}
+use Rattle.run_view.proofs.seen_process.add_if_ended.Goals as goal
+
+pub returns-then-has_number : goal.returns-then-has_number
+returns-then-has_number c =
+    none_if (variant.Ended (record { part = c.args.part; proc = c.args.process.number })) c.has_number.result c.args.changes.now.items c.has_number.ensures c.if-has_number.true
+
+pub returns : goal.returns
+returns c =
+    one_if_not (variant.Ended (record { part = c.args.part; proc = c.args.process.number })) c.has_number.result c.add.result c.args.changes.now.items _ c.has_number.ensures
+    c.if-has_number.false c.add.ensures
