@@ -17,7 +17,6 @@ use Rattle.apexcheck.specs.Words.{AreNamed, AsksFor, Tells}
 use Rattle.apexcheck.specs.Wrong.{IsIncomplete, LacksFiles}
 use Rattle.apexcheck.specs.declared.usage.FilesAsked.{FilesAsked}
 use Rattle.apexcheck.specs.declared.usage.UsageFault.{UsageFault}
-use Rattle.apexcheck.specs.declared.usage.UsageFault.TheVariants as UsageFault
 
 -- the parser's own account of the matches is for command lines like this one
 is_simple_line : is_simple command_line ≡ true

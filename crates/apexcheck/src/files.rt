@@ -1,16 +1,17 @@
 // The check of files.
 
-ghost use Rattle.std.specs.Prelude.{◌≡◌, ◌≢◌, IfErr, IfOk, is_some, length, vec_len};
+ghost use Rattle.std.specs.Prelude.{◌≡◌, ◌≢◌, Any, IfErr, IfOk, IsErrAnd, IsSomeAnd, map, option_map, string_bytes};
 ghost use Rattle.std.specs.IoError.{error_kind};
-ghost use Rattle.apexcheck.specs.Files.{AreOpened, EndsAsAsked, IsOfFiles, ending_of};
+ghost use Rattle.apexcheck.specs.Files.{AreOpened, AreRulesOf, EndsAsAsked, IsOfFiles, ReadFiles, RefusesOne, ending_of};
 ghost use Rattle.apexcheck.specs.Ruled.{where_asked};
 
 use crate::awaited::{Awaited, Observed, copy_of, end_watch, watch};
 use crate::course::Course;
 use crate::ending::{Ending, end_of_check, out_of_memory, refused_by};
+use crate::folder::Folder;
 use crate::ruled::{check_ruled, read_rules};
 use crate::usage::FilesAsked;
-use answer_words::{Explainer, note_broken, open, open_text};
+use answer_words::{Explainer, note_broken};
 use csv_rows::{TextSource, Watched};
 use report::{Inputs, Last};
 use std::alloc::{AllocFailed, Global};
@@ -21,20 +22,26 @@ use std::rt::Clock;
 use std::sync::{Arc, Wait};
 use std::thread::Threads;
 
-/// Opens the files of a run and checks what they hold. The configuration is read first, then the rules file, if one is named; then the
-/// order is opened, then the recordings, core 0 first. The rules file is judged after that.
+/// Opens the files of a run in this folder and checks what they hold. The configuration is read first, then the rules file, if one is
+/// named; then the order is opened, then the recordings, core 0 first. The rules file is judged after that.
 ///
 /// The explainer receives what explains the end: which file cannot be opened or read and why, why the rules file is refused, which rule is
 /// broken, the record at the place of a No, and the unknown keys of the configuration.
-pub fn check_files<R, F>(rt: &R, asked: &FilesAsked, explainer: &mut Explainer) -> Ending
+pub fn check_files<R, D, F>(
+    rt: &R,
+    folder: &D,
+    asked: &FilesAsked,
+    explainer: &mut Explainer,
+) -> Ending
 where
-    R: Files<File = F> + Clock + Eprint + AllocGlobal,
+    R: Files + Clock + Eprint + AllocGlobal,
     R: Threads + Wait + Sync + Copy + Send + 'static,
+    D: Folder<File = F>,
     F: Read + Drop + Send + 'static,
-    ensures { IsOfFiles ⟦<Observed<Watched<F>> as TextSource>⟧.remaining ⟦<Observed<Watched<F>> as TextSource>⟧.can_fail asked.now result }
+    ensures { IsOfFiles (D.facts folder.now) ⟦<Observed<Watched<F>> as TextSource>⟧.remaining ⟦<Observed<Watched<F>> as TextSource>⟧.can_fail asked.now result }
 {
     let alloc = rt.alloc();
-    match Opened::open(rt, alloc, asked, explainer) {
+    match Opened::open(rt, folder, alloc, asked, explainer) {
         Ok(opened) => opened.check(rt, alloc, asked, explainer),
         Err(fault) => end_by(fault),
     }
@@ -62,25 +69,28 @@ struct Opened<S> {
 }
 
 impl<F: Read + Drop + Send + 'static> Opened<Observed<Watched<F>>> {
-    fn open<R: Files<File = F>>(
+    // Opens each file in its role.
+    fn open<R: Files, D: Folder<File = F>>(
         rt: &R,
+        folder: &D,
         alloc: Global,
         asked: &FilesAsked,
         explainer: &mut Explainer,
     ) -> Result<Opened<Observed<Watched<F>>>, OpenFault>
-        ensures { IfOk result (AreOpened asked.now.names) }
+        ensures opened { IfOk result (AreOpened (D.facts folder.now) asked.now.names) }
+        ensures refused { IfErr result (λ fault. fault ≡ OpenFault.Unopened → RefusesOne (D.facts folder.now) asked.now.names) }
     {
         let names = &asked.names;
         let config = reported(
             explainer,
             &names.config,
-            open_text(rt, alloc, &names.config),
+            folder.open_text(alloc, &names.config),
         )?;
-        let rules = open_rules(rt, alloc, &names.rules, explainer)?;
+        let rules = open_rules(folder, alloc, &names.rules, explainer)?;
         let awaited = awaited_of(rt, alloc, asked);
-        let order = reported(explainer, &names.order, open(rt, &names.order))?;
+        let order = reported(explainer, &names.order, folder.open(&names.order))?;
         let order = Observed::new(Watched::new(order), copy_of(&awaited), 0);
-        let cores = open_cores(rt, alloc, &names.cores, &awaited, explainer)?;
+        let cores = open_cores(folder, alloc, &names.cores, &awaited, explainer)?;
         Ok(Opened {
             config,
             rules,
@@ -154,18 +164,20 @@ fn where_asked(asked: bool, last: Last) -> Option<Last>
 }
 
 // The text of the rules file of this name, if one is named.
-fn open_rules<R: Files<File = F>, F: Read + Drop>(
-    rt: &R,
+fn open_rules<D: Folder>(
+    folder: &D,
     alloc: Global,
     name: &Option<String>,
     explainer: &mut Explainer,
 ) -> Result<Option<Vec<u8>>, OpenFault>
-    ensures { IfOk result (λ rules. is_some rules ≡ is_some name.now) }
+    ensures rules { IfOk result (λ rules. AreRulesOf (D.facts folder.now) (option_map string_bytes name.now) (option_map (λ text. text.items) rules)) }
+    ensures refused { IfErr result (λ fault. fault ≡ OpenFault.Unopened → IsSomeAnd (option_map string_bytes name.now) (D.facts folder.now).refuses) }
 {
-    match name {
-        Some(name) => Ok(Some(reported(explainer, name, open_text(rt, alloc, name))?)),
-        None => Ok(None),
-    }
+    let Some(name) = name else {
+        return Ok(None);
+    };
+    let text = reported(explainer, name, folder.open_text(alloc, name))?;
+    Ok(Some(text))
 }
 
 // The files that may hold up the check once its answer is known, if they are to be reported.
@@ -177,18 +189,19 @@ fn awaited_of<R: Files>(rt: &R, alloc: Global, asked: &FilesAsked) -> Option<Arc
 }
 
 // The recordings in the files of these names, in their order.
-fn open_cores<R: Files<File = F>, F: Read + Drop>(
-    rt: &R,
+fn open_cores<D: Folder<File = F>, F: Read + Drop>(
+    folder: &D,
     alloc: Global,
     names: &[String],
     awaited: &Option<Arc<Awaited>>,
     explainer: &mut Explainer,
 ) -> Result<Vec<Observed<Watched<F>>>, OpenFault>
-    ensures { IfOk result (λ cores. vec_len cores ≡ length names.now) }
+    ensures cores { IfOk result (λ cores. ReadFiles (D.facts folder.now) (map string_bytes names.now) cores.items) }
+    ensures refused { IfErr result (λ fault. fault ≡ OpenFault.Unopened → Any (λ name. (D.facts folder.now).refuses (string_bytes name)) names.now) }
 {
     let mut cores = Vec::new(alloc);
     for name in names {
-        let core = Watched::new(reported(explainer, name, open(rt, name))?);
+        let core = Watched::new(reported(explainer, name, folder.open(name))?);
         // The order is the first of the files.
         let index = usize::saturating_add(cores.len(), 1);
         cores.push(Observed::new(core, copy_of(awaited), index))?;
@@ -212,6 +225,8 @@ fn reported<T: Drop>(
     answer: io::Result<T>,
 ) -> Result<T, OpenFault>
     ensures value { IfOk answer (λ value. result ≡ Ok value) }
+    ensures given { IfOk result (λ value. answer ≡ Ok value) }
+    ensures refused { IfErr result (λ fault. fault ≡ OpenFault.Unopened → IsErrAnd answer (λ e. error_kind e ≢ ErrorKind.OutOfMemory)) }
     ensures memory { IfErr answer (λ e. error_kind e ≡ ErrorKind.OutOfMemory → result ≡ Err OpenFault.Memory) }
     ensures unopened { IfErr answer (λ e. error_kind e ≢ ErrorKind.OutOfMemory → result ≡ Err OpenFault.Unopened) }
 {
@@ -226,6 +241,11 @@ fn reported<T: Drop>(
 }
 
 impl<T: Drop> From<AllocFailed<T>> for OpenFault {
+    ghost use Rattle.std.specs.Prelude.{◌≡◌};
+    ghost use Rattle.apexcheck.specs.declared.files.OpenFault.TheVariants.{Memory};
+
+    ghost from_gives = { λ _ fault. fault ≡ Memory };
+
     fn from(_: AllocFailed<T>) -> OpenFault {
         OpenFault::Memory
     }

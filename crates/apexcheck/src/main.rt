@@ -1,49 +1,65 @@
 //! The program: checks recordings against a configuration and a proposed order, and prints one line. After a No, the last records before
 //! its place follow if they are requested.
 //!
-//! Promises: what is printed is the text of how the run ended, and the exit status is that of the end; if the output could not be written,
-//! the status says so. A run with options that request rules and with a rules file ends with the file's first refusal, or with the outcome
-//! under relations that say what the options request and then what the rules of the file say. A Yes for fewer records than are required is
-//! refused. After the outcome come the last records before the place of a No, if they are requested, and otherwise nothing.
+//! Promises: a run ends as its words request. What is printed is the text of that end, and the exit status is that of the end; if the output
+//! could not be written, the status says so. A run over files opens each file in its role. With options that request rules and with a rules
+//! file, it ends with the file's first refusal, or with the outcome under relations that say what the options request and then what the
+//! rules of the file say. A Yes for fewer records than are required is refused. After the outcome come the last records before the place of a
+//! No, if they are requested, and otherwise nothing.
+//!
+//! `run` makes these promises (`Runs.antt`). `main` passes to it the files, the terminal, the words and the output of the system, and ends
+//! with the status that it returns. `carry_out` first reserves the stack that a run may need. At the end `run` writes the line, then the
+//! explanation (`explain`), and then the log of `--sarif`. No rule of the machine is here.
 //!
 //! The options of the command line are a definition (`CommandLine.antt`). What words ask for is what the parser finds in them for these
-//! options (`Words.antt`). Workers and depth are passed on as they are given, and the check refuses what is out of range. `main` first
-//! reserves the stack that a run may need. At the end it writes the line, then the explanation (`explain`), and then the log of `--sarif`.
-//! No rule of the machine is here.
+//! options (`Words.antt`). Workers and depth are passed on as they are given, and the check refuses what is out of range.
 //!
-//! `Opened` holds what was opened. Its `check` judges the rules file (`read_rules`), then checks under the relations of the options,
-//! followed by clones of the file's relations (`check_ruled`). `check_files` opens the files and passes on the answer of `check`.
+//! `Opened` holds what was opened in a `Folder`. Its `check` judges the rules file (`read_rules`), then checks under the relations of the
+//! options, followed by clones of the file's relations (`check_ruled`). `check_files` opens the files and passes on the answer of `check`.
 //!
 //! `Explainer` gathers what explains the end. It is the witness of the check, and notes which file cannot be opened, why a rules file is
 //! refused, which rule is broken, and which keys of the configuration are unknown. What a person sees while the check goes on is a
 //! `Course`, which is the gate of the check: its progress, and the files that hold up a known answer (`Awaited`).
 #![tactic(auto)]
 
+ghost use Rattle.std.specs.Prelude.{◌≡◌, ◌<◌, map, string_bytes};
+ghost use Rattle.std.specs.IoError.{error_kind};
+ghost use Rattle.std.specs.Result.{result_map_both};
+ghost use Rattle.std.specs.Vec.Iter.{into_iter_items};
+ghost use Rattle.apexcheck.specs.Runs.{EndsAsRequested, IsRun};
+
 mod awaited;
 mod course;
 mod ending;
 mod explained;
 mod files;
+mod folder;
 mod progress;
 mod ruled;
 mod sarif;
 mod settings;
 mod stored;
 mod usage;
+mod words;
 
 use answer_words::{Explainer, Terminal};
+use awaited::Observed;
+use csv_rows::{TextSource, Watched};
 use ending::{Ending, conclude, out_of_memory, refused_words};
 use explained::explain;
+use folder::{Folder, SystemFiles};
 use sink::WriterSink;
 use std::alloc::Global;
+use std::env::Args;
 use std::fs::{File, Files};
-use std::io;
-use std::io::IsTerminal;
+use std::io::{IsTerminal, Read, Write};
 use std::process::ExitCode;
-use std::rt::Clock;
+use std::rt::{Clock, Env};
 use std::sync::Wait;
 use std::thread::Threads;
+use std::{env, io};
 use usage::{Asked, UsageFault};
+use words::request_of;
 
 /// How many bytes of the main thread's stack are touched in one step.
 const STEP: usize = 16_384;
@@ -52,52 +68,83 @@ const STEP: usize = 16_384;
 const STEPS: usize = 32;
 
 fn main(rt: HostRuntime) -> ExitCode {
-    let alloc = rt.alloc();
-    let terminal = Terminal::new(&rt, rt.stderr().is_terminal());
-    let mut explainer = Explainer::new(alloc, terminal);
-    let asked = usage::from_words(&rt, alloc);
-    let ending = if reserve_stack(STEPS) == 1 {
-        run(&rt, alloc, &asked, &mut explainer)
-    } else {
-        out_of_memory()
-    };
-    let mut output = WriterSink::new(io::writer(&rt));
-    let status = conclude(&mut output, &ending);
-    explain(&rt, alloc, &asked, &ending, &explainer, status);
-    ExitCode::from(status)
+    ExitCode::from(run(
+        &rt,
+        &SystemFiles::new(&rt),
+        Terminal::new(&rt, rt.stderr().is_terminal()),
+        env::args(&rt),
+        &mut WriterSink::new(io::writer(&rt)),
+    ))
 }
 
-// Touches this many steps of the stack, and returns 1. Threads may take up the rest of the address space later. The stack could not grow
-// then, and the system would end the program by a signal, although memory should be refused.
-fn reserve_stack(steps: usize) -> u8 {
-    let mut room = [1u8; STEP];
-    room[steps % STEP] = 1;
-    if steps == 0 {
-        return 1;
-    }
-    // The steps below are reached while this one is in use, and it is read afterwards.
-    room[usize::from(reserve_stack(steps - 1))]
-}
-
-// Does what the command line requests. The words are judged first, then the files are opened, then the rules file is judged, and then the
-// check runs.
-fn run<R>(
+// Does what the words request that the system gives, with files of this folder. Writes the end to the output, explains it to a person at
+// this terminal, and returns the exit status.
+fn run<R, D, F, W>(
     rt: &R,
+    folder: &D,
+    terminal: Terminal,
+    words: io::Result<Args>,
+    output: &mut WriterSink<W>,
+) -> u8
+where
+    R: Env + Files<File = File> + Clock + Eprint + AllocGlobal,
+    R: Threads + Wait + Sync + Copy + Send + 'static,
+    D: Folder<File = F>,
+    F: Read + Drop + Send + 'static,
+    W: Write + Drop,
+    ensures { IsRun (D.facts folder.now) ⟦<Observed<Watched<F>> as TextSource>⟧.remaining ⟦<Observed<Watched<F>> as TextSource>⟧.can_fail (result_map_both (λ words. map string_bytes (into_iter_items words)) error_kind words) output.old output.new result }
+{
+    let alloc = rt.alloc();
+    let mut explainer = Explainer::new(alloc, terminal);
+    let asked = request_of(alloc, words);
+    let ending = carry_out(rt, folder, alloc, &asked, &mut explainer);
+    let status = conclude(output, &ending);
+    explain(rt, alloc, &asked, &ending, &explainer, status);
+    status
+}
+
+// Does what the command line requests. The stack that a run may need is reserved first, then the files are opened, then the rules file is
+// judged, and then the check runs.
+fn carry_out<R, D, F>(
+    rt: &R,
+    folder: &D,
     alloc: Global,
     asked: &Result<Asked, UsageFault>,
     explainer: &mut Explainer,
 ) -> Ending
 where
-    R: Files<File = File> + Clock + Eprint + AllocGlobal,
+    R: Files + Clock + Eprint + AllocGlobal,
     R: Threads + Wait + Sync + Copy + Send + 'static,
+    D: Folder<File = F>,
+    F: Read + Drop + Send + 'static,
+    ensures { EndsAsRequested (D.facts folder.now) ⟦<Observed<Watched<F>> as TextSource>⟧.remaining ⟦<Observed<Watched<F>> as TextSource>⟧.can_fail asked.now result }
 {
+    // This is never so, but with the test the steps stay in the program.
+    if reserve_stack::<STEP>(STEPS) != 1 {
+        return out_of_memory();
+    }
     match asked {
         Ok(Asked::StoredRun) => Ending::Checked {
             outcome: stored::check_stored(*rt, alloc),
             last: None,
         },
         Ok(Asked::Version) => Ending::Version,
-        Ok(Asked::Files(asked)) => files::check_files(rt, asked, explainer),
+        Ok(Asked::Files(asked)) => files::check_files(rt, folder, asked, explainer),
         Err(fault) => refused_words(*fault),
     }
+}
+
+// Touches this many steps of the stack, each of this many bytes, and returns 1. Threads may take up the rest of the address space later. The
+// stack could not grow then, and the system would end the program by a signal, although memory should be refused.
+fn reserve_stack<const BYTES: usize>(steps: usize) -> u8
+    requires { 1 < BYTES }
+    ensures { result ≡ 1 }
+{
+    let mut room = [1u8; BYTES];
+    room[steps % BYTES] = 1;
+    if steps == 0 {
+        return 1;
+    }
+    // The steps below are reached while this one is in use, and it is read afterwards.
+    room[usize::from(reserve_stack::<BYTES>(steps - 1))]
 }

@@ -18,8 +18,6 @@ use clap::{Arg, ArgAction, ArgMatches, Command};
 use report::Settings;
 use rule_options::RuleOptions;
 use std::alloc::{AllocError, Global};
-use std::rt::Env;
-use std::{env, io};
 
 /// What the command line requests.
 #[derive(Debug, Drop)]
@@ -60,18 +58,8 @@ pub enum UsageFault {
     Memory,
 }
 
-/// Reads the words that were given to the program.
-pub fn from_words(rt: &(impl Env + AllocGlobal), alloc: Global) -> Result<Asked, UsageFault> {
-    let words: Vec<String> = match env::args(rt) {
-        Ok(words) => words.collect(alloc).map_err(|_| UsageFault::Memory)?,
-        Err(e) if e.kind() == io::ErrorKind::OutOfMemory => return Err(UsageFault::Memory),
-        Err(_) => return Err(UsageFault::Usage),
-    };
-    read_words(alloc, words.as_slice())
-}
-
-// Reads what these words request. The first word is the program's own name.
-fn read_words(alloc: Global, words: &[String]) -> Result<Asked, UsageFault>
+/// Reads what these words request. The first word is the program's own name.
+pub fn read_words(alloc: Global, words: &[String]) -> Result<Asked, UsageFault>
     ensures stored { length words.now ≤ 1 → result ≡ Ok Asked.StoredRun }
     ensures version { asks_version (map string_bytes words.now) ≡ true → result ≡ Ok Asked.Version }
     ensures files { 1 < length words.now → asks_version (map string_bytes words.now) ≡ false → IfOk result (AsksForFiles (found_in (map string_bytes words.now))) }

@@ -1,0 +1,47 @@
+-- A run of the program: what it ends with, and what it leaves.
+use Rattle.std.specs.Prelude.{◌≡◌, ◌≢◌, ◌<◌, ℕ, Bool, false, List, [], ◌∷◌, Option, Some, None, Result, Ok, Err}
+use Rattle.std.specs.declared.io.ErrorKind.{ErrorKind}
+use Rattle.csv_rows.specs.declared.watched.Watched.{Watched}
+use Rattle.report.specs.declared.fault.CheckFault.{CheckFault}
+use Rattle.report.specs.Answers.{Answers, given_by}
+use Rattle.sink.specs.Writer.{WriterView}
+use Rattle.sink.specs.Written.{IsCut, IsWritten}
+use Rattle.verdict_merge.specs.declared.verdict.Verdict.{Verdict}
+use Rattle.apexcheck.specs.declared.awaited.Observed.{Observed}
+use Rattle.apexcheck.specs.declared.ending.Ending.{Ending}
+use Rattle.apexcheck.specs.declared.ending.TheConstants.{UNWRITTEN}
+use Rattle.apexcheck.specs.declared.stored.TheConstants.{CONFIG, ORDER, RECORDING, SETTINGS}
+use Rattle.apexcheck.specs.declared.usage.Asked.{Asked}
+use Rattle.apexcheck.specs.declared.usage.UsageFault.{UsageFault}
+use Rattle.apexcheck.specs.Endings.{exit_status_of, refused_words, text_of}
+use Rattle.apexcheck.specs.Files.{IsOfFiles}
+use Rattle.apexcheck.specs.Folders.{FolderView}
+use Rattle.apexcheck.specs.Requests.{IsRequested}
+
+-- an outcome of the run that is stored in the program, with one worker and the usual depth
+abbrev pub IsOfStored : Result Verdict CheckFault → Type 0
+IsOfStored outcome = Answers (given_by CONFIG.now (Some RECORDING.now ∷ []) false (Some ORDER.now) false) [] SETTINGS outcome
+
+-- an end is written and becomes the status: its whole text went out and the status is its own; or the writer failed, the first bytes of the
+-- text went out and no others, and the status is that of unwritten output
+pub record IsConcluded (ending : Ending) (before after : WriterView) (status : ℕ) : Type 0 where
+  pub status_is : status ≢ UNWRITTEN → status ≡ exit_status_of ending
+  pub whole : status ≢ UNWRITTEN → IsWritten before.bytes (text_of ending) after.bytes
+  pub same : status ≢ UNWRITTEN → after.failures ≡ before.failures
+  pub cut : status ≡ UNWRITTEN → IsCut before.bytes (text_of ending) after.bytes
+  pub failed : status ≡ UNWRITTEN → before.failures < after.failures
+
+module _ {F : Type 0} (facts : FolderView F) (known : Observed (Watched F) → Option (List ℕ)) (can_fail : Bool) where
+  -- a run ends as it is requested: with an outcome of the stored run, with the version, as a run over the files, or with the refusal of the
+  -- command line
+  abbrev pub EndsAsRequested : Result Asked UsageFault → Ending → Type 0
+  EndsAsRequested (Ok Asked.StoredRun) ending = (outcome : Result Verdict CheckFault) × (ending ≡ Ending.Checked outcome None) × IsOfStored outcome
+  EndsAsRequested (Ok Asked.Version) ending = ending ≡ Ending.Version
+  EndsAsRequested (Ok (Asked.Files files)) ending = IsOfFiles facts known can_fail files ending
+  EndsAsRequested (Err fault) ending = ending ≡ refused_words fault
+
+  -- a run of the program under the words that the system gives, or under its refusal to give them: what they request, the end that this has,
+  -- and what is written of that end
+  abbrev pub IsRun : Result (List (List ℕ)) ErrorKind → WriterView → WriterView → ℕ → Type 0
+  IsRun words before after status =
+      (asked : Result Asked UsageFault) × (ending : Ending) × IsRequested words asked × EndsAsRequested asked ending × IsConcluded ending before after status
