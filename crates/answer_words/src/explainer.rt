@@ -13,7 +13,7 @@ use rules_explanation::{RefusedRules, tell_rules};
 use rules_file::{RulesFault, RulesRefusal};
 use std::alloc::Global;
 use std::fmt::Display;
-use user_rules::Relation;
+use user_rules::{Relation, Rule};
 use wording::Words;
 
 /// What explains the end of a run. As the witness of a check it explains the record at the place of a No or of a broken rule.
@@ -168,6 +168,11 @@ impl Explainer {
         self.explanation.tell_refused(config, piece, ordered, cause);
     }
 
+    /// Explains the record that breaks a rule, by its view.
+    pub fn explain_broken(&mut self, ordered: &Ordered, view: &View) {
+        self.explanation.tell_broken(ordered, view);
+    }
+
     /// Adds the fields of the record's view that this relation mentions, if the record breaks a rule.
     pub fn tell_fields(&mut self, relation: &Relation) {
         self.explanation.tell_fields(relation);
@@ -184,7 +189,14 @@ impl Witness for Explainer {
         self.explain_rejected(config, piece, ordered, cause);
     }
 
-    fn broken(&mut self, ordered: &Ordered, view: &View, _rule: usize) {
-        self.explanation.tell_broken(ordered, view);
+    fn broken(
+        &mut self,
+        _config: &Config,
+        _rules: &[Rule],
+        ordered: &Ordered,
+        view: &View,
+        _rule: usize,
+    ) {
+        self.explain_broken(ordered, view);
     }
 }

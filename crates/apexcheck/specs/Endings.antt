@@ -12,8 +12,8 @@ use Rattle.rules_file.specs.declared.fault.RulesFault.TheVariants as rules
 use Rattle.verdict_merge.specs.declared.verdict.Verdict.{Verdict}
 use Rattle.verdict_merge.specs.declared.verdict.Verdict.TheVariants.{Yes}
 use Rattle.apexcheck.specs.declared.ending.Ending.{Ending}
-use Rattle.apexcheck.specs.declared.usage.UsageFault.{UsageFault}
-use Rattle.apexcheck.specs.declared.usage.UsageFault.TheVariants as usage
+use Rattle.check_request.specs.declared.usage.UsageFault.{UsageFault}
+use Rattle.check_request.specs.declared.usage.UsageFault.TheVariants as usage
 use Rattle.apexcheck.specs.declared.ending.Ending.TheVariants.{Checked, Few, BadUsage, Unopened, BadRules, BadRule, Version}
 
 -- the status of an outcome, 0 for the version, and 2 for too few records and for what kept the check from running

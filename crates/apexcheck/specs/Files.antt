@@ -10,7 +10,7 @@ use Rattle.apexcheck.specs.declared.ending.Ending.{Ending}
 use Rattle.apexcheck.specs.declared.files.OpenFault.{OpenFault}
 use Rattle.apexcheck.specs.declared.files.OpenFault.TheVariants.{Unopened, Memory}
 use Rattle.apexcheck.specs.declared.files.Opened.{Opened}
-use Rattle.apexcheck.specs.declared.usage.FilesAsked.{FilesAsked}
+use Rattle.check_request.specs.declared.usage.FilesAsked.{FilesAsked}
 use Rattle.apexcheck.specs.Endings.{out_of_memory}
 use Rattle.apexcheck.specs.Folders.{FolderView}
 use Rattle.apexcheck.specs.Ruled.{IsRuledEnding}

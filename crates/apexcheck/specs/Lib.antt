@@ -1,10 +1,5 @@
-pub mod CommandLine
 pub mod Endings
 pub mod Files
 pub mod Folders
-pub mod Requests
 pub mod Ruled
 pub mod Runs
-pub mod Settings
-pub mod Words
-pub mod Wrong

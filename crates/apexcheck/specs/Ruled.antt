@@ -1,39 +1,18 @@
 -- What a check under the rules of options and of a rules file answers, and how its run ends.
-use Rattle.std.specs.Prelude.{◌≡◌, ◌⊎◌, ◌++◌, ℕ, Bool, true, false, List, [], Option, Some, None, Result, Ok, Err, map}
-use Rattle.apex_types.specs.declared.view.View.{View}
+use Rattle.std.specs.Prelude.{◌≡◌, ◌⊎◌, ℕ, Bool, true, false, List, [], Option, Some, None, Result, Ok, Err}
+use Rattle.asked_rules.specs.Asked.{SayBoth, rules_given}
 use Rattle.report.specs.declared.fault.CheckFault.{CheckFault}
 use Rattle.report.specs.declared.fault.CheckFault.TheVariants.{Memory}
 use Rattle.report.specs.declared.settings.Settings.{Settings}
 use Rattle.report.specs.declared.last.LastItem.{LastItem}
 use Rattle.report.specs.Answers.{AnswersWith, Given}
 use Rattle.rule_options.specs.declared.option.RuleOption.{RuleOption}
-use Rattle.rule_options.specs.Options.{SayInTurn}
 use Rattle.rules_file.specs.declared.fault.RulesFault.{RulesFault}
-use Rattle.rules_file.specs.declared.refusal.RulesRefusal.{RulesRefusal}
-use Rattle.rules_file.specs.Reading.{SaidRule, walk_of, without_key}
+use Rattle.rules_file.specs.Reading.{SaidRule}
 use Rattle.user_rules.specs.declared.relation.Relation.{Relation}
-use Rattle.user_rules.specs.Meets.{meets}
 use Rattle.verdict_merge.specs.declared.verdict.Verdict.{Verdict}
 use Rattle.apexcheck.specs.declared.ending.Ending.{Ending}
 use Rattle.apexcheck.specs.Endings.{end_of_check, out_of_memory, refused_by}
-
--- the rules of a rules file, or where the walk over it stops; there are none if there is no file
-abbrev pub walk_given : Option (List ℕ) → Result (List SaidRule) RulesRefusal
-walk_given None = Ok []
-walk_given (Some text) = walk_of text
-
--- the rules of a rules file, or its first fault
-abbrev pub rules_given : Option (List ℕ) → Result (List SaidRule) RulesFault
-rules_given text = without_key (walk_given text)
-
--- relations hold for exactly the views for which the rules of a file say so, one relation for each rule, in their order
-abbrev pub HoldInTurn : List SaidRule → List Relation → Type 0
-HoldInTurn rules relations = (view : View) → map (λ relation. meets relation view) relations ≡ map (λ rule. rule.holds view) rules
-
--- relations say what options request, followed by what the rules of a file say
-abbrev pub SayBoth : List RuleOption → List SaidRule → List Relation → Type 0
-SayBoth options rules relations =
-    (front : List Relation) × (those_after : List Relation) × (relations ≡ front ++ those_after) × SayInTurn options front × HoldInTurn rules those_after
 
 -- the answer, and the last records that it leaves, are those of these inputs under relations that say what the options request, followed by
 -- what the rules of the file say, in their order; a lack of memory outranks them, and leaves no last records

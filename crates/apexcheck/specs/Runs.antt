@@ -11,12 +11,12 @@ use Rattle.apexcheck.specs.declared.awaited.Observed.{Observed}
 use Rattle.apexcheck.specs.declared.ending.Ending.{Ending}
 use Rattle.apexcheck.specs.declared.ending.TheConstants.{UNWRITTEN}
 use Rattle.apexcheck.specs.declared.stored.TheConstants.{CONFIG, ORDER, RECORDING, SETTINGS}
-use Rattle.apexcheck.specs.declared.usage.Asked.{Asked}
-use Rattle.apexcheck.specs.declared.usage.UsageFault.{UsageFault}
+use Rattle.check_request.specs.declared.usage.Asked.{Asked}
+use Rattle.check_request.specs.declared.usage.UsageFault.{UsageFault}
 use Rattle.apexcheck.specs.Endings.{exit_status_of, refused_words, text_of}
 use Rattle.apexcheck.specs.Files.{IsOfFiles}
 use Rattle.apexcheck.specs.Folders.{FolderView}
-use Rattle.apexcheck.specs.Requests.{IsRequested}
+use Rattle.check_request.specs.Requests.{IsRequested}
 
 -- an outcome of the run that is stored in the program, with one worker and the usual depth
 abbrev pub IsOfStored : Result Verdict CheckFault → Type 0

@@ -6,7 +6,7 @@ ghost use Rattle.apexcheck.specs.declared.ending.Ending.TheVariants.{BadRule, Ba
 ghost use Rattle.apexcheck.specs.Endings.{end_of_check, exit_status_of, lines_after, out_of_memory, text_of, refused_by, refused_words, rule_fault_name};
 ghost use Rattle.sink.specs.Written.{IsCut, IsWritten};
 
-use crate::usage::UsageFault;
+use check_request::UsageFault;
 use itoa::Buffer;
 use report::{CheckFault, Last, Verdict, status_of_outcome, write_last, write_report};
 use rules_file::{RuleFault, RulesFault};

@@ -2,11 +2,11 @@
 
 use crate::ending::{Ending, UNWRITTEN};
 use crate::sarif::write_log;
-use crate::usage::{Asked, FilesAsked, UsageFault};
 use answer_words::{
     Explainer, RunFiles, Told, words_of_stored_run, words_of_unwritten_log,
     words_of_unwritten_output,
 };
+use check_request::{Asked, FilesAsked, UsageFault};
 use program_words::{Documents, Program, tell_usage};
 use report::Verdict;
 use std::alloc::Global;

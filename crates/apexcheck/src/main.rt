@@ -11,8 +11,7 @@
 //! with the status that it returns. `carry_out` first reserves the stack that a run may need. At the end `run` writes the line, then the
 //! explanation (`explain`), and then the log of `--sarif`. No rule of the machine is here.
 //!
-//! The options of the command line are a definition (`CommandLine.antt`). What words ask for is what the parser finds in them for these
-//! options (`Words.antt`). Workers and depth are passed on as they are given, and the check refuses what is out of range.
+//! What the words request is said by `check_request`.
 //!
 //! `Opened` holds what was opened in a `Folder`. Its `check` judges the rules file (`read_rules`), then checks under the relations of the
 //! options, followed by clones of the file's relations (`check_ruled`). `check_files` opens the files and passes on the answer of `check`.
@@ -37,13 +36,11 @@ mod folder;
 mod progress;
 mod ruled;
 mod sarif;
-mod settings;
 mod stored;
-mod usage;
-mod words;
 
 use answer_words::{Explainer, Terminal};
 use awaited::Observed;
+use check_request::{Asked, UsageFault, request_of};
 use csv_rows::{TextSource, Watched};
 use ending::{Ending, conclude, out_of_memory, refused_words};
 use explained::explain;
@@ -58,8 +55,6 @@ use std::rt::{Clock, Env};
 use std::sync::Wait;
 use std::thread::Threads;
 use std::{env, io};
-use usage::{Asked, UsageFault};
-use words::request_of;
 
 /// How many bytes of the main thread's stack are touched in one step.
 const STEP: usize = 16_384;

@@ -1,29 +1,19 @@
 // The check under the rules of options and of a rules file.
 
-ghost use Rattle.std.specs.Prelude.{[], ◌≡◌, IfOk, map, option_map};
-ghost use Rattle.rules_file.specs.Reading.{GivesPlaced, said};
-ghost use Rattle.apexcheck.specs.Ruled.{AnswersRuled, HoldInTurn, SayBoth, walk_given};
+ghost use Rattle.std.specs.Prelude.{[], ◌≡◌, map};
+ghost use Rattle.rules_file.specs.Reading.{said};
+ghost use Rattle.apexcheck.specs.Ruled.{AnswersRuled};
 
+use asked_rules::all_relations;
 use csv_rows::TextSource;
 use report::{
     CheckFault, Gate, Inputs, Last, Options, Settings, Verdict, Witness, check_relations,
 };
-use rule_options::{RuleOption, relations_of};
-use rules_file::{NamedRule, RulesRefusal};
-use std::alloc::{AllocError, Global};
+use rule_options::RuleOption;
+use rules_file::NamedRule;
+use std::alloc::Global;
 use std::sync::Wait;
 use std::thread::Threads;
-use user_rules::Relation;
-
-/// The rules of a rules file, in its order; none if there is no file. A refusal has the key at which the walk over the text stops.
-pub fn read_rules(alloc: Global, text: Option<&[u8]>) -> Result<Vec<NamedRule>, RulesRefusal>
-    ensures { GivesPlaced (λ rules. map said rules.items) result (walk_given (option_map (λ text. text.now) text.entry)) }
-{
-    match text {
-        Some(text) => rules_file::read_explained(alloc, text),
-        None => Ok(Vec::new(alloc)),
-    }
-}
 
 /// Checks these inputs under rules: those that these options request, numbered in their order, and the named ones after them. The check is
 /// carried out as the settings say, and the gate sees its progress.
@@ -54,29 +44,4 @@ where
     };
     let options = Options::new(settings, gate);
     check_relations(rt, alloc, inputs, relations, options, last, witness)
-}
-
-// The relations that options request, followed by those of rules.
-fn all_relations(
-    alloc: Global,
-    options: &[RuleOption],
-    rules: &[NamedRule],
-) -> Result<Vec<Relation>, AllocError>
-    ensures { IfOk result (λ relations. SayBoth options.now (map said rules.now) relations.items) }
-{
-    let mut relations = relations_of(alloc, options)?;
-    let mut those_after = relations_in(alloc, rules)?;
-    relations.append(&mut those_after)?;
-    Ok(relations)
-}
-
-// The relations of rules, in their order.
-fn relations_in(alloc: Global, rules: &[NamedRule]) -> Result<Vec<Relation>, AllocError>
-    ensures { IfOk result (λ relations. HoldInTurn (map said rules.now) relations.items) }
-{
-    let mut relations = Vec::new(alloc);
-    for rule in rules {
-        relations.push(rule.relation.clone()?)?;
-    }
-    Ok(relations)
 }

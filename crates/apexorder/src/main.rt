@@ -1,28 +1,35 @@
 //! The program: searches for an order of the recordings of several cores, and prints it as a certificate.
 //!
 //! Promises: what goes to standard output during a search are rows of a certificate, of which `order_run` says what they are; the exit
-//! status is the one of the end. Standard error shows a person the end, and what stops each core if no order was found.
+//! status is that of the end, and the end is what the command line and its files came to (`run`). Standard error shows a person that end, in
+//! the words of `order_words`.
 #![tactic(auto)]
+
+ghost use Rattle.std.specs.Prelude.{◌≡◌};
+ghost use Rattle.apexorder.specs.declared.ending.Ending.{Ending};
+ghost use Rattle.apexorder.specs.Endings.{status_of};
+ghost use Rattle.apexorder.specs.Files.{EndsBy};
 
 mod ending;
 mod files;
-mod found;
 mod of_itself;
 mod progress;
 mod proposing;
+mod ruled;
 mod seen;
 mod told;
 mod usage;
 
+use csv_rows::{TextSource, Watched};
 use ending::{Ending, refused_words};
 use files::propose_for;
 use of_itself::{print_help, print_version};
 use seen::Seen;
-use sink::WriterSink;
+use sink::{Sink, WriterSink};
 use std::alloc::Global;
 use std::fs::{File, Files};
 use std::io;
-use std::io::IsTerminal;
+use std::io::{IsTerminal, Read};
 use std::process::ExitCode;
 use std::rt::{Clock, Env};
 use told::tell;
@@ -36,11 +43,8 @@ fn main(rt: HostRuntime) -> ExitCode {
         alloc,
         wants_progress(&asked, rt.stderr().is_terminal()),
     );
-    let ending = run(&rt, alloc, &asked, &mut seen);
-    seen.clear();
     let mut output = WriterSink::new(rt.stderr());
-    tell(&rt, alloc, &mut output, &asked, &ending, &seen);
-    ExitCode::from(ending.status())
+    ExitCode::from(run(&rt, alloc, &asked, &mut seen, &mut output))
 }
 
 // Whether the progress is shown: on a terminal, unless `--quiet` is given.
@@ -51,13 +55,36 @@ fn wants_progress(asked: &Result<Asked, UsageFault>, is_terminal: bool) -> bool 
     }
 }
 
-// Does what the command line requests.
-fn run<R: Files<File = File> + Clock + Print + Eprint + AllocGlobal>(
+// Does what the command line requests, and reports how that ended. Returns the exit status of the end. The line of a refusal goes to this
+// output.
+fn run<R, F: Read + Drop, W: Sink>(
     rt: &R,
     alloc: Global,
     asked: &Result<Asked, UsageFault>,
     seen: &mut Seen<'_, R>,
-) -> Ending {
+    output: &mut W,
+) -> u8
+where
+    R: Files<File = F> + Env + Clock + Print + Eprint + AllocGlobal,
+    ensures { (ending : Ending) × EndsBy ⟦<Watched<F> as TextSource>⟧.remaining asked.now ending × (result ≡ status_of ending) }
+{
+    let ending = end_of(rt, alloc, asked, seen);
+    seen.clear();
+    tell(rt, alloc, output, asked, &ending, &seen.noted);
+    ending.status()
+}
+
+// Does what the command line requests.
+fn end_of<R, F: Read + Drop>(
+    rt: &R,
+    alloc: Global,
+    asked: &Result<Asked, UsageFault>,
+    seen: &mut Seen<'_, R>,
+) -> Ending
+where
+    R: Files<File = F> + Clock + Print + Eprint + AllocGlobal,
+    ensures { EndsBy ⟦<Watched<F> as TextSource>⟧.remaining asked.now result }
+{
     match asked {
         Ok(Asked::Order(asked)) => propose_for(rt, alloc, asked, seen),
         Ok(Asked::Version) => print_version(rt),

@@ -1,9 +1,11 @@
 // The search over recordings that are opened.
 
-ghost use Rattle.std.specs.Prelude.{◌≡◌, ℕ, List, Ok, Some, map};
+ghost use Rattle.std.specs.Prelude.{◌≡◌, ℕ, List, Ok, Some, map, option_map};
 ghost use Rattle.apex_machine.specs.Configuration.{Configuration};
 ghost use Rattle.module_config.specs.Reading.{configuration_of};
-ghost use Rattle.apexorder.specs.Endings.{HasReceived, IsCertified};
+ghost use Rattle.record_read.specs.Row.{records_of};
+ghost use Rattle.user_rules.specs.Rules.{relations_of};
+ghost use Rattle.apexorder.specs.Endings.{HasReceived, IsCertifiedBy};
 
 use crate::ending::{Ending, refused_by};
 use csv_rows::TextSource;
@@ -13,23 +15,26 @@ use report::{ArgumentFault, CheckFault};
 use sink::WriterSink;
 use std::alloc::Global;
 use std::io::Write;
+use user_rules::Rule;
 
-/// Searches for an order of these recordings under the configuration with this text, and writes its certificate to this output.
+/// Searches for an order of these recordings under the configuration with this text, and writes its certificate to this output. The rules
+/// are tested on it.
 ///
-/// Whatever the end is, the output received the first bytes of rows that begin a lawful order of the configured cores, and nothing if the
-/// text is no configuration. If the end is a proposal, the output received the whole certificate, and the proposal means of the
-/// configuration and the recordings what `order_run` says.
+/// Whatever the end is, the output received the first bytes of rows that begin a lawful order of the configured cores and list the first
+/// records of the recordings, and nothing if the text is no configuration. If the end is a proposal, the output received the whole certificate, and the proposal means of the
+/// configuration, the rules and the recordings what `order_run` says.
 #[tactic(auto, using(crate::proofs::Written::none_received, crate::proofs::Written::received, crate::proofs::Written::certified, crate::proofs::Written::none_is_certified))]
 pub fn propose_into<S: TextSource + Drop, V: Watcher, W: Write + Drop>(
     alloc: Global,
     effort: u64,
     text: &[u8],
+    rules: &[Rule],
     cores: Vec<S>,
     watcher: &mut V,
     output: &mut WriterSink<W>,
 ) -> Ending
-    ensures rows { HasReceived (configuration_of text.now) output.old.bytes output.new.bytes }
-    ensures certified { (configuration : Configuration) (texts : List (List ℕ)) → configuration_of text.now ≡ Ok configuration → map S.remaining cores.items ≡ map Some texts → IsCertified configuration texts output.old.bytes output.new.bytes result }
+    ensures rows { HasReceived (configuration_of text.now) (map (λ source. option_map records_of (S.remaining source)) cores.items) output.old.bytes output.new.bytes }
+    ensures certified { (configuration : Configuration) (texts : List (List ℕ)) → configuration_of text.now ≡ Ok configuration → map S.remaining cores.items ≡ map Some texts → IsCertifiedBy configuration (relations_of rules.now) texts output.old.bytes output.new.bytes result }
 {
     let config = match Config::read(alloc, text) {
         Ok(config) => config,
@@ -43,7 +48,7 @@ pub fn propose_into<S: TextSource + Drop, V: Watcher, W: Write + Drop>(
         window: MOST_UNDECIDED,
         effort,
     };
-    match propose(alloc, &config, cores, limits, watcher, output) {
+    match propose(alloc, &config, rules, cores, limits, watcher, output) {
         Ok(proposal) => match output.flush() {
             Ok(()) => Ending::Proposed(proposal),
             Err(_) => Ending::Unwritten,

@@ -3,6 +3,8 @@
 use clap::error::ErrorKind;
 use clap::{Arg, ArgAction, ArgMatches, Command};
 use csv_rows::read_decimal;
+use order_words::OrderNames;
+use rule_options::RuleOptions;
 use std::alloc::{AllocError, Global};
 use std::rt::Env;
 use std::{env, io};
@@ -24,14 +26,14 @@ pub enum Asked {
 /// A search for an order, as the command line requests it.
 #[derive(Debug, Drop)]
 pub struct OrderAsked {
-    /// The file with the configuration.
-    pub config: String,
+    /// The files.
+    pub names: OrderNames,
+    /// The rules that are requested by options of their own.
+    pub options: RuleOptions,
     /// How many records may be tried for each one placed.
     pub effort: u64,
     /// Whether standard error shows no progress, and not what stops each core.
     pub quiet: bool,
-    /// The files with the recordings, one for each core, core 0 first.
-    pub cores: Vec<String>,
 }
 
 /// Why a command line requests nothing that can be done.
@@ -92,12 +94,30 @@ fn asked_in(alloc: Global, matches: &ArgMatches<'_>) -> Result<OrderAsked, Usage
         Some(text) => read_decimal(text.as_bytes(), u32::MAX as u64).ok_or(UsageFault::Usage)?,
         None => USUAL_EFFORT,
     };
+    let rules = match matches.get_str("rules") {
+        Some(name) => Some(String::from_str(alloc, name)?),
+        None => None,
+    };
+    let max_elapsed = bytes_of(matches, "max-elapsed");
+    let forbidden = bytes_of(matches, "forbid");
     Ok(OrderAsked {
-        config: String::from_str(alloc, config)?,
+        names: OrderNames {
+            config: String::from_str(alloc, config)?,
+            rules,
+            cores: owned(alloc, cores)?,
+        },
+        options: RuleOptions::read(max_elapsed, forbidden).ok_or(UsageFault::Usage)?,
         effort,
         quiet: matches.get_flag("quiet"),
-        cores: owned(alloc, cores)?,
     })
+}
+
+// The text that is given to an option, if there is one.
+fn bytes_of<'a>(matches: &ArgMatches<'a>, name: &str) -> Option<&'a [u8]> {
+    match matches.get_str(name) {
+        Some(text) => Some(text.as_bytes()),
+        None => None,
+    }
 }
 
 // Owned texts.
@@ -115,6 +135,9 @@ fn command<'a>(alloc: Global) -> Result<Command<'a>, AllocError> {
         .disable_help_flag(true)
         .arg(option(alloc, "config").required(true))?
         .arg(option(alloc, "effort"))?
+        .arg(option(alloc, "max-elapsed"))?
+        .arg(option(alloc, "forbid"))?
+        .arg(option(alloc, "rules"))?
         .arg(flag(alloc, "quiet"))?
         .arg(recordings(alloc))
 }

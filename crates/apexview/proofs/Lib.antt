@@ -1,2 +1,2 @@
-pub mod Deciding
-pub mod Placing
+mod Answering
+mod Ended

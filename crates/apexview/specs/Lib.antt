@@ -1,3 +1,3 @@
 pub mod Endings
-pub mod Going
-pub mod Stretches
+pub mod Files
+pub mod Shown

@@ -1,25 +1,18 @@
-// Why a run is not shown completely.
+// Why a run is not shown completely, once it is judged.
+
+ghost use Rattle.std.specs.Prelude.{◌≡◌, ◌⊎◌};
+ghost use Rattle.apexview.specs.declared.ending.Ending.TheVariants.{Unwritten};
+ghost use Rattle.apexview.specs.Endings.{out_of_memory};
 
 use crate::ending::{Ending, out_of_memory};
-use apex_types::{Cause, Place};
-use placement::{InputFault, PlacingFault};
-use report::{CheckFault, Verdict};
-use run_walk::{Refusal, WalkFault};
-use sink::WriteFault;
+use run_walk::WalkFault;
 use std::alloc::{AllocError, AllocFailed};
+use view_page::PageFault;
 use view_trace::TraceFault;
 
-/// Why a run is not shown completely.
+/// Why a run is not shown completely, once it is judged.
 #[derive(Clone, Copy, Debug)]
 pub enum ShowFault {
-    /// The certificate, the order or a recording is refused.
-    Input(InputFault),
-    /// A piece rejects a record in the second walk, over the records that the first walk accepted.
-    Rejected {
-        pos: Place,
-        piece: usize,
-        cause: Cause,
-    },
     /// Memory was refused.
     Memory,
     /// Standard output could not be written.
@@ -28,32 +21,12 @@ pub enum ShowFault {
 
 impl ShowFault {
     /// The end of the program.
-    pub fn ending(self) -> Ending {
+    pub fn ending(self) -> Ending
+        ensures { (result ≡ Unwritten) ⊎ (result ≡ out_of_memory) }
+    {
         match self {
-            ShowFault::Input(fault) => Ending::Checked(Err(CheckFault::Input(fault))),
-            ShowFault::Rejected { pos, piece, cause } => {
-                Ending::Checked(Ok(Verdict::No { pos, piece, cause }))
-            }
             ShowFault::Memory => out_of_memory(),
             ShowFault::Unwritten => Ending::Unwritten,
-        }
-    }
-}
-
-/// The fault of a record that is rejected at this place.
-pub fn rejected_at(pos: Place, refusal: &Refusal) -> ShowFault {
-    ShowFault::Rejected {
-        pos,
-        piece: refusal.piece,
-        cause: refusal.cause,
-    }
-}
-
-impl From<PlacingFault> for ShowFault {
-    fn from(fault: PlacingFault) -> ShowFault {
-        match fault {
-            PlacingFault::Input(fault) => ShowFault::Input(fault),
-            PlacingFault::Memory => ShowFault::Memory,
         }
     }
 }
@@ -75,9 +48,12 @@ impl From<TraceFault> for ShowFault {
     }
 }
 
-impl From<WriteFault> for ShowFault {
-    fn from(_: WriteFault) -> ShowFault {
-        ShowFault::Unwritten
+impl From<PageFault> for ShowFault {
+    fn from(fault: PageFault) -> ShowFault {
+        match fault {
+            PageFault::Memory => ShowFault::Memory,
+            PageFault::Unwritten => ShowFault::Unwritten,
+        }
     }
 }
 

@@ -1,28 +1,23 @@
 // The files of a run, opened and shown.
 
+ghost use Rattle.std.specs.Prelude.{◌≡◌, ◌⊎◌, IfErr, IfOk, is_some, length, vec_len};
+ghost use Rattle.apexview.specs.declared.ending.Ending.TheVariants.{Unopened};
+ghost use Rattle.apexview.specs.Endings.{out_of_memory};
+ghost use Rattle.apexview.specs.Files.{AreOpened, EndsAsAsked, IsOfFiles};
+
 use crate::ending::{Ending, out_of_memory, refused_by};
-use crate::run::{Shown, show};
+use crate::shown::{Judged, Request, show_under};
 use crate::usage::FilesAsked;
 use answer_words::{Explainer, InputNames, open, open_text};
-use core_intake::Intake;
-use csv_rows::Watched;
-use module_config::Config;
-use order_cert::CertSource;
-use placement::Placer;
-use report::{ArgumentFault, CheckFault};
-use rule_options::{RuleOption, relations_of};
-use rules_file::{NamedRule, RulesRefusal};
+use asked_rules::{all_relations, read_rules};
+use csv_rows::{TextSource, Watched};
 use sink::Sink;
-use std::alloc::{AllocError, Global};
+use std::alloc::Global;
 use std::fs::{File, Files};
 use std::io;
 use std::io::ErrorKind;
 use std::sync::Wait;
 use std::thread::Threads;
-use user_rules::Relation;
-
-/// How many records of a core are read ahead.
-const DEPTH: usize = 64;
 
 /// Opens the files of a run and shows it. The configuration is read first, then the rules file, if one is named; then the order is
 /// opened, then the recordings, core 0 first. The explainer receives what explains its end.
@@ -35,6 +30,7 @@ pub fn show_files<R, W: Sink>(
 ) -> Ending
 where
     R: Files<File = File> + Threads + Wait + Sync + Copy + Send + 'static,
+    ensures { IsOfFiles ⟦<Watched<File> as TextSource>⟧.remaining ⟦<Watched<File> as TextSource>⟧.can_fail asked.now result }
 {
     match Opened::open(rt, alloc, &asked.names, explainer) {
         Ok(opened) => opened.show(rt, alloc, asked, explainer, output),
@@ -44,20 +40,23 @@ where
 
 // What is opened for a picture or a trace.
 #[derive(Drop)]
-struct Opened {
+struct Opened<S> {
     config: Vec<u8>,
     rules: Option<Vec<u8>>,
-    order: Watched<File>,
-    cores: Vec<Watched<File>>,
+    order: S,
+    cores: Vec<S>,
 }
 
-impl Opened {
+impl Opened<Watched<File>> {
     fn open<R: Files<File = File>>(
         rt: &R,
         alloc: Global,
         names: &InputNames,
         explainer: &mut Explainer,
-    ) -> Result<Opened, Ending> {
+    ) -> Result<Opened<Watched<File>>, Ending>
+        ensures opened { IfOk result (AreOpened names.now) }
+        ensures refused { IfErr result (λ ending. (ending ≡ Unopened) ⊎ (ending ≡ out_of_memory)) }
+    {
         let config = reported(
             explainer,
             &names.config,
@@ -73,7 +72,9 @@ impl Opened {
             cores,
         })
     }
+}
 
+impl<S: TextSource + Drop + Send + 'static> Opened<S> {
     // Judges the rules file, and then shows the recordings under the rules of the options and of the rules file.
     fn show<R, W: Sink>(
         self,
@@ -85,9 +86,10 @@ impl Opened {
     ) -> Ending
     where
         R: Files<File = File> + Threads + Wait + Sync + Copy + Send + 'static,
+        ensures { EndsAsAsked S.remaining S.can_fail self asked.now result }
     {
         let Opened {
-            config: text,
+            config,
             rules,
             order,
             cores,
@@ -106,46 +108,19 @@ impl Opened {
         let Ok(relations) = all_relations(alloc, &options, &rules) else {
             return out_of_memory();
         };
-        explainer.note_configuration(&text);
-        let config = match Config::read(alloc, &text) {
-            Ok(config) => config,
-            Err(fault) if fault.is_memory() => return out_of_memory(),
-            Err(fault) => return Ending::Checked(Err(CheckFault::Config(fault))),
-        };
-        let shown = Shown {
-            config: &config,
-            options: &options,
-            relations: &relations,
-            rules: &rules,
+        explainer.note_configuration(&config);
+        let request = Request {
             asked,
+            options: &options,
+            rules: &rules,
         };
-        show_recordings(rt, alloc, &shown, order, cores, explainer, output)
+        let judged = Judged {
+            config: &config,
+            recordings: cores,
+            order,
+        };
+        show_under(rt, alloc, request, relations, judged, explainer, output)
     }
-}
-
-// Shows the recordings in this order.
-fn show_recordings<R, W: Sink>(
-    rt: &R,
-    alloc: Global,
-    shown: &Shown<'_>,
-    order: Watched<File>,
-    cores: Vec<Watched<File>>,
-    explainer: &mut Explainer,
-    output: &mut W,
-) -> Ending
-where
-    R: Files<File = File> + Threads + Wait + Sync + Copy + Send + 'static,
-{
-    if cores.len() != shown.config.cores() as usize {
-        return Ending::Checked(Err(CheckFault::Arguments(ArgumentFault::ReaderCount)));
-    }
-    let Ok(intake) = Intake::open(*rt, alloc, cores, DEPTH) else {
-        return out_of_memory();
-    };
-    let mut placer = Placer::new(intake, CertSource::new(alloc, order));
-    let ending = show(rt, alloc, shown, &mut placer, explainer, output);
-    placer.close(rt);
-    ending
 }
 
 // The answer of the system for the file of this name. A refusal other than a lack of memory is noted for a person.
@@ -153,7 +128,9 @@ fn reported<T: Drop>(
     explainer: &mut Explainer,
     name: &str,
     answer: io::Result<T>,
-) -> Result<T, Ending> {
+) -> Result<T, Ending>
+    ensures { IfErr result (λ ending. (ending ≡ Unopened) ⊎ (ending ≡ out_of_memory)) }
+{
     match answer {
         Ok(value) => Ok(value),
         Err(e) if e.kind() == ErrorKind::OutOfMemory => Err(out_of_memory()),
@@ -169,7 +146,10 @@ fn open_rules<R: Files<File = File>>(
     alloc: Global,
     names: &InputNames,
     explainer: &mut Explainer,
-) -> Result<Option<Vec<u8>>, Ending> {
+) -> Result<Option<Vec<u8>>, Ending>
+    ensures opened { IfOk result (λ rules. is_some rules ≡ is_some names.now.rules) }
+    ensures refused { IfErr result (λ ending. (ending ≡ Unopened) ⊎ (ending ≡ out_of_memory)) }
+{
     match &names.rules {
         None => Ok(None),
         Some(name) => match reported(explainer, name, open_text(rt, alloc, name)) {
@@ -184,7 +164,10 @@ fn open_cores<R: Files<File = File>>(
     alloc: Global,
     names: &InputNames,
     explainer: &mut Explainer,
-) -> Result<Vec<Watched<File>>, Ending> {
+) -> Result<Vec<Watched<File>>, Ending>
+    ensures opened { IfOk result (λ cores. vec_len cores ≡ vec_len names.now.cores) }
+    ensures refused { IfErr result (λ ending. (ending ≡ Unopened) ⊎ (ending ≡ out_of_memory)) }
+{
     let mut cores = Vec::new(alloc);
     for name in names.cores.iter() {
         let core: File = match reported(explainer, name, open(rt, name)) {
@@ -196,25 +179,4 @@ fn open_cores<R: Files<File = File>>(
         }
     }
     Ok(cores)
-}
-
-// The rules of a rules file, in its order; none if there is no file.
-fn read_rules(alloc: Global, text: Option<&[u8]>) -> Result<Vec<NamedRule>, RulesRefusal> {
-    match text {
-        Some(text) => rules_file::read_explained(alloc, text),
-        None => Ok(Vec::new(alloc)),
-    }
-}
-
-// The relations that options request, followed by those of the rules file.
-fn all_relations(
-    alloc: Global,
-    options: &[RuleOption],
-    rules: &[NamedRule],
-) -> Result<Vec<Relation>, AllocError> {
-    let mut relations = relations_of(alloc, options)?;
-    for rule in rules {
-        relations.push(rule.relation.clone()?)?;
-    }
-    Ok(relations)
 }

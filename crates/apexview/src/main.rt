@@ -3,30 +3,29 @@
 //! The picture or the trace is printed on standard output. Standard error has the line that `apexcheck` prints, and why the answer is not
 //! Yes. The exit status is that of `apexcheck`.
 //!
-//! Promises: the exit status and the line are those of the end of the run. If memory is refused, whatever it is needed for, the run ends
-//! with `MEMORY`.
+//! Promises: the exit status and the line are those of the end of the run, and the end is what the command line and its files came to
+//! (`run`). If memory is refused, whatever it is needed for, the run ends with `MEMORY`.
 #![tactic(auto)]
 
-ghost use Rattle.std.specs.Prelude.{◌≡◌, ◌⊎◌, IfErr, Ok};
-ghost use Rattle.apexview.specs.declared.ending.Ending.TheVariants.{Help, Unwritten, Version};
-ghost use Rattle.apexview.specs.Endings.{out_of_memory, refused_words};
+ghost use Rattle.std.specs.Prelude.{◌≡◌};
+ghost use Rattle.apexview.specs.declared.ending.Ending.{Ending};
+ghost use Rattle.apexview.specs.Endings.{exit_status_of};
+ghost use Rattle.apexview.specs.Files.{EndsBy};
 
 mod ending;
 mod explained;
 mod fault;
 mod files;
-mod gathering;
 mod of_itself;
 mod page;
-mod placed;
-mod round;
+mod picture_witness;
 mod rows;
-mod run;
-mod stretch;
+mod shown;
 mod traced;
 mod usage;
 
 use answer_words::{Explainer, Terminal};
+use csv_rows::{TextSource, Watched};
 use ending::{Ending, conclude, refused_words, status_of};
 use explained::explain;
 use files::show_files;
@@ -35,23 +34,42 @@ use sink::{Sink, WriterSink};
 use std::alloc::Global;
 use std::fs::{File, Files};
 use std::io;
+use std::io::Write;
 use std::process::ExitCode;
+use std::rt::Env;
 use std::sync::Wait;
 use std::thread::Threads;
-use usage::{Asked, UsageFault};
+use usage::{Asked, UsageFault, from_words};
 
 fn main(rt: HostRuntime) -> ExitCode {
     let alloc = rt.alloc();
+    let asked = from_words(&rt, alloc);
     let mut output = WriterSink::new(io::writer(&rt));
-    let mut explainer = Explainer::new(alloc, Terminal::new(&rt, false));
-    let asked = usage::from_words(&rt, alloc);
-    let ending = answer(&rt, alloc, &asked, &mut explainer, &mut output);
-    let ending = conclude(&mut output, ending);
-    let ending = explain(&rt, alloc, &asked, ending, &explainer);
-    ExitCode::from(status_of(&ending))
+    ExitCode::from(run(&rt, alloc, &asked, &mut output))
+}
+
+// Does what the command line requests, and reports on standard error how that ended. Returns the exit status of the end. The picture or the
+// trace goes to this output.
+fn run<R, W: Write + Drop>(
+    rt: &R,
+    alloc: Global,
+    asked: &Result<Asked, UsageFault>,
+    output: &mut WriterSink<W>,
+) -> u8
+where
+    R: Files<File = File> + Env + Eprint + AllocGlobal,
+    R: Threads + Wait + Sync + Copy + Send + 'static,
+    ensures { (ending : Ending) × EndsBy ⟦<Watched<File> as TextSource>⟧.remaining ⟦<Watched<File> as TextSource>⟧.can_fail asked.now ending × (result ≡ exit_status_of ending) }
+{
+    let mut explainer = Explainer::new(alloc, Terminal::new(rt, false));
+    let shown = answer(rt, alloc, asked, &mut explainer, output);
+    let written = conclude(output, shown);
+    let ending = explain(rt, alloc, asked, written, &explainer);
+    status_of(&ending)
 }
 
 // Does what the command line requests.
+#[tactic(auto, using(crate::proofs::Ended::version_printed, crate::proofs::Ended::help_printed, crate::proofs::Ended::files_shown, crate::proofs::Ended::words_refused))]
 fn answer<R, W: Sink>(
     rt: &R,
     alloc: Global,
@@ -61,9 +79,7 @@ fn answer<R, W: Sink>(
 ) -> Ending
 where
     R: Files<File = File> + AllocGlobal + Threads + Wait + Sync + Copy + Send + 'static,
-    ensures version { asked.now ≡ Ok Asked.Version → (result ≡ Version) ⊎ (result ≡ Unwritten) }
-    ensures help { asked.now ≡ Ok Asked.Help → (result ≡ Help) ⊎ (result ≡ Unwritten) ⊎ (result ≡ out_of_memory) }
-    ensures refused { IfErr asked.now (λ fault. result ≡ refused_words fault) }
+    ensures { EndsBy ⟦<Watched<File> as TextSource>⟧.remaining ⟦<Watched<File> as TextSource>⟧.can_fail asked.now result }
 {
     match asked {
         Ok(Asked::Version) => print_version(output),

@@ -1,35 +1,43 @@
 // A run as a picture.
 
-ghost use Rattle.std.specs.Prelude.{◌≡◌, ◌<◌, ◌+◌, ℕ, IfOk, OnOk, false, length};
+ghost use Rattle.std.specs.Prelude.{◌≡◌, ◌⊎◌, ◌<◌, ◌+◌, ◌∷◌, [], IfOk, List, Ok, OnOk, false, length};
 ghost use Rattle.order_cert.specs.Kept.{place_of};
-ghost use Rattle.verdict_merge.specs.Rounds.{AreGoing};
+ghost use Rattle.apex_types.specs.declared.record.Ordered.{Ordered};
+ghost use Rattle.placement.specs.Lanes.{AreHonest};
+ghost use Rattle.user_rules.specs.Rules.{relations_of};
+ghost use Rattle.verdict_merge.specs.Rounds.{AllRun, AreGoing, parts_in};
 ghost use Rattle.run_walk.specs.Kept.{IsKept};
-ghost use Rattle.apexview.specs.Stretches.{IsWhole};
+ghost use Rattle.run_walk.specs.Walks.{EachRuns};
+ghost use Rattle.shown_run.specs.Stretches.{IsWhole};
+ghost use Rattle.apexview.specs.declared.ending.Ending.TheVariants.{Checked, Unwritten};
+ghost use Rattle.apexview.specs.Endings.{out_of_memory};
+ghost use Rattle.apexview.specs.Shown.{IsShown};
 
-use crate::ending::{Ending, Line};
-use crate::fault::{ShowFault, rejected_at};
+use crate::ending::{Ending, Line, out_of_memory};
+use crate::fault::ShowFault;
+use crate::picture_witness::PictureWitness;
 use crate::rows::ShownRows;
-use crate::run::Shown;
-use crate::stretch::{Stretch, gather};
+use crate::shown::Shown;
 use crate::usage::Format;
-use answer_words::{Explainer, RunFiles};
+use answer_words::{Explainer, RunFiles, note_broken};
 use apex_types::Ordered;
 use csv_rows::TextSource;
 use module_config::Config;
 use piece_check::Piece;
 use placement::Placer;
 use report::{CheckFault, Verdict};
-use run_view::{Change, Followed, LastSeen, MessageLinks, Received, Sent};
+use run_view::{Change, Followed, LastSeen, Lawful, MessageLinks, Received, Sent};
 use run_walk::Walk;
-use sink::{Sink, put_all};
+use sarif_report::name_of_cause;
+use shown_run::{Asked, Stretch, gather};
+use sink::Sink;
 use std::alloc::{AllocError, Global};
 use std::collections::VecDeque;
 use std::fs::{File, Files};
 use std::sync::Wait;
-use view_page::{
-    Added, Markup, PageTexts, Picture, Status, Strip, page_foot, page_head, strip_heading,
-    strips_of, svg_foot, svg_head, table_foot, table_head, tell_rows, tell_strip,
-};
+use user_rules::Rule;
+use view_page::{PageTexts, strips_of, write_html, write_svg};
+use view_picture::{Added, Picture, Status};
 use wording::{Count, Look, Words};
 
 /// Shows the requested stretch of a run. Nothing is written if an input is refused.
@@ -37,6 +45,7 @@ pub fn show_picture<R, S: TextSource, C: TextSource, W: Sink>(
     rt: &R,
     alloc: Global,
     shown: &Shown<'_>,
+    rules: &[Rule],
     placer: &mut Placer<S, C>,
     explainer: &mut Explainer,
     output: &mut W,
@@ -46,43 +55,81 @@ where
     requires going { placer.old.ended ≡ false }
     requires first { place_of placer.old.kept ≡ 0 }
     requires cores { length placer.old.lanes ≡ shown.now.config.now.cores }
+    ensures { AreHonest S.can_fail placer.new.lanes → IsShown (record { recordings = S.can_fail; certificate = C.can_fail }) shown.now.config.now (relations_of rules.now) placer.old result }
 {
-    let (verdict, stretch) = match gather(rt, alloc, shown, placer, explainer) {
-        Ok(gathered) => gathered,
-        Err(fault) => return fault.ending(),
+    let asked = Asked {
+        at: shown.asked.at,
+        span: shown.asked.span,
     };
-    match write_picture(rt, alloc, shown, &verdict, stretch, explainer, output) {
-        Ok(()) => checked(verdict),
-        Err(fault) => fault.ending(),
+    let mut witness = PictureWitness::new(alloc, explainer);
+    let gathered = gather(rt, alloc, shown.config, rules, asked, placer, &mut witness);
+    let lawful = witness.into_lawful();
+    match gathered {
+        Ok((verdict, stretch)) => match lawful {
+            Ok(lawful) => {
+                let gathered = Gathered {
+                    verdict,
+                    stretch,
+                    lawful,
+                };
+                show_stretch(rt, alloc, shown, gathered, explainer, output)
+            }
+            Err(_) => out_of_memory(),
+        },
+        Err(fault) => Ending::Checked(Err(fault)),
     }
 }
 
-// The ending of a run with this verdict.
-fn checked(verdict: Verdict) -> Ending {
-    Ending::Checked(Ok(verdict))
+// What a picture shows of a run: its verdict, the stretch before its end, and what would have been lawful there.
+#[derive(Drop)]
+struct Gathered {
+    verdict: Verdict,
+    stretch: Stretch,
+    lawful: Vec<Lawful>,
+}
+
+// Shows the stretch that was gathered of a run.
+fn show_stretch<R, W: Sink>(
+    rt: &R,
+    alloc: Global,
+    shown: &Shown<'_>,
+    gathered: Gathered,
+    explainer: &mut Explainer,
+    output: &mut W,
+) -> Ending
+where
+    R: Files<File = File>,
+    requires { IsWhole shown.now.config.now gathered.stretch }
+    ensures { (result ≡ Unwritten) ⊎ (result ≡ out_of_memory) ⊎ (result ≡ Checked (Ok gathered.verdict)) }
+{
+    let outcome = Ok(gathered.verdict);
+    note_broken(explainer, alloc, shown.options, shown.rules, &outcome);
+    match write_picture(rt, alloc, shown, gathered, explainer, output) {
+        Ok(()) => Ending::Checked(outcome),
+        Err(fault) => fault.ending(),
+    }
 }
 
 fn write_picture<R, W: Sink>(
     rt: &R,
     alloc: Global,
     shown: &Shown<'_>,
-    verdict: &Verdict,
-    stretch: Stretch,
+    gathered: Gathered,
     explainer: &Explainer,
     output: &mut W,
 ) -> Result<(), ShowFault>
 where
     R: Files<File = File>,
-    requires { IsWhole shown.now.config.now stretch }
+    requires { IsWhole shown.now.config.now gathered.stretch }
 {
-    let heading = heading_of(alloc, shown, verdict, &stretch)?;
-    let outcome = Ok(*verdict);
+    let heading = heading_of(alloc, shown, &gathered.verdict, &gathered.stretch)?;
+    let outcome = Ok(gathered.verdict);
     let names = &shown.asked.names;
     let files = RunFiles { rt, alloc, names };
     let explanation = explanation_of(alloc, &files, &outcome, explainer)?;
     let ending = Ending::Checked(outcome);
     let line = Line::of(&ending);
-    let picture = picture_of(rt, alloc, shown, stretch)?;
+    let picture = picture_of(rt, alloc, shown, gathered)?;
     let strips = strips_of(&picture)?;
     let files = files_in_words(alloc, shown)?;
     let texts = PageTexts {
@@ -92,11 +139,12 @@ where
         files: files.as_str(),
     };
     match shown.asked.format {
-        Format::Svg => write_svg(alloc, &picture, strips.as_slice(), &texts, output),
+        Format::Svg => write_svg(alloc, &picture, strips.as_slice(), &texts, output)?,
         Format::Html | Format::Trace => {
-            write_html(alloc, &picture, strips.as_slice(), &texts, output)
+            write_html(alloc, &picture, strips.as_slice(), &texts, output)?
         }
     }
+    Ok(())
 }
 
 // What the picture shows, in one sentence.
@@ -163,10 +211,15 @@ fn picture_of<R: Files<File = File>>(
     rt: &R,
     alloc: Global,
     shown: &Shown<'_>,
-    stretch: Stretch,
+    gathered: Gathered,
 ) -> Result<Picture, ShowFault>
-    requires { IsWhole shown.now.config.now stretch }
+    requires { IsWhole shown.now.config.now gathered.stretch }
 {
+    let Gathered {
+        verdict: _,
+        stretch,
+        lawful,
+    } = gathered;
     let rows = rows_of(rt, alloc, shown, &stretch)?;
     let Stretch {
         before,
@@ -181,7 +234,7 @@ fn picture_of<R: Files<File = File>>(
     let is_judged = rejected.is_none() && !is_broken;
     if let Some(rejected) = rejected {
         let added = added(&rows, &rejected.ordered, Status::Rejected);
-        picture.reject(&added, rejected.cause_name(), rejected.lawful.as_slice())?;
+        picture.reject(&added, name_of_cause(rejected.cause), lawful.as_slice())?;
     }
     follow_all(&mut picture, &rows, after.as_slice(), is_judged)?;
     Ok(picture)
@@ -272,14 +325,14 @@ impl<'a> Drawing<'a> {
     }
 
     // Adds records that follow one another and were accepted. The last of them may break a rule.
-    #[tactic(auto, using(run_walk::proofs::Kept::first_going, run_walk::proofs::Kept::first_core, run_walk::proofs::Kept::kept_on))]
+    #[tactic(auto, using(run_walk::proofs::Kept::first_going, run_walk::proofs::Kept::first_core, run_walk::proofs::Kept::first_taken, run_walk::proofs::Kept::kept_on))]
     fn accept_all(
         &mut self,
         rows: &ShownRows<'_>,
         mut kept: VecDeque<Ordered>,
         is_broken: bool,
     ) -> Result<(), ShowFault>
-        requires { (next : ℕ) × IsKept self.old.config.now next self.old.walk kept.items }
+        requires { (taken : List Ordered) × IsKept self.old.config.now taken self.old.walk kept.items }
     {
         'records: for _ in 0..kept.len() {
             let Some(ordered) = kept.pop_front() else {
@@ -300,12 +353,12 @@ impl<'a> Drawing<'a> {
     ) -> Result<(), ShowFault>
         requires going { AreGoing self.old.config.now ordered.now.pos self.old.walk }
         requires core { ordered.now.core < self.old.config.now.cores }
+        requires accepted { EachRuns self.old.config.now (parts_in self.old.walk) (ordered.now ∷ []) }
         ensures config { self.new.config ≡ self.old.config }
         ensures going { OnOk result (AreGoing self.old.config.now (ordered.now.pos + 1) self.new.walk) }
+        ensures taken { OnOk result (AllRun self.old.config.now (parts_in self.old.walk) (ordered.now ∷ []) (parts_in self.new.walk)) }
     {
-        if let Some(refusal) = self.walk.take(self.config, ordered)? {
-            return Err(rejected_at(ordered.pos, &refusal));
-        }
+        self.walk.take_again(self.config, ordered)?;
         let pieces = self.walk.pieces();
         self.changes.clear();
         self.seen
@@ -365,74 +418,4 @@ fn added<'a>(rows: &'a ShownRows<'a>, ordered: &'a Ordered, status: Status) -> A
         source: rows.source(ordered.core, ordered.rec.seq),
         status,
     }
-}
-
-fn write_svg<W: Sink>(
-    alloc: Global,
-    picture: &Picture,
-    strips: &[Strip],
-    texts: &PageTexts<'_>,
-    output: &mut W,
-) -> Result<(), ShowFault> {
-    let mut out = Markup::new(alloc);
-    svg_head(&mut out, picture, strips, texts)?;
-    put(output, &mut out)?;
-    let mut y = 0u64;
-    for strip in strips {
-        y = tell_strip(&mut out, picture, *strip, y)?;
-        put(output, &mut out)?;
-    }
-    svg_foot(&mut out, picture, texts, y)?;
-    put(output, &mut out)
-}
-
-// Writes a page: the last strip, which has the fault, then those before it, then the table.
-fn write_html<W: Sink>(
-    alloc: Global,
-    picture: &Picture,
-    strips: &[Strip],
-    texts: &PageTexts<'_>,
-    output: &mut W,
-) -> Result<(), ShowFault> {
-    let mut out = Markup::new(alloc);
-    page_head(&mut out, texts)?;
-    put(output, &mut out)?;
-    if let Some((last, before)) = strips.split_last() {
-        write_piece(&mut out, picture, *last, output)?;
-        if !before.is_empty() {
-            out.mark("<h2>What came before</h2>\n<div class=\"strips\">\n")?;
-            for strip in before {
-                write_piece(&mut out, picture, *strip, output)?;
-            }
-            out.mark("</div>\n")?;
-        }
-    }
-    table_head(&mut out)?;
-    for strip in strips {
-        tell_rows(&mut out, picture, *strip)?;
-        put(output, &mut out)?;
-    }
-    table_foot(&mut out)?;
-    page_foot(&mut out)?;
-    put(output, &mut out)
-}
-
-fn write_piece<W: Sink>(
-    out: &mut Markup,
-    picture: &Picture,
-    strip: Strip,
-    output: &mut W,
-) -> Result<(), ShowFault> {
-    out.mark("<div class=\"piece\">\n")?;
-    strip_heading(out, picture, strip)?;
-    tell_strip(out, picture, strip, 0)?;
-    out.mark("</div>\n")?;
-    put(output, out)
-}
-
-// Writes the markup so far, and forgets it.
-fn put<W: Sink>(output: &mut W, out: &mut Markup) -> Result<(), ShowFault> {
-    put_all(output, out.as_str().as_bytes())?;
-    out.clear();
-    Ok(())
 }

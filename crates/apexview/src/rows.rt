@@ -6,7 +6,7 @@ use csv_rows::RowFields;
 use std::alloc::{AllocError, Global};
 use std::fs::Files;
 use std::io::Read;
-use view_page::Source;
+use view_picture::Source;
 
 /// The rows of the records of each core.
 #[derive(Drop)]

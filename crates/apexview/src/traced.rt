@@ -1,30 +1,39 @@
 // A whole run as a trace.
 
-ghost use Rattle.std.specs.Prelude.{◌≡◌, ◌<◌, ◌+◌, None, Ok, false, length};
+ghost use Rattle.std.specs.Prelude.{◌≡◌, ◌⊎◌, false, length};
 ghost use Rattle.order_cert.specs.Kept.{place_of};
-ghost use Rattle.verdict_merge.specs.Rounds.{AreGoing};
+ghost use Rattle.placement.specs.Lanes.{AreHonest};
+ghost use Rattle.user_rules.specs.Rules.{relations_of};
+ghost use Rattle.apexview.specs.declared.ending.Ending.TheVariants.{Checked, Unwritten};
+ghost use Rattle.apexview.specs.Endings.{out_of_memory};
+ghost use Rattle.apexview.specs.Shown.{IsShown};
 
-use crate::ending::Ending;
+use crate::ending::{Ending, out_of_memory};
 use crate::fault::ShowFault;
-use crate::placed::next_placed;
-use crate::run::{Finding, Run, Shown};
-use answer_words::Explainer;
-use apex_types::Ordered;
+use crate::shown::Shown;
+use answer_words::{Explainer, note_broken};
+use apex_types::{Cause, Ordered};
 use csv_rows::TextSource;
+use module_config::Config;
+use piece_check::Piece;
 use placement::Placer;
-use report::Verdict;
-use run_view::{LastSeen, MessageLinks};
+use report::{CheckFault, Verdict};
+use run_view::{Change, LastSeen, MessageLinks};
 use sarif_report::name_of_cause;
+use shown_run::{FollowFault, Follower, follow};
 use sink::Sink;
 use std::alloc::Global;
 use std::sync::Wait;
+use user_rules::Rule;
 use view_trace::Tracer;
 
-/// Shows a run as a trace, up to the record that decides, or to the requested place.
+/// Shows a run as a trace, up to the record that decides, or to the requested place. If the input has a fault, the trace of the records
+/// before it is complete too.
 pub fn show_trace<R: Wait, S: TextSource, C: TextSource, W: Sink>(
     rt: &R,
     alloc: Global,
     shown: &Shown<'_>,
+    rules: &[Rule],
     placer: &mut Placer<S, C>,
     explainer: &mut Explainer,
     output: &mut W,
@@ -32,126 +41,99 @@ pub fn show_trace<R: Wait, S: TextSource, C: TextSource, W: Sink>(
     requires going { placer.old.ended ≡ false }
     requires first { place_of placer.old.kept ≡ 0 }
     requires cores { length placer.old.lanes ≡ shown.now.config.now.cores }
+    ensures { AreHonest S.can_fail placer.new.lanes → IsShown (record { recordings = S.can_fail; certificate = C.can_fail }) shown.now.config.now (relations_of rules.now) placer.old result }
 {
-    let mut tracer = Tracer::new(alloc, output);
-    let traced = trace_all(rt, alloc, shown, placer, explainer, &mut tracer);
-    if let Err(fault @ (ShowFault::Memory | ShowFault::Unwritten)) = traced {
-        return fault.ending();
-    }
-    // The trace of the records before a fault of the input is complete too.
-    if let Err(fault) = tracer.end() {
-        return ShowFault::from(fault).ending();
-    }
-    match traced {
-        Ok(verdict) => Ending::Checked(Ok(verdict)),
-        Err(fault) => fault.ending(),
-    }
-}
-
-fn trace_all<R: Wait, S: TextSource, C: TextSource, W: Sink>(
-    rt: &R,
-    alloc: Global,
-    shown: &Shown<'_>,
-    placer: &mut Placer<S, C>,
-    explainer: &mut Explainer,
-    tracer: &mut Tracer<'_, W>,
-) -> Result<Verdict, ShowFault>
-    requires going { placer.old.ended ≡ false }
-    requires first { place_of placer.old.kept ≡ 0 }
-    requires cores { length placer.old.lanes ≡ shown.now.config.now.cores }
-{
-    let mut run = Run::start(alloc, shown)?;
-    let mut following = Following::new(alloc);
-    following.begin(shown, &run, tracer)?;
-    let mut placed = Vec::new(alloc);
-    // There are fewer places than this many rounds.
-    'records: for _ in 0..u64::MAX {
-        let Some(ordered) = next_placed(rt, placer, &mut placed)? else {
-            return Ok(run.yes());
-        };
-        if let Some(verdict) = following.judge(
-            alloc, shown, &mut run, &ordered, explainer, tracer,
-        )? {
-            return Ok(verdict);
+    let config = shown.config;
+    let mut tracing = Tracing::new(alloc, config, shown.asked.at, Tracer::new(alloc, output));
+    match follow(rt, alloc, config, rules, placer, explainer, &mut tracing) {
+        Ok(verdict) => {
+            let outcome = Ok(verdict);
+            note_broken(explainer, alloc, shown.options, shown.rules, &outcome);
+            tracing.end(outcome)
         }
+        Err(FollowFault::Refused(CheckFault::Memory)) => out_of_memory(),
+        Err(FollowFault::Refused(fault)) => tracing.end(Err(fault)),
+        Err(FollowFault::Stopped(fault)) => fault.ending(),
     }
-    Err(ShowFault::Memory)
 }
 
-// What was last seen of a run.
+// A trace that grows record by record.
 #[derive(Drop)]
-struct Following {
+struct Tracing<'a, 'b, W> {
+    config: &'a Config,
+    // The last place that is shown, if not all are.
+    last: Option<u64>,
+    tracer: Tracer<'b, W>,
     seen: LastSeen,
     links: MessageLinks,
-    changes: Vec<run_view::Change>,
+    changes: Vec<Change>,
 }
 
-impl Following {
-    fn new(alloc: Global) -> Following {
-        Following {
+impl<'a, 'b, W: Sink> Tracing<'a, 'b, W> {
+    // A trace without an event.
+    fn new(
+        alloc: Global,
+        config: &'a Config,
+        last: Option<u64>,
+        tracer: Tracer<'b, W>,
+    ) -> Tracing<'a, 'b, W> {
+        Tracing {
+            config,
+            last,
+            tracer,
             seen: LastSeen::new(alloc),
             links: MessageLinks::new(alloc),
             changes: Vec::new(alloc),
         }
     }
 
-    fn begin<W: Sink>(
-        &mut self,
-        shown: &Shown<'_>,
-        run: &Run<'_>,
-        tracer: &mut Tracer<'_, W>,
-    ) -> Result<(), ShowFault> {
-        let pieces = run.walk().pieces();
+    // Ends the trace of a run that came to this outcome.
+    fn end(mut self, outcome: Result<Verdict, CheckFault>) -> Ending
+        ensures { (result ≡ Unwritten) ⊎ (result ≡ out_of_memory) ⊎ (result ≡ Checked outcome) }
+    {
+        match self.tracer.end() {
+            Ok(()) => Ending::Checked(outcome),
+            Err(fault) => ShowFault::from(fault).ending(),
+        }
+    }
+}
+
+impl<'a, 'b, W: Sink> Follower for Tracing<'a, 'b, W> {
+    type Stop = ShowFault;
+
+    fn begin(&mut self, pieces: &[Piece]) -> Result<(), ShowFault> {
         self.seen
-            .look(shown.config, pieces, None, &mut self.changes)?;
-        tracer.begin(pieces, self.changes.as_slice())?;
+            .look(self.config, pieces, None, &mut self.changes)?;
+        self.tracer.begin(pieces, self.changes.as_slice())?;
         Ok(())
     }
 
-    // Judges the next record, and traces it unless it is after the requested place.
-    fn judge<W: Sink>(
-        &mut self,
-        alloc: Global,
-        shown: &Shown<'_>,
-        run: &mut Run<'_>,
-        ordered: &Ordered,
-        explainer: &mut Explainer,
-        tracer: &mut Tracer<'_, W>,
-    ) -> Result<Option<Verdict>, ShowFault>
-        requires shown { run.old.shown.now ≡ shown.now }
-        requires pieces { AreGoing shown.now.config.now ordered.now.pos run.old.walk }
-        requires core { ordered.now.core < shown.now.config.now.cores }
-        ensures shown { run.new.shown ≡ run.old.shown }
-        ensures pieces { result ≡ Ok None → AreGoing shown.now.config.now (ordered.now.pos + 1) run.new.walk }
-    {
-        let finding = run.judge(ordered)?;
-        if !shown.is_past(ordered) {
-            self.add(shown, run, ordered, &finding, tracer)?;
-        }
-        Ok(match &finding {
-            Some(finding) => Some(run.verdict(alloc, ordered, finding, explainer)),
-            None => None,
-        })
-    }
-
-    fn add<W: Sink>(
-        &mut self,
-        shown: &Shown<'_>,
-        run: &Run<'_>,
-        ordered: &Ordered,
-        finding: &Option<Finding>,
-        tracer: &mut Tracer<'_, W>,
-    ) -> Result<(), ShowFault> {
-        if let Some(Finding::Rejected(refusal)) = finding {
-            tracer.reject(ordered, name_of_cause(refusal.cause))?;
+    fn accept(&mut self, pieces: &[Piece], ordered: &Ordered) -> Result<(), ShowFault> {
+        if is_past(self.last, ordered) {
             return Ok(());
         }
-        let pieces = run.walk().pieces();
         self.changes.clear();
         self.seen
-            .look(shown.config, pieces, Some(ordered), &mut self.changes)?;
+            .look(self.config, pieces, Some(ordered), &mut self.changes)?;
         let followed = self.links.follow(pieces, ordered)?;
-        tracer.accept(pieces, ordered, self.changes.as_slice(), &followed)?;
+        self.tracer
+            .accept(pieces, ordered, self.changes.as_slice(), &followed)?;
         Ok(())
+    }
+
+    fn reject(&mut self, ordered: &Ordered, cause: Cause) -> Result<(), ShowFault> {
+        if is_past(self.last, ordered) {
+            return Ok(());
+        }
+        self.tracer.reject(ordered, name_of_cause(cause))?;
+        Ok(())
+    }
+}
+
+// Whether a record is after the last place that is shown.
+fn is_past(last: Option<u64>, ordered: &Ordered) -> bool {
+    match last {
+        Some(last) => ordered.pos.number() > last,
+        None => false,
     }
 }

@@ -21,7 +21,7 @@ fn ample_memory_is_enough(rt: HostRuntime) -> Result<(), Fail> {
                 Ok(Verdict::Yes {
                     records: records as u64
                 }),
-                "{times} times, {workers} workers, depth {depth}"
+                "calls: {times}, workers: {workers}, depth: {depth}"
             );
         }
     }

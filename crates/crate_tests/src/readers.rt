@@ -91,13 +91,21 @@ fn readers_fail(rt: HostRuntime) -> Result<(), Fail> {
         for given in 0..recording.len().saturating_add(1) {
             let outcome = outcome(rt, alloc, step, given, WHOLE, settings)?;
             let failed = failed_row(0, recording, given);
-            assert_eq!(rt; outcome, failed, "a recording of {given} bytes by {step}");
+            assert_eq!(rt;
+                outcome,
+                failed,
+                "a recording that fails at byte {given}, by {step}"
+            );
         }
         for given in 0..ORDER.len().saturating_add(1) {
             let outcome = outcome(rt, alloc, step, WHOLE, given, settings)?;
             let (place, fault) = (whole_rows(ORDER, given), CertFault::Read);
             let failed = Err(CheckFault::Input(InputFault::Cert { place, fault }));
-            assert_eq!(rt; outcome, failed, "a certificate of {given} bytes by {step}");
+            assert_eq!(rt;
+                outcome,
+                failed,
+                "a certificate that fails at byte {given}, by {step}"
+            );
         }
     }
     Ok(())
@@ -123,7 +131,11 @@ fn one_reader_of_two_fails(rt: HostRuntime) -> Result<(), Fail> {
                 ]?;
                 let outcome = check(rt, alloc, MODULE, readers, BOTH, &[], settings, &Open);
                 let failed = failed_row(core, text, given);
-                assert_eq!(rt; outcome, failed, "{given} bytes of core {core} by {step}");
+                assert_eq!(rt;
+                    outcome,
+                    failed,
+                    "core {core} fails at byte {given}, by {step}"
+                );
             }
         }
     }

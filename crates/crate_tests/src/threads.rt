@@ -39,8 +39,8 @@ fn two_claims_meet(rt: HostRuntime) -> Result<(), Fail> {
                 &gate,
                 size,
             );
-            assert_eq!(rt; outcome, Ok(SENT), "{workers} workers");
-            assert_eq!(rt; gate.met(), rounds * 5, "{workers} workers");
+            assert_eq!(rt; outcome, Ok(SENT), "workers: {workers}");
+            assert_eq!(rt; gate.met(), rounds * 5, "workers: {workers}");
         }
     }
     Ok(())
@@ -113,7 +113,7 @@ fn two_readers_meet(rt: HostRuntime) -> Result<(), Fail> {
         let readers = vec![in alloc; Watched::new(sender), Watched::new(receiver)]?;
         let settings = Settings { workers, depth: 1 };
         let outcome = check(rt, alloc, MODULE, readers, BOTH, &[], settings, &Open);
-        assert_eq!(rt; outcome, Ok(SENT), "{workers} workers");
+        assert_eq!(rt; outcome, Ok(SENT), "workers: {workers}");
     }
     Ok(())
 }

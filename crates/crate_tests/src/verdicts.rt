@@ -163,7 +163,7 @@ fn many_rules_find_what_one_finds(rt: HostRuntime) -> Result<(), Fail> {
         let settings = Settings { workers, depth: 4 };
         let readers = vec![in alloc; RECORDING.as_bytes()]?;
         let answer = check(rt, alloc, CONFIG, readers, ORDER, &rules, settings, &Open);
-        assert_eq!(rt; answer, Ok(WAITED), "{others} {workers}");
+        assert_eq!(rt; answer, Ok(WAITED), "rules: {others}, workers: {workers}");
         rules.push(rule!(alloc, Relation::Less(Field::Elapsed, 3)))?;
         let readers = vec![in alloc; RECORDING.as_bytes()]?;
         let answer = check(rt, alloc, CONFIG, readers, ORDER, &rules, settings, &Open);
@@ -171,7 +171,7 @@ fn many_rules_find_what_one_finds(rt: HostRuntime) -> Result<(), Fail> {
             pos: Place::new(13),
             rule: others,
         };
-        assert_eq!(rt; answer, Ok(broken), "{others} {workers}");
+        assert_eq!(rt; answer, Ok(broken), "rules: {others}, workers: {workers}");
     }
     Ok(())
 }

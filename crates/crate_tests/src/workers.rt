@@ -140,9 +140,9 @@ fn any_number_of_workers_gives_the_same(rt: HostRuntime) -> Result<(), Fail> {
     rules.push(rule!(alloc, Relation::Less(Field::Kind, 3)))?;
     for workers in [1, 2, 5] {
         let ruled = judge_all(&rt, alloc, &records, &rules, workers, &Open)?;
-        assert!(rt; have_come(true, &ruled), "{workers} workers under a rule");
+        assert!(rt; have_come(true, &ruled), "workers under a rule: {workers}");
         let all = judge_all(&rt, alloc, &records, &[], workers, &Open)?;
-        assert!(rt; have_come(false, &all), "{workers} workers");
+        assert!(rt; have_come(false, &all), "workers: {workers}");
     }
     Ok(())
 }
@@ -168,8 +168,8 @@ fn two_claims_meet(rt: HostRuntime) -> Result<(), Fail> {
     for workers in [2, 5] {
         let gate = Meeting::new(5, workers);
         let judged = judge_all(&rt, alloc, &records, &[], workers, &gate)?;
-        assert!(rt; all_went(&judged), "{workers} workers");
-        assert_eq!(rt; gate.met(), 5, "{workers} workers");
+        assert!(rt; all_went(&judged), "workers: {workers}");
+        assert_eq!(rt; gate.met(), 5, "workers: {workers}");
     }
     Ok(())
 }

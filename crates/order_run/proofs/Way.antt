@@ -14,12 +14,13 @@ use Rattle.placement.specs.Scan.{placed_at}
 use Rattle.record_read.specs.Row.{Item, records_of}
 use Rattle.sink.specs.Taken.{with_more}
 use Rattle.sink.specs.Written.{IsCut, IsWritten}
+use Rattle.user_rules.specs.declared.relation.Relation.{Relation}
 use Rattle.verdict_merge.specs.Verdicts.{IsVerdict}
 use Rattle.order_run.specs.declared.proposal.Proposal.{Proposal}
 use Rattle.order_run.specs.declared.proposal.ProposalFault.{ProposalFault}
 use Rattle.order_run.specs.declared.run.Run.{Run}
 use Rattle.order_run.specs.Left.{HasEnded, IsTaken, Lefts, items_at, left_at}
-use Rattle.order_run.specs.Proposal.{HaveGoneOut, IsProposed, verdict_of}
+use Rattle.order_run.specs.Proposal.{HaveGoneOut, IsProposed, ListsFirst, order_verdict_of, verdict_of}
 use Rattle.order_run.specs.Rows.{rows_of}
 use Rattle.order_run.specs.UnderWay.{GoesOn, HasBegun, HasPut, IsUnderWay, Leads}
 use Rattle.order_run.proofs.Scanned.{leads_end, leads_first, leads_on, none_left, scanned_whole}
@@ -37,9 +38,9 @@ more_twice None first second = refl
 more_twice (Some bytes) first second = ap Some (append_assoc bytes first second)
 
 -- the start
-pub way_first : (configuration : Configuration) (run : Run) (start : Lefts) (bytes : Option (List ℕ)) → HasPut configuration run [] [] [] → run.round.items ≡ []
-    → taken_of run.keeper ≡ none_taken → place_of run.keeper ≡ 0 → length start ≡ configuration.cores → IsUnderWay configuration bytes start run start bytes
-way_first configuration run start bytes so_far empty taken place cores = record {
+pub way_first : (configuration : Configuration) (relations : List Relation) (run : Run) (start : Lefts) (bytes : Option (List ℕ)) → HasPut configuration relations run [] [] [] → run.round.items ≡ []
+    → taken_of run.keeper ≡ none_taken → place_of run.keeper ≡ 0 → length start ≡ configuration.cores → IsUnderWay configuration relations bytes start run start bytes
+way_first configuration relations run start bytes so_far empty taken place cores = record {
   settled = [];
   waiting = [];
   before = [];
@@ -50,11 +51,11 @@ way_first configuration run start bytes so_far empty taken place cores = record 
 }
 
 -- the rows of a round were written
-pub way_settled : (configuration : Configuration) (bytes : Option (List ℕ)) (start : Lefts) (run new : Run) (lefts : Lefts) (now after : Option (List ℕ))
-    → IsUnderWay configuration bytes start run lefts now
-    → ((settled waiting : List Pair) (before : List Ordered) → HasPut configuration run settled waiting before → HasPut configuration new (settled ++ waiting) [] (before ++ run.round.items))
-    → new.keeper ≡ run.keeper → new.round.items ≡ [] → IsWritten now run.text.items after → IsUnderWay configuration bytes start new lefts after
-way_settled configuration bytes start run new lefts now after way settles keeper empty whole = record {
+pub way_settled : (configuration : Configuration) (relations : List Relation) (bytes : Option (List ℕ)) (start : Lefts) (run new : Run) (lefts : Lefts) (now after : Option (List ℕ))
+    → IsUnderWay configuration relations bytes start run lefts now
+    → ((settled waiting : List Pair) (before : List Ordered) → HasPut configuration relations run settled waiting before → HasPut configuration relations new (settled ++ waiting) [] (before ++ run.round.items))
+    → new.keeper ≡ run.keeper → new.round.items ≡ [] → IsWritten now run.text.items after → IsUnderWay configuration relations bytes start new lefts after
+way_settled configuration relations bytes start run new lefts now after way settles keeper empty whole = record {
   settled = way.settled ++ way.waiting;
   waiting = [];
   before = way.before ++ run.round.items;
@@ -70,15 +71,15 @@ way_settled configuration bytes start run new lefts now after way settles keeper
 }
 
 -- a record was put next
-pub way_put : (configuration : Configuration) (bytes : Option (List ℕ)) (start : Lefts) (run new : Run) (lefts after : Lefts) (now : Option (List ℕ)) (core : ℕ) (rec : Record)
-    → IsUnderWay configuration bytes start run lefts now → IsTaken core lefts (Some rec) after
-    → ((settled waiting : List Pair) (before : List Ordered) → HasPut configuration run settled waiting before
-    → HasPut configuration new settled (waiting ++ pair_of core (taken_of run.keeper core) ∷ []) before)
+pub way_put : (configuration : Configuration) (relations : List Relation) (bytes : Option (List ℕ)) (start : Lefts) (run new : Run) (lefts after : Lefts) (now : Option (List ℕ)) (core : ℕ) (rec : Record)
+    → IsUnderWay configuration relations bytes start run lefts now → IsTaken core lefts (Some rec) after
+    → ((settled waiting : List Pair) (before : List Ordered) → HasPut configuration relations run settled waiting before
+    → HasPut configuration relations new settled (waiting ++ pair_of core (taken_of run.keeper core) ∷ []) before)
     → new.round.items ≡ run.round.items ++ placed_at (place_of run.keeper) core rec ∷ []
     → misplaced run.keeper.cores (taken_of run.keeper) (pair_of core (taken_of run.keeper core)) ≡ None
     → taken_of new.keeper ≡ put (taken_of run.keeper) core (suc (taken_of run.keeper core)) → place_of new.keeper ≡ suc (place_of run.keeper)
-    → IsUnderWay configuration bytes start new after now
-way_put configuration bytes start run new lefts after now core rec way is puts round fits taken place =
+    → IsUnderWay configuration relations bytes start new after now
+way_put configuration relations bytes start run new lefts after now core rec way is puts round fits taken place =
     let pair : Pair = pair_of core (taken_of run.keeper core) in
     let ordered : Ordered = placed_at (place_of run.keeper) core rec in
     let may = subst (λ cores. misplaced cores (taken_of run.keeper) pair ≡ None) way.so_far.cores fits in
@@ -97,9 +98,9 @@ way_put configuration bytes start run new lefts after now core rec way is puts r
     }
 
 -- the recording of a core has ended
-pub way_end : (configuration : Configuration) (bytes : Option (List ℕ)) (start : Lefts) (run : Run) (lefts after : Lefts) (now : Option (List ℕ)) (core : ℕ)
-    → IsUnderWay configuration bytes start run lefts now → IsTaken core lefts None after → IsUnderWay configuration bytes start run after now
-way_end configuration bytes start run lefts after now core way is = record {
+pub way_end : (configuration : Configuration) (relations : List Relation) (bytes : Option (List ℕ)) (start : Lefts) (run : Run) (lefts after : Lefts) (now : Option (List ℕ)) (core : ℕ)
+    → IsUnderWay configuration relations bytes start run lefts now → IsTaken core lefts None after → IsUnderWay configuration relations bytes start run after now
+way_end configuration relations bytes start run lefts after now core way is = record {
   settled = way.settled;
   waiting = way.waiting;
   before = way.before;
@@ -111,19 +112,32 @@ way_end configuration bytes start run lefts after now core way is = record {
 
 -- what was written is a prefix
 
-pub way_begun : (configuration : Configuration) (bytes : Option (List ℕ)) (start : Lefts) (run : Run) (lefts : Lefts) (now : Option (List ℕ))
-    → IsUnderWay configuration bytes start run lefts now → HasBegun configuration bytes now
-way_begun configuration bytes start run lefts now way = (
+-- the pairs that were put list the first records of the recordings
+lists_first : (configuration : Configuration) (relations : List Relation) (bytes : Option (List ℕ)) (start : Lefts) (run : Run) (lefts : Lefts) (now : Option (List ℕ))
+    → (way : IsUnderWay configuration relations bytes start run lefts now) → ListsFirst configuration.cores start (way.settled ++ way.waiting)
+lists_first configuration relations bytes start run lefts now way = λ items known.
+    let leads = way.leads items known in (
+      leads.taken,
+      (λ core. (leads.left core, leads.split core)),
+      subst (λ cores. IsLawfulOrder cores (λ core. length (leads.taken core)) (way.settled ++ way.waiting)) way.so_far.cores
+          ((whole_is_lawful run.keeper (way.settled ++ way.waiting) (λ core. length (leads.taken core)) way.so_far.follows).0 (λ core within. sym (leads.counts core))),
+    )
+
+pub way_begun : (configuration : Configuration) (relations : List Relation) (bytes : Option (List ℕ)) (start : Lefts) (run : Run) (lefts : Lefts) (now : Option (List ℕ))
+    → IsUnderWay configuration relations bytes start run lefts now → HasBegun configuration bytes start now
+way_begun configuration relations bytes start run lefts now way = (
   way.settled ++ way.waiting,
   subst (λ cores. IsPrefixOfLawful cores (way.settled ++ way.waiting)) way.so_far.cores way.so_far.follows.lawful,
+  lists_first configuration relations bytes start run lefts now way,
   (rows_of way.settled, rows_of way.waiting, rows_append way.settled way.waiting, way.written),
 )
 
-pub way_cut : (configuration : Configuration) (bytes : Option (List ℕ)) (start : Lefts) (run : Run) (lefts : Lefts) (now after : Option (List ℕ))
-    → IsUnderWay configuration bytes start run lefts now → IsCut now run.text.items after → HasBegun configuration bytes after
-way_cut configuration bytes start run lefts now after way (front, back, text, is) = (
+pub way_cut : (configuration : Configuration) (relations : List Relation) (bytes : Option (List ℕ)) (start : Lefts) (run : Run) (lefts : Lefts) (now after : Option (List ℕ))
+    → IsUnderWay configuration relations bytes start run lefts now → IsCut now run.text.items after → HasBegun configuration bytes start after
+way_cut configuration relations bytes start run lefts now after way (front, back, text, is) = (
   way.settled ++ way.waiting,
   subst (λ cores. IsPrefixOfLawful cores (way.settled ++ way.waiting)) way.so_far.cores way.so_far.follows.lawful,
+  lists_first configuration relations bytes start run lefts now way,
   (
     rows_of way.settled ++ front,
     back,
@@ -135,26 +149,28 @@ way_cut configuration bytes start run lefts now after way (front, back, text, is
 -- the end
 
 -- all rows were written
-pub way_whole : (configuration : Configuration) (bytes : Option (List ℕ)) (start : Lefts) (run : Run) (lefts : Lefts) (now after : Option (List ℕ))
-    → IsUnderWay configuration bytes start run lefts now → IsWritten now run.text.items after
-    → (pairs : List Pair) × IsPrefixOfLawful configuration.cores pairs × IsWritten bytes (rows_of pairs) after
-way_whole configuration bytes start run lefts now after way whole = (
+pub way_whole : (configuration : Configuration) (relations : List Relation) (bytes : Option (List ℕ)) (start : Lefts) (run : Run) (lefts : Lefts) (now after : Option (List ℕ))
+    → IsUnderWay configuration relations bytes start run lefts now → IsWritten now run.text.items after
+    → (pairs : List Pair) × IsPrefixOfLawful configuration.cores pairs × ListsFirst configuration.cores start pairs × IsWritten bytes (rows_of pairs) after
+way_whole configuration relations bytes start run lefts now after way whole = (
   way.settled ++ way.waiting,
   subst (λ cores. IsPrefixOfLawful cores (way.settled ++ way.waiting)) way.so_far.cores way.so_far.follows.lawful,
+  lists_first configuration relations bytes start run lefts now way,
   whole ∙ ap (λ known. with_more known run.text.items) way.written ∙ ap (with_more (with_more bytes (rows_of way.settled))) way.so_far.text
       ∙ more_twice bytes (rows_of way.settled) (rows_of way.waiting) ∙ ap (with_more bytes) (sym (rows_append way.settled way.waiting)),
 )
 
 -- what was put is a proposal
-pub way_ends : (configuration : Configuration) (texts : List (List ℕ)) (bytes : Option (List ℕ)) (start : Lefts) (run new : Run) (lefts : Lefts) (now after : Option (List ℕ)) (proposal : Proposal)
-    → IsUnderWay configuration bytes start run lefts now → start ≡ map (λ text. Some (records_of text)) texts
+pub way_ends : (configuration : Configuration) (relations : List Relation) (texts : List (List ℕ)) (bytes : Option (List ℕ)) (start : Lefts) (run new : Run) (lefts : Lefts) (now after : Option (List ℕ)) (proposal : Proposal)
+    → IsUnderWay configuration relations bytes start run lefts now → start ≡ map (λ text. Some (records_of text)) texts
     → ((core : ℕ) → core < configuration.cores → HasEnded lefts core) → WindowsAreConfigured configuration → EndsAreApart configuration
-    → ((settled waiting : List Pair) (before : List Ordered) → HasPut configuration run settled waiting before → HasPut configuration new (settled ++ waiting) [] (before ++ run.round.items))
+    → ((settled waiting : List Pair) (before : List Ordered) → HasPut configuration relations run settled waiting before → HasPut configuration relations new (settled ++ waiting) [] (before ++ run.round.items))
     → IsWritten now run.text.items after
-    → ((pairs : List Pair) (before : List Ordered) → HasPut configuration new pairs [] before → IsVerdict configuration [] before (verdict_of proposal))
-    → (certificate : List ℕ) × IsWritten bytes certificate after × IsProposed configuration texts certificate proposal
+    → ((pairs : List Pair) (before : List Ordered) → HasPut configuration relations new pairs [] before → IsVerdict configuration relations before (verdict_of proposal))
+    → ((pairs : List Pair) (before : List Ordered) → HasPut configuration relations new pairs [] before → IsVerdict configuration [] before (order_verdict_of proposal))
+    → (certificate : List ℕ) × IsWritten bytes certificate after × IsProposed configuration relations texts certificate proposal
 unfolding way_whole
-way_ends configuration texts bytes start run new lefts now after proposal way opened ended windows ends settles whole verdict =
+way_ends configuration relations texts bytes start run new lefts now after proposal way opened ended windows ends settles whole verdict order =
     let pairs : List Pair = way.settled ++ way.waiting in
     let records : List Ordered = way.before ++ run.round.items in
     let leads : Leads configuration.cores (items_at texts) run.keeper lefts pairs records =
@@ -162,28 +178,30 @@ way_ends configuration texts bytes start run new lefts now after proposal way op
     let none : (core : ℕ) → core < configuration.cores → leads.left core ≡ [] =
     λ core within. none_left configuration.cores (items_at texts) run.keeper lefts pairs records core leads (ended core within) in (
       rows_of pairs,
-      (way_whole configuration bytes start run lefts now after way whole).2,
-      proposed configuration texts (rows_of pairs) proposal pairs leads.taken records windows ends
+      (way_whole configuration relations bytes start run lefts now after way whole).3,
+      proposed configuration relations texts (rows_of pairs) proposal pairs leads.taken records windows ends
           (rows_are_read pairs way.so_far.fit way.so_far.few)
           (λ core within. leads.split core ∙ ap (λ (all : List Item). map Ok (leads.taken core) ++ all) (none core within) ∙ append-nil (map Ok (leads.taken core)))
           (subst (λ cores. IsLawfulOrder cores (λ core. length (leads.taken core)) pairs) way.so_far.cores
           ((whole_is_lawful run.keeper pairs (λ core. length (leads.taken core)) way.so_far.follows).0 (λ core within. sym (leads.counts core))))
           (scanned_whole configuration.cores (items_at texts) run.keeper lefts pairs records leads none)
           way.so_far.placed
-          (verdict pairs records (settles way.settled way.waiting way.before way.so_far)),
+          (verdict pairs records (settles way.settled way.waiting way.before way.so_far))
+          (order pairs records (settles way.settled way.waiting way.before way.so_far)),
     )
 
 -- a fault ends the run
-pub stops : {A : Type 0} (configuration : Configuration) (bytes : Option (List ℕ)) (start : Lefts) (result : Result A ProposalFault) (run : Run) (lefts : Lefts) (now : Option (List ℕ))
-    → IsErr result → HasBegun configuration bytes now → GoesOn configuration bytes start result run lefts now
-stops configuration bytes start (Ok value) run lefts now is begun = absurd (false≢true is)
-stops configuration bytes start (Err fault) run lefts now is begun = begun
+pub stops : {A : Type 0} (configuration : Configuration) (relations : List Relation) (bytes : Option (List ℕ)) (start : Lefts) (result : Result A ProposalFault) (run : Run) (lefts : Lefts) (now : Option (List ℕ))
+    → IsErr result → HasBegun configuration bytes start now → GoesOn configuration relations bytes start result run lefts now
+stops configuration relations bytes start (Ok value) run lefts now is begun = absurd (false≢true is)
+stops configuration relations bytes start (Err fault) run lefts now is begun = begun
 
 -- a fault before the first record
-pub none_written : (configuration : Configuration) (bytes : Option (List ℕ)) → HasBegun configuration bytes bytes
-none_written configuration bytes = (
+pub none_written : (configuration : Configuration) (bytes : Option (List ℕ)) (start : Lefts) → HasBegun configuration bytes start bytes
+none_written configuration bytes start = (
   [],
   record { lens = λ core. 0; more = []; bound = λ core within. omega arith; lawful = record { numbers = λ core within. refl; known = tt } },
+  (λ items known. ((λ core. []), (λ core. (items core, refl)), record { numbers = λ core within. refl; known = tt })),
   ([], [], refl, nothing_more bytes),
 )
 
@@ -192,7 +210,7 @@ pub none_cut : (bytes : Option (List ℕ)) (text : List ℕ) → IsCut bytes tex
 none_cut bytes text = ([], text, refl, nothing_more bytes)
 
 -- a fault: the rows that were written
-pub cut_so : (configuration : Configuration) (bytes now : Option (List ℕ)) (result : Result Proposal ProposalFault) → IsErr result → HasBegun configuration bytes now
-    → (pairs : List Pair) × IsPrefixOfLawful configuration.cores pairs × HaveGoneOut bytes (rows_of pairs) result now
-cut_so configuration bytes now (Ok proposal) is begun = absurd (false≢true is)
-cut_so configuration bytes now (Err fault) is begun = begun
+pub cut_so : (configuration : Configuration) (bytes : Option (List ℕ)) (start : Lefts) (now : Option (List ℕ)) (result : Result Proposal ProposalFault) → IsErr result → HasBegun configuration bytes start now
+    → (pairs : List Pair) × IsPrefixOfLawful configuration.cores pairs × ListsFirst configuration.cores start pairs × HaveGoneOut bytes (rows_of pairs) result now
+cut_so configuration bytes start now (Ok proposal) is begun = absurd (false≢true is)
+cut_so configuration bytes start now (Err fault) is begun = begun

@@ -3,7 +3,8 @@
 ghost use Rattle.std.specs.Prelude.{◌≡◌, ◌<◌, ◌+◌, ℕ, IfOk, length};
 ghost use Rattle.apex_machine.specs.Pieces.{pieces};
 ghost use Rattle.apex_machine.specs.Runs.{ArePlaced, AreOfCores};
-ghost use Rattle.verdict_merge.specs.Rounds.{IsReady, IsRound, cold_parts, parts_of};
+ghost use Rattle.user_rules.specs.Rules.{relations_of};
+ghost use Rattle.verdict_merge.specs.Rounds.{IsReady, IsRound, IsTested, cold_parts, parts_of};
 
 use apex_types::Ordered;
 use module_config::Config;
@@ -11,7 +12,15 @@ use piece_check::{Piece, Touched};
 use std::alloc::Global;
 use std::marker::Model;
 use std::mem;
-use verdict_merge::{Lent, Memory, Refused, gather_round, judge_in_turn, start_pieces};
+use user_rules::Rule;
+use verdict_merge::{Breach, Lent, Memory, Refused, gather_round, judge_in_turn, start_pieces};
+
+/// What became of a round: the least refusal, and the first view before it that breaks a rule.
+#[derive(Clone, Copy, Debug)]
+pub struct Judgement {
+    pub refused: Option<Refused>,
+    pub breach: Option<Breach>,
+}
 
 /// All pieces of a module, and how many records they have judged.
 #[derive(Drop)]
@@ -59,22 +68,28 @@ impl Base {
         self.count
     }
 
-    /// Judges the next records: each piece goes over those that touch it, up to its first refusal. The least refusal is reported, after
-    /// which nothing further is judged.
+    /// Judges the next records under these rules: each piece goes over those that touch it, up to its first refusal. The least refusal is
+    /// reported, after which nothing further is judged, and the first view before it that breaks a rule.
     ///
     /// Memory where a growth was refused, after which nothing further is judged.
-    pub fn judge(&mut self, config: &Config, records: &[Ordered]) -> Result<Option<Refused>, Memory>
+    pub fn judge(
+        &mut self,
+        config: &Config,
+        rules: &[Rule],
+        records: &[Ordered],
+    ) -> Result<Judgement, Memory>
         requires ready { IsReady config.now self.old }
         requires placed { ArePlaced self.old.count records.now }
         requires cores { AreOfCores config.now.cores records.now }
-        ensures { IfOk result (λ found. IsRound config.now self.old records.now found self.new) }
+        ensures round { IfOk result (λ judged. IsRound config.now self.old records.now judged.refused self.new) }
+        ensures tested { IfOk result (λ judged. IsTested config.now (relations_of rules.now) (parts_of self.old) records.now judged.refused judged.breach) }
     {
         if self.touched.sort_out(config, records).is_err() {
             return Err(Memory);
         }
         let lent = Lent::new(config, self.count, records, &self.touched);
         let pieces = mem::replace(&mut self.pieces, Vec::new(self.alloc));
-        let Ok(judged) = judge_in_turn(self.alloc, &lent, &[], pieces) else {
+        let Ok(judged) = judge_in_turn(self.alloc, &lent, rules, pieces) else {
             return Err(Memory);
         };
         let Ok(surveyed) = gather_round(self.alloc, &lent, judged) else {
@@ -82,7 +97,10 @@ impl Base {
         };
         self.pieces = surveyed.pieces;
         self.count = place_after(self.count, records);
-        Ok(surveyed.found)
+        Ok(Judgement {
+            refused: surveyed.found,
+            breach: surveyed.breach,
+        })
     }
 }
 

@@ -1,19 +1,22 @@
 // The records of an order, put one after another.
 
-ghost use Rattle.std.specs.Prelude.{◌≡◌, ◌<◌, ◌++◌, ◌∷◌, [], ℕ, suc, List, None, IfOk, OnErr, OnOk};
+ghost use Rattle.std.specs.Prelude.{◌≡◌, ◌<◌, ◌++◌, ◌∷◌, [], ℕ, suc, List, None, IfOk, IfSome, OnErr, OnOk, length};
 ghost use Rattle.apex_machine.specs.Configuration.{Configuration};
+ghost use Rattle.apex_machine.specs.Runs.{ArePlaced};
 ghost use Rattle.apex_types.specs.declared.record.Ordered.{Ordered};
 ghost use Rattle.apex_types.specs.declared.record.Pair.{Pair};
 ghost use Rattle.order_cert.specs.Kept.{none_taken, place_of, put, taken_of};
 ghost use Rattle.order_cert.specs.Order.{misplaced, pair_of};
 ghost use Rattle.placement.specs.Scan.{placed_at};
 ghost use Rattle.sink.specs.Written.{IsCut, IsWritten};
+ghost use Rattle.user_rules.specs.declared.relation.Relation.{Relation};
+ghost use Rattle.user_rules.specs.Rules.{relations_of};
 ghost use Rattle.verdict_merge.specs.Verdicts.{IsVerdict};
-ghost use Rattle.order_run.specs.Proposal.{verdict_of};
-ghost use Rattle.order_run.specs.UnderWay.{HasPut, HaveJudged};
+ghost use Rattle.order_run.specs.Proposal.{order_verdict_of, verdict_of};
+ghost use Rattle.order_run.specs.UnderWay.{HasPut, HaveJudged, HaveTested, first_broken};
 
 use crate::base::Base;
-use crate::proposal::{Proposal, ProposalFault};
+use crate::proposal::{BrokenRule, Proposal, ProposalFault};
 use crate::rows::add_row;
 use apex_types::limits::LARGEST_ROUND;
 use apex_types::{CoreId, Ordered, Record};
@@ -22,7 +25,8 @@ use order_cert::Keeper;
 use placement::InputFault;
 use sink::{Sink, put_all};
 use std::alloc::Global;
-use verdict_merge::{Memory, Refused};
+use user_rules::Rule;
+use verdict_merge::{Breach, Memory, Refused};
 
 /// An order that grows: its last records wait in a round until they are judged and their rows are written.
 #[derive(Drop)]
@@ -33,6 +37,8 @@ pub struct Run {
     // The rows of the round.
     pub(crate) text: Vec<u8>,
     pub(crate) refused: Option<Refused>,
+    // The first rule that a view of the records before the refused one breaks.
+    pub(crate) broken: Option<BrokenRule>,
 }
 
 impl Run {
@@ -41,7 +47,7 @@ impl Run {
     /// Memory where a growth is refused.
     #[tactic(auto, using(crate::proofs::Onward::begun))]
     pub fn start(alloc: Global, config: &Config) -> Result<Run, Memory>
-        ensures so_far { IfOk result (λ run. HasPut config.now run [] [] []) }
+        ensures so_far { IfOk result (λ run. (relations : List Relation) → HasPut config.now relations run [] [] []) }
         ensures taken { IfOk result (λ run. taken_of run.keeper ≡ none_taken) }
         ensures place { IfOk result (λ run. place_of run.keeper ≡ 0) }
         ensures empty { IfOk result (λ run. run.round.items ≡ []) }
@@ -53,6 +59,7 @@ impl Run {
             round: Vec::new(alloc),
             text: Vec::new(alloc),
             refused: None,
+            broken: None,
         })
     }
 
@@ -63,7 +70,7 @@ impl Run {
 
     /// Puts the next record of a core next.
     pub fn put(&mut self, core: CoreId, rec: Record) -> Result<(), ProposalFault>
-        ensures so_far { OnOk result ((config : Configuration) (settled waiting : List Pair) (before : List Ordered) → HasPut config self.old settled waiting before → HasPut config self.new settled (waiting ++ pair_of core (taken_of self.old.keeper core) ∷ []) before) }
+        ensures so_far { OnOk result ((config : Configuration) (relations : List Relation) (settled waiting : List Pair) (before : List Ordered) → HasPut config relations self.old settled waiting before → HasPut config relations self.new settled (waiting ++ pair_of core (taken_of self.old.keeper core) ∷ []) before) }
         ensures round { OnOk result (self.new.round.items ≡ self.old.round.items ++ placed_at (place_of self.old.keeper) core rec ∷ []) }
         ensures fits { OnOk result (misplaced self.old.keeper.cores (taken_of self.old.keeper) (pair_of core (taken_of self.old.keeper core)) ≡ None) }
         ensures taken { OnOk result (taken_of self.new.keeper ≡ put (taken_of self.old.keeper) core (suc (taken_of self.old.keeper core))) }
@@ -90,26 +97,32 @@ impl Run {
         }
     }
 
-    /// Judges the records of the round, unless one was refused before, and writes their rows.
-    pub fn settle<W: Sink>(&mut self, config: &Config, out: &mut W) -> Result<(), ProposalFault>
-        requires { (settled waiting : List Pair) × (before : List Ordered) × HasPut config.now self.old settled waiting before }
-        ensures so_far { OnOk result ((settled waiting : List Pair) (before : List Ordered) → HasPut config.now self.old settled waiting before → HasPut config.now self.new (settled ++ waiting) [] (before ++ self.old.round.items)) }
+    /// Judges the records of the round under these rules, unless one was refused before, and writes their rows.
+    pub fn settle<W: Sink>(
+        &mut self,
+        config: &Config,
+        rules: &[Rule],
+        out: &mut W,
+    ) -> Result<(), ProposalFault>
+        requires { (settled waiting : List Pair) × (before : List Ordered) × HasPut config.now (relations_of rules.now) self.old settled waiting before }
+        ensures so_far { OnOk result ((settled waiting : List Pair) (before : List Ordered) → HasPut config.now (relations_of rules.now) self.old settled waiting before → HasPut config.now (relations_of rules.now) self.new (settled ++ waiting) [] (before ++ self.old.round.items)) }
         ensures kept { self.new.keeper ≡ self.old.keeper }
         ensures empty { OnOk result (self.new.round.items ≡ []) }
         ensures whole { OnOk result (IsWritten (W.bytes out.old) self.old.text.items (W.bytes out.new)) }
         ensures cut { OnErr result (IsCut (W.bytes out.old) self.old.text.items (W.bytes out.new)) }
     {
-        self.judge(config)?;
+        self.judge(config, rules)?;
         put_all(out, &self.text)?;
         self.round.clear();
         self.text.clear();
         Ok(())
     }
 
-    // Judges the records of the round, unless one was refused before.
-    fn judge(&mut self, config: &Config) -> Result<(), Memory>
-        requires { (settled waiting : List Pair) × (before : List Ordered) × HasPut config.now self.old settled waiting before }
-        ensures judged { OnOk result ((settled waiting : List Pair) (before : List Ordered) → HasPut config.now self.old settled waiting before → HaveJudged config.now (before ++ self.old.round.items) self.new.refused self.new.base) }
+    // Judges the records of the round under these rules, unless one was refused before. Of the rules that are broken, the first is kept.
+    fn judge(&mut self, config: &Config, rules: &[Rule]) -> Result<(), Memory>
+        requires { (settled waiting : List Pair) × (before : List Ordered) × HasPut config.now (relations_of rules.now) self.old settled waiting before }
+        ensures judged { OnOk result ((settled waiting : List Pair) (before : List Ordered) → HasPut config.now (relations_of rules.now) self.old settled waiting before → HaveJudged config.now (before ++ self.old.round.items) self.new.refused self.new.base) }
+        ensures tested { OnOk result ((settled waiting : List Pair) (before : List Ordered) → HasPut config.now (relations_of rules.now) self.old settled waiting before → HaveTested config.now (relations_of rules.now) (before ++ self.old.round.items) self.new.refused self.new.broken) }
         ensures keeper { self.new.keeper ≡ self.old.keeper }
         ensures round { self.new.round.items ≡ self.old.round.items }
         ensures text { self.new.text.items ≡ self.old.text.items }
@@ -117,19 +130,53 @@ impl Run {
         if self.refused.is_some() {
             return Ok(());
         }
-        self.refused = self.base.judge(config, &self.round)?;
+        let judged = self.base.judge(config, rules, &self.round)?;
+        self.refused = judged.refused;
+        self.broken = first_broken(self.broken, &self.round, judged.breach);
         Ok(())
     }
 
     /// What is proposed, once every record is judged.
     pub fn proposal(&self) -> Proposal
-        ensures { (configuration : Configuration) (pairs : List Pair) (before : List Ordered) → HasPut configuration self.now pairs [] before → self.now.round.items ≡ [] → IsVerdict configuration [] before (verdict_of result) }
+        ensures verdict { (configuration : Configuration) (relations : List Relation) (pairs : List Pair) (before : List Ordered) → HasPut configuration relations self.now pairs [] before → self.now.round.items ≡ [] → IsVerdict configuration relations before (verdict_of result) }
+        ensures order { (configuration : Configuration) (relations : List Relation) (pairs : List Pair) (before : List Ordered) → HasPut configuration relations self.now pairs [] before → self.now.round.items ≡ [] → IsVerdict configuration [] before (order_verdict_of result) }
     {
+        let broken = self.broken;
         match self.refused {
-            Some(refused) => Proposal::NotFound(refused),
+            Some(refused) => Proposal::NotFound { refused, broken },
             None => Proposal::Found {
                 records: self.keeper.place(),
+                broken,
             },
         }
+    }
+}
+
+// The first rule that is broken: the one so far, or else that which a view of these records breaks.
+fn first_broken(
+    so_far: Option<BrokenRule>,
+    records: &[Ordered],
+    breach: Option<Breach>,
+) -> Option<BrokenRule>
+    requires { IfSome breach (λ one. one.seen.index < length records.now) }
+    ensures { (first : ℕ) → ArePlaced first records.now → result ≡ first_broken so_far first breach }
+{
+    match so_far {
+        Some(broken) => Some(broken),
+        None => broken_in(records, breach),
+    }
+}
+
+// The rule that a view of these records breaks, if one does.
+fn broken_in(records: &[Ordered], breach: Option<Breach>) -> Option<BrokenRule>
+    requires { IfSome breach (λ one. one.seen.index < length records.now) }
+    ensures { (first : ℕ) → ArePlaced first records.now → result ≡ first_broken None first breach }
+{
+    match breach {
+        Some(one) => Some(BrokenRule {
+            pos: records[one.seen.index].pos,
+            rule: one.rule,
+        }),
+        None => None,
     }
 }

@@ -1,7 +1,7 @@
 -- What a search and the machine at its tip agree on.
-use Rattle.std.specs.Prelude.{◌≡◌, ◌<◌, ℕ, Bool, true, List, [], Option, Some, None}
-use Rattle.order_search.specs.declared.end.End.{End}
-use Rattle.order_search.specs.declared.end.End.TheVariants.{Whole, Stuck}
+use Rattle.std.specs.Prelude.{◌≡◌, ◌<◌, ◌≤◌, ◌+◌, ◌*◌, ℕ, List, [], Option, Some, None}
+use Rattle.order_search.specs.declared.budget.Effort.{Effort}
+use Rattle.order_search.specs.declared.end.End.TheVariants.{EffortUsed}
 use Rattle.order_search.specs.declared.end.Step.{Step}
 use Rattle.order_search.specs.declared.end.Step.TheVariants.{Next, Over}
 use Rattle.order_search.specs.declared.search.Search.{Search}
@@ -14,15 +14,13 @@ undecided_of search = search.placed.cores.items
 abbrev pub cores_of : Search → ℕ
 cores_of search = search.placed.most
 
--- each core of the module is at the end of its recording
-abbrev pub AllEnded : ℕ → (ℕ → Bool) → Type 0
-AllEnded cores is_ended = (core : ℕ) → core < cores → is_ended core ≡ true
+-- how many records a search has tried
+abbrev pub tried_of : Search → ℕ
+tried_of search = search.budget.effort.tried
 
--- the machine has taken exactly the records that the search has placed; if the search says that the order is whole, no core has
--- a record left
-pub record Agrees (search : Search) (undecided : List ℕ) (is_ended : ℕ → Bool) : Type 0 where
-  pub taken : undecided ≡ search.placed.cores.items
-  pub whole : search.finished ≡ Some Whole → AllEnded search.placed.most is_ended
+-- the machine has taken exactly the records that the search has placed
+abbrev pub Agrees : Search → List ℕ → Type 0
+Agrees search undecided = undecided ≡ search.placed.cores.items
 
 -- the search goes on, and the machine has taken exactly the records that it has placed
 pub record IsOpen (search : Search) (undecided : List ℕ) : Type 0 where
@@ -30,10 +28,23 @@ pub record IsOpen (search : Search) (undecided : List ℕ) : Type 0 where
   pub unfinished : search.finished ≡ None
 
 -- a part of the search decides no record: the search and the machine agree after it, and the module has its cores
-pub record DecidesNone (before : Search) (decided_before : ℕ) (after : Search) (decided_after : ℕ) (undecided : List ℕ) (is_ended : ℕ → Bool) : Type 0 where
-  pub agrees : Agrees after undecided is_ended
+pub record DecidesNone (before : Search) (decided_before : ℕ) (after : Search) (decided_after : ℕ) (undecided : List ℕ) : Type 0 where
+  pub agrees : Agrees after undecided
   pub decided : decided_after ≡ decided_before
   pub cores : cores_of after ≡ cores_of before
+
+-- a part of the search tries what it takes from what is left to try, and nothing else changes of that
+pub record Spends (before after : Search) : Type 0 where
+  pub sum : tried_of after + after.budget.left ≡ tried_of before + before.budget.left
+  pub left : after.budget.left ≤ before.budget.left
+
+-- one try: if there is something left to try, more is tried after it; if not, the search ends for that
+abbrev pub IsTry : Search → Search → Type 0
+IsTry before after = (0 < before.budget.left → tried_of before < tried_of after) × (before.budget.left ≡ 0 → after.finished ≡ Some EffortUsed)
+
+-- as many records were tried as may be: so many for each record placed, and once more; at most the greatest number of 64 bits are counted
+abbrev pub HasTriedAll : Effort → Type 0
+HasTriedAll effort = effort.tried < 0xFFFFFFFFFFFFFFFF → effort.tried ≡ effort.allowed * (effort.reached + 1)
 
 -- how many records a step decides
 abbrev pub decided_by : Step → ℕ

@@ -1,5 +1,5 @@
 -- What a choice is among.
-use Rattle.std.specs.Prelude.{◌≡◌, ◌<◌, ◌⊎◌, ℕ, Option, Some}
+use Rattle.std.specs.Prelude.{◌<◌, ℕ}
 use Rattle.order_search.specs.declared.choice.Choice.{Choice}
 use Rattle.order_search.specs.declared.choice.Choice.TheVariants.{Free, Shared, AtEnd, Blocked}
 

@@ -1,9 +1,7 @@
 // Which record is taken next.
 
-ghost use Rattle.std.specs.Prelude.{◌≡◌, ◌<◌, ◌⊎◌, Ok, Some, OnOk, IfOk};
-ghost use Rattle.order_search.specs.Agreement.{AllEnded};
+ghost use Rattle.std.specs.Prelude.{◌≡◌, ◌<◌, ◌⊎◌, Some, OnOk, IfOk};
 ghost use Rattle.order_search.specs.Choices.{IsWithin};
-ghost use Rattle.order_search.specs.declared.choice.Choice.TheVariants.{AtEnd};
 
 use crate::placed::Placed;
 use crate::tip::{Answer, Tip};
@@ -47,7 +45,6 @@ pub fn choose<T: Tip>(tip: &mut T, placed: &Placed, tree: &Tree) -> Result<Choic
     ensures decided { OnOk result (T.decided tip.new ≡ T.decided tip.old) }
     ensures input { OnOk result (T.input tip.new ≡ T.input tip.old) }
     ensures within { IfOk result (IsWithin placed.now.most) }
-    ensures at_end { result ≡ Ok AtEnd → AllEnded placed.now.most (T.is_ended tip.new) }
 {
     let cores = placed.most;
     let last = placed.last_core();

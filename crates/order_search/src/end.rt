@@ -7,6 +7,8 @@ pub enum End {
     Whole,
     /// No way to go on was found.
     Stuck,
+    /// As many records were tried as may be.
+    EffortUsed,
 }
 
 /// What comes next.

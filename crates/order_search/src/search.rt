@@ -1,5 +1,8 @@
 // The search: depth first, with two records swapped when it comes to a dead end.
 
+ghost use Rattle.std.specs.Prelude.{◌≡◌, Some};
+ghost use Rattle.order_search.specs.declared.end.End.TheVariants.{EffortUsed};
+
 use crate::budget::{Budget, Effort};
 use crate::choice::{Choice, choose};
 use crate::end::{End, Step};
@@ -34,18 +37,18 @@ pub struct Search {
     // How many records are decided.
     first: u64,
     pub(crate) placed: Placed,
-    budget: Budget,
+    pub(crate) budget: Budget,
     touches: Touches,
     tree: Tree,
     longest: Longest,
     pub(crate) finished: Option<End>,
+    ghost used_up: { finished ≡ Some EffortUsed → budget.left ≡ 0 },
 }
 
 impl Search {
-    ghost use Rattle.std.specs.Prelude.{◌≡◌, ◌<◌, ◌≤◌, ◌+◌, ◌*◌, [], IfOk, OnOk, Ok, None};
-    ghost use Rattle.order_search.specs.Agreement.{Agrees, AllEnded, DecidesNone, IsLast, IsOfModule, IsOpen, IsOverWith, cores_of, decided_by, undecided_of};
+    ghost use Rattle.std.specs.Prelude.{◌<◌, ◌≤◌, ◌+◌, ◌*◌, [], IfOk, OnOk, Ok, None};
+    ghost use Rattle.order_search.specs.Agreement.{Agrees, DecidesNone, HasTriedAll, IsLast, IsOfModule, IsOpen, IsOverWith, IsTry, Spends, cores_of, decided_by, tried_of, undecided_of};
     ghost use Rattle.order_search.specs.declared.end.Step.TheVariants.{Over};
-    ghost use Rattle.order_search.specs.declared.end.End.TheVariants.{Whole};
 
     /// A search for an order of the records of so many cores, at its start.
     pub fn new(alloc: Global, cores: usize, limits: Limits) -> Result<Search, AllocError>
@@ -78,15 +81,15 @@ impl Search {
     /// The machine has taken exactly the undecided records, in their order, before and after. If it refuses memory, nothing is
     /// said of the search.
     pub fn next<T: Tip>(&mut self, tip: &mut T) -> Result<Step, AllocError>
-        requires agrees { Agrees self.old (T.undecided tip.old) (T.is_ended tip.old) }
-        ensures agrees { OnOk result (Agrees self.new (T.undecided tip.new) (T.is_ended tip.new)) }
+        requires agrees { Agrees self.old (T.undecided tip.old) }
+        ensures agrees { OnOk result (Agrees self.new (T.undecided tip.new)) }
         ensures decided { IfOk result (λ step. T.decided tip.new ≡ T.decided tip.old + decided_by step) }
         ensures input { OnOk result (T.input tip.new ≡ T.input tip.old) }
         ensures core { IfOk result (IsOfModule (cores_of self.old)) }
         ensures last { IfOk result (IsLast (T.last_decided tip.new)) }
         ensures cores { OnOk result (cores_of self.new ≡ cores_of self.old) }
-        ensures whole { result ≡ Ok (Over Whole) → AllEnded (cores_of self.old) (T.is_ended tip.new) }
         ensures none_left { IfOk result (IsOverWith (undecided_of self.new)) }
+        ensures effort { result ≡ Ok (Over EffortUsed) → HasTriedAll self.new.budget.effort }
     {
         self.fill(tip)?;
         let Some(core) = self.placed.pop_oldest() else {
@@ -99,8 +102,8 @@ impl Search {
 
     // Places records until as many are undecided as may be, or the search is over.
     fn fill<T: Tip>(&mut self, tip: &mut T) -> Result<(), AllocError>
-        requires agrees { Agrees self.old (T.undecided tip.old) (T.is_ended tip.old) }
-        ensures keeps { OnOk result (DecidesNone self.old (T.decided tip.old) self.new (T.decided tip.new) (T.undecided tip.new) (T.is_ended tip.new)) }
+        requires agrees { Agrees self.old (T.undecided tip.old) }
+        ensures keeps { OnOk result (DecidesNone self.old (T.decided tip.old) self.new (T.decided tip.new) (T.undecided tip.new)) }
         ensures input { OnOk result (T.input tip.new ≡ T.input tip.old) }
     {
         for _ in 0..u64::MAX {
@@ -126,14 +129,15 @@ impl Search {
         self.longest.clear();
     }
 
-    // Places one more record, or goes back from a dead end, or ends the search.
+    // One try: places one more record, or goes back from a dead end, or ends the search.
     fn advance<T: Tip>(&mut self, tip: &mut T) -> Result<(), AllocError>
         requires open { IsOpen self.old (T.undecided tip.old) }
-        ensures keeps { OnOk result (DecidesNone self.old (T.decided tip.old) self.new (T.decided tip.new) (T.undecided tip.new) (T.is_ended tip.new)) }
+        ensures keeps { OnOk result (DecidesNone self.old (T.decided tip.old) self.new (T.decided tip.new) (T.undecided tip.new)) }
         ensures input { OnOk result (T.input tip.new ≡ T.input tip.old) }
+        ensures tries { OnOk result (IsTry self.old self.new) }
     {
         if self.budget.is_used_up() {
-            return self.give_up(tip);
+            return self.give_up(tip, End::EffortUsed);
         }
         self.budget.charge(1);
         match choose(tip, &self.placed, &self.tree)? {
@@ -155,8 +159,9 @@ impl Search {
     fn place<T: Tip>(&mut self, tip: &mut T, core: usize) -> Result<(), AllocError>
         requires core { core < cores_of self.old }
         requires open { IsOpen self.old (T.undecided tip.old) }
-        ensures keeps { OnOk result (DecidesNone self.old (T.decided tip.old) self.new (T.decided tip.new) (T.undecided tip.new) (T.is_ended tip.new)) }
+        ensures keeps { OnOk result (DecidesNone self.old (T.decided tip.old) self.new (T.decided tip.new) (T.undecided tip.new)) }
         ensures input { OnOk result (T.input tip.new ≡ T.input tip.old) }
+        ensures tried { OnOk result (tried_of self.new ≡ tried_of self.old) }
     {
         if !tip.take(core)? {
             self.finished = Some(End::Stuck);
@@ -176,8 +181,9 @@ impl Search {
     // At a dead end: goes back to swap two records, or ends the search if no swap is left.
     fn turn_back<T: Tip>(&mut self, tip: &mut T) -> Result<(), AllocError>
         requires open { IsOpen self.old (T.undecided tip.old) }
-        ensures keeps { OnOk result (DecidesNone self.old (T.decided tip.old) self.new (T.decided tip.new) (T.undecided tip.new) (T.is_ended tip.new)) }
+        ensures keeps { OnOk result (DecidesNone self.old (T.decided tip.old) self.new (T.decided tip.new) (T.undecided tip.new)) }
         ensures input { OnOk result (T.input tip.new ≡ T.input tip.old) }
+        ensures spends { OnOk result (Spends self.old self.new) }
     {
         self.longest.keep(&self.placed)?;
         let swaps = self.swaps(tip)?;
@@ -185,7 +191,7 @@ impl Search {
         self.tree.enter(&self.placed, level, swaps)?;
         match self.tree.next_swap(self.first)? {
             Some(level) => self.go_back(tip, level),
-            None => self.give_up(tip),
+            None => self.give_up(tip, End::Stuck),
         }
     }
 
@@ -277,8 +283,9 @@ impl Search {
     fn go_back<T: Tip>(&mut self, tip: &mut T, level: u64) -> Result<(), AllocError>
         requires open { IsOpen self.old (T.undecided tip.old) }
         ensures open { OnOk result (IsOpen self.new (T.undecided tip.new)) }
-        ensures keeps { OnOk result (DecidesNone self.old (T.decided tip.old) self.new (T.decided tip.new) (T.undecided tip.new) (T.is_ended tip.new)) }
+        ensures keeps { OnOk result (DecidesNone self.old (T.decided tip.old) self.new (T.decided tip.new) (T.undecided tip.new)) }
         ensures input { OnOk result (T.input tip.new ≡ T.input tip.old) }
+        ensures spends { OnOk result (Spends self.old self.new) }
     {
         let kept = level.saturating_sub(self.first);
         if kept >= self.placed.len() as u64 {
@@ -291,16 +298,19 @@ impl Search {
         Ok(())
     }
 
-    // Ends the search, with the longest beginning that it met.
-    fn give_up<T: Tip>(&mut self, tip: &mut T) -> Result<(), AllocError>
+    // Ends the search in this way, with the longest beginning that it met.
+    fn give_up<T: Tip>(&mut self, tip: &mut T, end: End) -> Result<(), AllocError>
+        requires used_up { end ≡ EffortUsed → self.old.budget.left ≡ 0 }
         requires open { IsOpen self.old (T.undecided tip.old) }
-        ensures keeps { OnOk result (DecidesNone self.old (T.decided tip.old) self.new (T.decided tip.new) (T.undecided tip.new) (T.is_ended tip.new)) }
+        ensures keeps { OnOk result (DecidesNone self.old (T.decided tip.old) self.new (T.decided tip.new) (T.undecided tip.new)) }
         ensures input { OnOk result (T.input tip.new ≡ T.input tip.old) }
+        ensures spends { OnOk result (Spends self.old self.new) }
+        ensures finished { OnOk result (self.new.finished ≡ Some end) }
     {
         if self.placed.len() < self.longest.cores.len() {
             self.return_to_longest(tip)?;
         }
-        self.finished = Some(End::Stuck);
+        self.finished = Some(end);
         Ok(())
     }
 
@@ -311,6 +321,8 @@ impl Search {
         ensures decided { OnOk result (T.decided tip.new ≡ T.decided tip.old) }
         ensures input { OnOk result (T.input tip.new ≡ T.input tip.old) }
         ensures cores { OnOk result (cores_of self.new ≡ cores_of self.old) }
+        ensures spends { OnOk result (Spends self.old self.new) }
+        ensures unfinished { OnOk result (self.new.finished ≡ None) }
     {
         let same = self.longest.common(&self.placed);
         let level = self.first.saturating_add(same as u64);

@@ -1,7 +1,6 @@
 // What the search asks of the machine at its tip.
 
-ghost use Rattle.std.specs.Prelude.{◌≡◌, ◌≤◌, ◌+◌, ◌++◌, ◌∷◌, [], ℕ, Bool, true, false, List, Ok, Option, Some, OnOk, length, take, drop};
-ghost use Rattle.order_search.specs.declared.tip.Answer.TheVariants.{Ended};
+ghost use Rattle.std.specs.Prelude.{◌≡◌, ◌≤◌, ◌+◌, ◌++◌, ◌∷◌, [], ℕ, true, false, List, Ok, Option, Some, OnOk, length, take, drop};
 
 use std::alloc::AllocError;
 
@@ -40,9 +39,6 @@ pub trait Tip {
     // The core of the record that was decided last.
     ghost last_decided: { Self → Option ℕ };
 
-    // Whether a core is at the end of its recording.
-    ghost is_ended: { Self → ℕ → Bool };
-
     // What the recordings are.
     ghost Input: { Type 0 };
 
@@ -52,8 +48,6 @@ pub trait Tip {
     fn judge(&mut self, core: usize) -> Result<Answer, AllocError>
         ensures undecided { OnOk result (undecided self.new ≡ undecided self.old) }
         ensures decided { OnOk result (decided self.new ≡ decided self.old) }
-        ensures ended { result ≡ Ok Ended → is_ended self.new core ≡ true }
-        ensures stays_ended { OnOk result ((other : ℕ) → is_ended self.old other ≡ true → is_ended self.new other ≡ true) }
         ensures input { OnOk result (input self.new ≡ input self.old) };
 
     /// Takes a core's next record. If it is rejected, nothing is taken and the answer is false.
@@ -76,7 +70,6 @@ pub trait Tip {
         ensures undecided { undecided self.new ≡ drop 1 (undecided self.old) }
         ensures decided { decided self.new ≡ decided self.old + 1 }
         ensures last { last_decided self.new ≡ Some core }
-        ensures stays_ended { (other : ℕ) → is_ended self.old other ≡ true → is_ended self.new other ≡ true }
         ensures input { input self.new ≡ input self.old };
 
     /// Adds what a core's next record changes that records of other cores may see, each as a number that means the same at each call.

@@ -1,4 +1,3 @@
-mod Agreed
 pub mod Opened
 mod Outcomes
 mod Tip

@@ -6,6 +6,8 @@ use Rattle.order_cert.specs.Order.{IsPrefixOfLawful}
 use Rattle.record_read.specs.Row.{Item, records_of}
 use Rattle.sink.specs.Taken.{with_more}
 use Rattle.sink.specs.Written.{IsCut}
+use Rattle.order_run.specs.Left.{Lefts}
+use Rattle.order_run.specs.Proposal.{ListsFirst}
 use Rattle.order_run.specs.Rows.{rows_of}
 
 -- recordings that are opened over texts
@@ -26,9 +28,10 @@ nothing_more None = refl
 nothing_more (Some bytes) = ap Some (sym (append-nil bytes))
 
 -- of an order of no record nothing has gone out
-pub nothing_gone : (cores : ℕ) (bytes : Option (List ℕ)) → (pairs : List Pair) × IsPrefixOfLawful cores pairs × IsCut bytes (rows_of pairs) bytes
-nothing_gone cores bytes = (
+pub nothing_gone : (cores : ℕ) (lefts : Lefts) (bytes : Option (List ℕ)) → (pairs : List Pair) × IsPrefixOfLawful cores pairs × ListsFirst cores lefts pairs × IsCut bytes (rows_of pairs) bytes
+nothing_gone cores lefts bytes = (
   [],
   record { lens = λ core. 0; more = []; bound = λ core within. omega arith; lawful = record { numbers = λ core within. refl; known = tt } },
+  (λ items known. ((λ core. []), (λ core. (items core, refl)), record { numbers = λ core within. refl; known = tt })),
   ([], [], refl, nothing_more bytes),
 )

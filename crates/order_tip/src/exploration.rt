@@ -74,7 +74,6 @@ impl<'a, R: TextSource + Drop> Exploration<'a, R> {
     }
 
     // The core of the next record that the search decides. If the search is over, any record that the pieces accept is next.
-    #[tactic(auto, using(crate::proofs::Agreed::agrees))]
     fn search_or_follow<V: Watcher>(
         &mut self,
         config: &Config,

@@ -125,7 +125,6 @@ impl<'a, R: TextSource + Drop> Machine<'a, R> {
 }
 
 impl<'a, R: TextSource + Drop> Tip for Machine<'a, R> {
-    ghost use Rattle.std.specs.Prelude.{true};
     ghost use Rattle.order_run.specs.Left.{Lefts};
 
     ghost undecided = { λ machine. machine.undecided.cores.items };
@@ -133,9 +132,6 @@ impl<'a, R: TextSource + Drop> Tip for Machine<'a, R> {
     ghost decided = { λ machine. machine.undecided.decided };
 
     ghost last_decided = { λ machine. machine.undecided.last };
-
-    // A run finds out by itself where each recording ends.
-    ghost is_ended = { λ machine core. true };
 
     ghost Input = { Lefts };
 

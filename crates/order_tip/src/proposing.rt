@@ -5,7 +5,8 @@ ghost use Rattle.apex_types.specs.declared.record.Pair.{Pair};
 ghost use Rattle.order_cert.specs.Order.{IsPrefixOfLawful};
 ghost use Rattle.record_read.specs.Row.{records_of};
 ghost use Rattle.sink.specs.Written.{IsWritten};
-ghost use Rattle.order_run.specs.Proposal.{HaveGoneOut, IsProposed};
+ghost use Rattle.user_rules.specs.Rules.{relations_of};
+ghost use Rattle.order_run.specs.Proposal.{HaveGoneOut, IsProposed, ListsFirst};
 ghost use Rattle.order_run.specs.Rows.{rows_of};
 
 use crate::exploration::Exploration;
@@ -18,26 +19,29 @@ use order_run::{Guide, Lanes, Proposal, ProposalFault, propose_by};
 use order_search::{Limits, Search};
 use sink::Sink;
 use std::alloc::{AllocError, Global};
+use user_rules::Rule;
 
 /// How many records may be undecided by default.
 pub const MOST_UNDECIDED: usize = 65_536;
 
 /// Searches for an order of the records of these recordings, one for each core of the configuration, and writes its certificate.
 ///
-/// Whatever it answers, the rows that it wrote are a prefix of a lawful order. If it proposes an order, they list every record.
+/// Whatever it answers, the rows that it wrote are a prefix of a lawful order, and list the first records of each recording. If it proposes an order, they list every record.
 /// `Found`: in that order the records are a run of the machine from the cold state. `NotFound`: the records before the place are such a
-/// run, and the machine has no step that takes the record at the place.
+/// run, and the machine has no step that takes the record at the place. Of both it says which of these rules is broken first, and where;
+/// the rules decide nothing in the search.
 pub fn propose<R: TextSource + Drop, W: Sink, V: Watcher>(
     alloc: Global,
     config: &Config,
+    rules: &[Rule],
     sources: Vec<R>,
     limits: Limits,
     watcher: &mut V,
     out: &mut W,
 ) -> Result<Proposal, ProposalFault>
     requires { length sources.items ≡ config.now.cores }
-    ensures prefix { (pairs : List Pair) × IsPrefixOfLawful config.now.cores pairs × HaveGoneOut (W.bytes out.old) (rows_of pairs) result (W.bytes out.new) }
-    ensures proposed { (texts : List (List ℕ)) → map R.remaining sources.items ≡ map Some texts → IfOk result (λ proposal. (certificate : List ℕ) × IsWritten (W.bytes out.old) certificate (W.bytes out.new) × IsProposed config.now texts certificate proposal) }
+    ensures prefix { (pairs : List Pair) × IsPrefixOfLawful config.now.cores pairs × ListsFirst config.now.cores (map (λ source. option_map records_of (R.remaining source)) sources.items) pairs × HaveGoneOut (W.bytes out.old) (rows_of pairs) result (W.bytes out.new) }
+    ensures proposed { (texts : List (List ℕ)) → map R.remaining sources.items ≡ map Some texts → IfOk result (λ proposal. (certificate : List ℕ) × IsWritten (W.bytes out.old) certificate (W.bytes out.new) × IsProposed config.now (relations_of rules.now) texts certificate proposal) }
 {
     match explored(alloc, config, sources, limits) {
         Ok(exploration) => {
@@ -46,7 +50,7 @@ pub fn propose<R: TextSource + Drop, W: Sink, V: Watcher>(
                 exploration,
                 watcher,
             };
-            propose_with(alloc, config, guide, out)
+            propose_with(alloc, config, rules, guide, out)
         }
         Err(_) => Err(ProposalFault::Memory),
     }
@@ -56,15 +60,16 @@ pub fn propose<R: TextSource + Drop, W: Sink, V: Watcher>(
 fn propose_with<G: Guide + Drop, W: Sink>(
     alloc: Global,
     config: &Config,
+    rules: &[Rule],
     guide: G,
     out: &mut W,
 ) -> Result<Proposal, ProposalFault>
     requires { length (G.left guide) ≡ config.now.cores }
-    ensures prefix { (pairs : List Pair) × IsPrefixOfLawful config.now.cores pairs × HaveGoneOut (W.bytes out.old) (rows_of pairs) result (W.bytes out.new) }
-    ensures proposed { (texts : List (List ℕ)) → G.left guide ≡ map (λ text. Some (records_of text)) texts → IfOk result (λ proposal. (certificate : List ℕ) × IsWritten (W.bytes out.old) certificate (W.bytes out.new) × IsProposed config.now texts certificate proposal) }
+    ensures prefix { (pairs : List Pair) × IsPrefixOfLawful config.now.cores pairs × ListsFirst config.now.cores (G.left guide) pairs × HaveGoneOut (W.bytes out.old) (rows_of pairs) result (W.bytes out.new) }
+    ensures proposed { (texts : List (List ℕ)) → G.left guide ≡ map (λ text. Some (records_of text)) texts → IfOk result (λ proposal. (certificate : List ℕ) × IsWritten (W.bytes out.old) certificate (W.bytes out.new) × IsProposed config.now (relations_of rules.now) texts certificate proposal) }
 {
     let mut guide = guide;
-    propose_by(alloc, config, &mut guide, out)
+    propose_by(alloc, config, rules, &mut guide, out)
 }
 
 // The exploration of these recordings, before the first record.

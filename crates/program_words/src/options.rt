@@ -97,9 +97,12 @@ pub static CHECK_OPTIONS: [ProgramOption; 11] = [
 ];
 
 /// The options of `apexorder`.
-pub static ORDER_OPTIONS: [ProgramOption; 3] = [
+pub static ORDER_OPTIONS: [ProgramOption; 6] = [
     row!(required "--config", Takes::File),
     row!("--effort", number!("number", 0, MOST)),
+    row!("--max-elapsed", number!("number of ticks", 0, MOST)),
+    row!("--forbid", Takes::Service),
+    row!("--rules", Takes::File),
     row!("--quiet", Takes::Nothing),
 ];
 

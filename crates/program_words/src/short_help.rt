@@ -16,12 +16,13 @@ order. Without arguments, it checks a stored example.
           --at-least RECORDS (refuse a YES for fewer)
   output: --last (the records before a NO), --sarif FILE (a log), --quiet";
 
-const ORDER_HELP: &str = "usage: apexorder --config FILE [--effort N] [--quiet] CORE...
+const ORDER_HELP: &str = "usage: apexorder --config FILE [OPTION]... CORE...
        apexorder --version | --help
 Searches for an order of the records of the cores of an ARINC 653 module, and
 prints it as a certificate for apexcheck.
   inputs: --config FILE (the module), CORE... (one recording for each core)
   search: --effort N (records tried for each one that is placed; default 1000)
+  rules:  --max-elapsed TICKS, --forbid SERVICE, --rules FILE
   output: --quiet (neither the progress nor what stops each core)";
 
 const VIEW_HELP: &str = "usage: apexview --config FILE --order FILE [OPTION]... CORE...

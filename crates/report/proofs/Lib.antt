@@ -3,6 +3,7 @@ pub mod Whole
 pub mod Failures
 pub mod Answering
 pub mod Rejecting
+pub mod Breaking
 pub mod Going
 pub mod LastOnes
 pub mod Onward

@@ -50,12 +50,12 @@ leaves_all configuration judging judged records count (Err fault) = tt
 -- as a witness is shown it
 
 -- a record among others, and its place
-contains_seam : (before : List Ordered) (ordered : Ordered) (after records : List Ordered) → records ≡ before ++ ordered ∷ after → Contains records ordered
+pub contains_seam : (before : List Ordered) (ordered : Ordered) (after records : List Ordered) → records ≡ before ++ ordered ∷ after → Contains records ordered
 contains_seam before ordered after records split =
     subst (λ list. Contains list ordered) (sym split)
     (length before, omega (arith, length-append before (ordered ∷ after)), get_or-append_seam before ordered after ordered)
 
-place_of_seam : (first : ℕ) (before : List Ordered) (ordered : Ordered) (after records : List Ordered) → records ≡ before ++ ordered ∷ after → ArePlaced first records → ordered.pos ≡ first + length before
+pub place_of_seam : (first : ℕ) (before : List Ordered) (ordered : Ordered) (after records : List Ordered) → records ≡ before ++ ordered ∷ after → ArePlaced first records → ordered.pos ≡ first + length before
 place_of_seam first before ordered after records split placed =
     let within : length before < length (before ++ ordered ∷ after) = omega (arith, length-append before (ordered ∷ after)) in
     sym (ap (λ one. one.pos) (get_or-append_seam before ordered after ordered))

@@ -17,6 +17,7 @@ use Rattle.verdict_merge.specs.Rounds.{AllRun, EndsInNo, IsReady, Judging, parts
 use Rattle.report.specs.declared.fault.CheckFault.{CheckFault}
 use Rattle.report.specs.declared.fault.CheckFault.TheVariants.{Memory}
 use Rattle.report.specs.Outcome.{answer_with}
+use Rattle.report.specs.Shown.{HasBreach}
 
 -- all pieces may judge these records next: they have judged those before them
 pub record MayJudge (configuration : Configuration) (judging : Judging) (records : List Ordered) : Type 0 where
@@ -33,6 +34,10 @@ abbrev pub LeavesItsPiece : Configuration → Judging → List Ordered → Resul
 LeavesItsPiece configuration old records (Ok (No place number cause)) new =
     EndsInNo configuration (parts_of old) records (record { pos = place; piece = number; cause = cause }) (parts_of new)
 LeavesItsPiece configuration old records _ new = Unit {0}
+
+-- after a broken rule over these records, the breach of the record at its place is left
+abbrev pub LeavesItsBreach : Configuration → List Relation → Judging → List Ordered → Result Verdict CheckFault → Judging → Type 0
+LeavesItsBreach configuration relations old records answer new = HasBreach configuration relations (parts_of old) old.count records answer new.breach
 
 -- what the records of a round decide: nothing, if each piece ran over them and each of their views meets every relation; or the verdict
 -- over them, whatever comes after them, and after a No its piece is left as it was

@@ -11,7 +11,8 @@
 //!
 //! `check_inputs` is the check; the other calls are the same one under other arguments. A caller that has relations and no tests of its
 //! own calls `check_relations`. A witness receives what is at the place of a No, to show it to a person: the record, and the piece
-//! that rejects it, as the piece was before it. The answer is the same for every witness.
+//! that rejects it, as the piece was before it. At the place of a broken rule it receives the record and its view, and which rule the view
+//! breaks. The answer is the same for every witness.
 //!
 //! `check_inputs` takes the texts as `Inputs` and the way of checking as `Options`, and one definition states all of its answer
 //! (`Answers.antt`). A `CheckFault` says why there is no verdict: a fault of the arguments, of the configuration or of the input, as the
@@ -27,9 +28,10 @@
 //! `check_relations` takes relations instead of rules, and makes of each a rule with the relation itself, over a clone, as its test. A
 //! function may not return a box that it made of a closure, so these rules are made where the check is called. Like `check_inputs`, it
 //! takes a `Witness`, which receives a No at the end of the round that decides (`tell`): the piece and the record, or the record with the
-//! view that breaks a rule. `Witness::refused` requires that the piece is as it was before the record, and rejects it for the cause; `tell`
-//! is proved to meet this. A witness answers nothing, so no clause speaks of what it makes of a No; the other calls have one that does
-//! nothing (`Nobody`).
+//! view that breaks a rule. `Witness::refused` requires that the piece is as it was before the record, and rejects it for the cause.
+//! `Witness::broken` requires that the view is the record's in a run over as many records as its place, and that the rule is the first
+//! that it breaks. `tell` is proved to meet both. A witness answers nothing, so no clause speaks of what it makes of a No; the other calls
+//! have one that does nothing (`Nobody`).
 #![tactic(auto)]
 
 mod checking;

@@ -1,6 +1,6 @@
 // The recording, judged in rounds.
 
-ghost use Rattle.std.specs.Prelude.{◌≡◌, ◌⊎◌, ◌≤◌, [], Err, IfOk, length, false};
+ghost use Rattle.std.specs.Prelude.{◌≡◌, ◌⊎◌, ◌≤◌, [], Err, IfOk, IfSome, Ok, length, false};
 ghost use Rattle.std.specs.Thread.{IsSync};
 ghost use Rattle.order_cert.specs.Kept.{place_of};
 ghost use Rattle.placement.specs.Lanes.{AreHonest, IsAhead};
@@ -9,7 +9,7 @@ ghost use Rattle.user_rules.specs.Rules.{relations_of};
 ghost use Rattle.verdict_merge.specs.declared.verdict.Verdict.TheVariants.{Yes};
 ghost use Rattle.report.specs.Last.{last_of};
 ghost use Rattle.report.specs.Outcome.{IsJudged, answer_with};
-ghost use Rattle.report.specs.Rounds.{IsDecided, IsLastAnswer, IsPlaced, LeavesItsPiece, MayJudge};
+ghost use Rattle.report.specs.Rounds.{IsDecided, IsLastAnswer, IsPlaced, LeavesItsBreach, LeavesItsPiece, MayJudge};
 
 use crate::fault::CheckFault;
 use crate::last::Last;
@@ -30,8 +30,8 @@ use verdict_merge::{Memory, Verdict};
 /// Judges all records that are ahead of the placer, in rounds. While a round is judged the next one is filled; after a round with
 /// a finding nothing further is taken than that one.
 ///
-/// What is promised holds once the placer's threads are joined, since it is known then what they read. After a No the last
-/// records before it are kept, and the witness receives it.
+/// What is promised holds once the placer's threads are joined, since it is known then what they read. After a No and after a broken
+/// rule the last records before its place are kept, and the witness receives what is there.
 pub fn judge_all<
     T: Threads + Wait + Sync,
     R: TextSource,
@@ -76,7 +76,7 @@ pub fn judge_all<
             Filled::Ended(end) => {
                 let answer = judge_last(rt, config, &mut judge, &round, rules, workers, gate, end);
                 last.keep_after_answer(&answer, first, &round);
-                tell(witness, config, &judge, &answer, first, &round);
+                tell(witness, config, rules, &judge, &answer, first, &round);
                 return answer;
             }
         }
@@ -89,7 +89,7 @@ pub fn judge_all<
             Ok(Some(verdict)) => {
                 let answer = Ok(verdict);
                 last.keep_after_answer(&answer, first, &round);
-                tell(witness, config, &judge, &answer, first, &round);
+                tell(witness, config, rules, &judge, &answer, first, &round);
                 return answer;
             }
             Err(_) => return Err(CheckFault::Memory),
@@ -117,6 +117,7 @@ fn judge_and_fill<T: Threads + Wait + Sync, R: TextSource, C: TextSource, G: Gat
     requires going { placer.old.ended ≡ false }
     requires empty { next.old.items ≡ [] }
     ensures decided { IfOk result.0 (λ decided. IsDecided config.now (relations_of rules.now) judge.old round.now decided judge.new) }
+    ensures breach { IfOk result.0 (λ decided. IfSome decided (λ verdict. LeavesItsBreach config.now (relations_of rules.now) judge.old round.now (Ok verdict) judge.new)) }
     ensures placed { IsPlaced (record { recordings = R.can_fail; certificate = C.can_fail }) placer.old next.new.items result.1 placer.new }
 {
     if workers == 1 {
@@ -127,7 +128,8 @@ fn judge_and_fill<T: Threads + Wait + Sync, R: TextSource, C: TextSource, G: Gat
         rt,
         &mut ||
             requires { IsSync T.row × IsSync G.row × MayJudge config.now judge.now round.now }
-            ensures { IfOk result (λ decided. IsDecided config.entry.now (relations_of rules.entry.now) judge.entry.now round.entry.now decided judge.exit.now) }
+            ensures decided { IfOk result (λ decided. IsDecided config.entry.now (relations_of rules.entry.now) judge.entry.now round.entry.now decided judge.exit.now) }
+            ensures breach { IfOk result (λ decided. IfSome decided (λ verdict. LeavesItsBreach config.entry.now (relations_of rules.entry.now) judge.entry.now round.entry.now (Ok verdict) judge.exit.now)) }
         { judge_and_tell(rt, config, judge, round, rules, workers, gate) },
         &mut ||
             requires { (placer.now.ended ≡ false) × (next.now.items ≡ []) }
@@ -147,7 +149,8 @@ fn judge_and_tell<T: Threads + Wait + Sync, G: Gate + Sync>(
     gate: &G,
 ) -> Result<Option<Verdict>, Memory>
     requires may { MayJudge config.now judge.old round.now }
-    ensures { IfOk result (λ decided. IsDecided config.now (relations_of rules.now) judge.old round.now decided judge.new) }
+    ensures decided { IfOk result (λ decided. IsDecided config.now (relations_of rules.now) judge.old round.now decided judge.new) }
+    ensures breach { IfOk result (λ decided. IfSome decided (λ verdict. LeavesItsBreach config.now (relations_of rules.now) judge.old round.now (Ok verdict) judge.new)) }
 {
     let decided = judge_round(rt, config, judge, round, rules, workers, gate);
     if !matches!(decided, Ok(None)) {
@@ -184,6 +187,7 @@ fn judge_last<T: Threads + Wait + Sync, G: Gate + Sync>(
     requires may { MayJudge config.now judge.old round.now }
     ensures answer { IsLastAnswer config.now (relations_of rules.now) judge.old round.now end result }
     ensures leaves { LeavesItsPiece config.now judge.old round.now result judge.new }
+    ensures breach { LeavesItsBreach config.now (relations_of rules.now) judge.old round.now result judge.new }
 {
     match judge_round(rt, config, judge, round, rules, workers, gate) {
         Ok(Some(verdict)) => Ok(verdict),
@@ -215,7 +219,8 @@ fn judge_round<T: Threads + Wait + Sync, G: Gate + Sync>(
     gate: &G,
 ) -> Result<Option<Verdict>, Memory>
     requires may { MayJudge config.now judge.old round.now }
-    ensures { IfOk result (λ decided. IsDecided config.now (relations_of rules.now) judge.old round.now decided judge.new) }
+    ensures decided { IfOk result (λ decided. IsDecided config.now (relations_of rules.now) judge.old round.now decided judge.new) }
+    ensures breach { IfOk result (λ decided. IfSome decided (λ verdict. LeavesItsBreach config.now (relations_of rules.now) judge.old round.now (Ok verdict) judge.new)) }
 {
     match judge.round(rt, config, round, rules, workers, gate) {
         Ok(found) => Ok(Verdict::against(round, found, judge.breach())),

@@ -3,14 +3,17 @@
 ghost use Rattle.std.specs.Prelude.{◌≡◌, ◌-◌, option_copied, slice_get};
 ghost use Rattle.apex_machine.specs.Runs.{ArePlaced};
 ghost use Rattle.piece_check.specs.Parts.{holder};
+ghost use Rattle.user_rules.specs.FirstBroken.{IsFirstRuleBroken};
+ghost use Rattle.user_rules.specs.Rules.{relations_of};
 ghost use Rattle.verdict_merge.specs.Rounds.{Rejects};
-ghost use Rattle.report.specs.Shown.{IsReachedBefore, StillRejects};
+ghost use Rattle.report.specs.Shown.{IsReachedBefore, IsSeenAt, StillBreaks, StillRejects};
 
 use crate::fault::CheckFault;
 use apex_types::{Cause, Ordered, Place, View};
 use module_config::Config;
 use partition_workers::Judge;
 use piece_check::Piece;
+use user_rules::Rule;
 use verdict_merge::Verdict;
 
 /// Who receives what is at the place of a No or of a broken rule, to explain it to a person. No answer hangs on a witness.
@@ -23,8 +26,20 @@ pub trait Witness {
         requires reached { IsReachedBefore config.now piece.now.part ordered.now }
         requires rejects { Rejects config.now (holder piece.now.part) piece.now.part ordered.now cause };
 
-    /// The view of this record breaks the rule of this number, counted from 0.
-    fn broken(&mut self, ordered: &Ordered, view: &View, rule: usize);
+    /// The view of this record breaks the rule of this number, counted from 0, and meets the rules before it.
+    ///
+    /// The view is the one that the piece that judges the record has of it, after a run from the cold state over as many records as the
+    /// record's place. All pieces run over those records and over this one, and each view of those records meets every rule.
+    fn broken(
+        &mut self,
+        config: &Config,
+        rules: &[Rule],
+        ordered: &Ordered,
+        view: &View,
+        rule: usize,
+    )
+        requires seen { IsSeenAt config.now (relations_of rules.now) ordered.now view.now }
+        requires broken { IsFirstRuleBroken (relations_of rules.now) view.now rule };
 }
 
 /// A witness that does nothing.
@@ -34,14 +49,22 @@ pub struct Nobody;
 impl Witness for Nobody {
     fn refused(&mut self, _config: &Config, _piece: &Piece, _ordered: &Ordered, _cause: Cause) {}
 
-    fn broken(&mut self, _ordered: &Ordered, _view: &View, _rule: usize) {}
+    fn broken(
+        &mut self,
+        _config: &Config,
+        _rules: &[Rule],
+        _ordered: &Ordered,
+        _view: &View,
+        _rule: usize,
+    ) {}
 }
 
 /// Shows a witness the answer over these records, of which the first is at this place. After a No, its piece must be as it was before
-/// the record that it rejects.
+/// the record that it rejects. After a broken rule, its breach must be the one of the last round.
 pub(crate) fn tell<V: Witness>(
     witness: &mut V,
     config: &Config,
+    rules: &[Rule],
     judge: &Judge,
     answer: &Result<Verdict, CheckFault>,
     first: u64,
@@ -49,6 +72,7 @@ pub(crate) fn tell<V: Witness>(
 )
     requires placed { ArePlaced first records.now }
     requires rejects { StillRejects config.now records.now answer.now judge.now }
+    requires breaks { StillBreaks config.now (relations_of rules.now) records.now answer.now judge.now.breach }
 {
     match answer {
         Ok(Verdict::No { pos, piece, cause }) => {
@@ -60,7 +84,7 @@ pub(crate) fn tell<V: Witness>(
         Ok(Verdict::Broken { pos, rule }) => {
             let found = record_at(*pos, first, records);
             if let (Some(ordered), Some(breach)) = (found, judge.breach()) {
-                witness.broken(ordered, &breach.seen.view, *rule);
+                witness.broken(config, rules, ordered, &breach.seen.view, *rule);
             }
         }
         _ => {}

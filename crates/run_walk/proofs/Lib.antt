@@ -1,4 +1,3 @@
 mod Copies
 pub mod Kept
 pub mod Taking
-pub mod Viewing

@@ -1,5 +1,5 @@
 -- Pieces that take a record in the order of their numbers.
-use Rattle.std.proofs.Common.{below_more, ◌≡◌, ◌≢◌, ◌<◌, ◌≤◌, ◌+◌, ◌∙◌, ℕ, zero, suc, List, [], ◌∷◌, Some, None, true, false, length, get_or, set, refl, sym, ap, subst, inl, inr, arith}
+use Rattle.std.proofs.Common.{below_more, ◌≡◌, ◌≢◌, ◌<◌, ◌≤◌, ◌+◌, ◌∙◌, ℕ, zero, suc, List, [], ◌∷◌, ◌++◌, Option, Some, None, true, false, length, length-append, get_or, set, refl, sym, ap, subst, inl, inr, arith}
 use Rattle.std.proofs.lemmas.Bool.{cases_eq}
 use Rattle.std.proofs.lemmas.List.{length-set}
 use Rattle.apex_types.specs.declared.cause.Cause.{Cause}
@@ -12,7 +12,9 @@ use Rattle.piece_check.proofs.Parting.{HoldsBefore_later}
 use Rattle.piece_check.specs.Parts.{Holding, HoldsBefore, IsOf, holder, piece_at}
 use Rattle.verdict_merge.proofs.Holdings.{holding_at-get}
 use Rattle.verdict_merge.specs.Rounds.{AllRun, AreGoing, IsGoing, Rejects, holding_at, parts_in}
-use Rattle.run_walk.specs.Walks.{HasTaken, Takes}
+use Rattle.verdict_merge.proofs.Verdicts.{runs_no_longer}
+use Rattle.run_walk.specs.declared.walk.Refusal.{Refusal}
+use Rattle.run_walk.specs.Walks.{EachRuns, HasTaken, Takes}
 
 -- a piece by its number, once one of them is another
 
@@ -163,3 +165,18 @@ one_rejects configuration ordered number cause old now new piece going have with
               (ap (λ all. (holding_at all number).part) is ∙ ap (λ holding. holding.part) (set_here now number piece within) ∙ has.1)
           | inr apart ↦ ap (λ all. (holding_at all other).part) is ∙ ap (λ holding. holding.part) (set_elsewhere now number other piece apart ∙ have.left other above)
         ]
+
+-- a record over which each piece has a run is rejected by none
+pub none_rejects : (configuration : Configuration) (ordered : Ordered) (old new : List Holding) (refusal : Option Refusal) → EachRuns configuration (parts_in old) (ordered ∷ [])
+    → Takes configuration ordered old refusal new → refusal ≡ None
+none_rejects configuration ordered old new None may takes = refl
+none_rejects configuration ordered old new (Some refusal) may takes =
+    let no = takes.0 in
+    absurd (runs_no_longer configuration (parts_in old) (ordered ∷ []) (record { pos = ordered.pos; piece = refusal.piece; cause = refusal.cause }) no (ordered ∷ []) [] refl
+    (omega (arith, ap (λ (list : List Ordered). length list) no.split, length-append no.before (no.ordered ∷ no.after))) (may refusal.piece no.piece))
+
+-- so each piece takes it
+pub taken_again : (configuration : Configuration) (ordered : Ordered) (old new : List Holding) (refusal : Option Refusal) → EachRuns configuration (parts_in old) (ordered ∷ [])
+    → Takes configuration ordered old refusal new → AllRun configuration (parts_in old) (ordered ∷ []) (parts_in new)
+taken_again configuration ordered old new refusal may takes =
+    subst (λ (one : Option Refusal). Takes configuration ordered old one new) (none_rejects configuration ordered old new refusal may takes) takes

@@ -2,21 +2,12 @@
 use Rattle.std.specs.Prelude.{◌≡◌, ◌<◌, ◌≤◌, ◌+◌, ℕ, List, [], ◌∷◌, Option, Some, None, length}
 use Rattle.apex_types.specs.declared.cause.Cause.{Cause}
 use Rattle.apex_types.specs.declared.record.Ordered.{Ordered}
-use Rattle.apex_types.specs.declared.view.View.{View}
 use Rattle.apex_machine.specs.Configuration.{Configuration}
-use Rattle.apex_machine.specs.Pieces.{pieces, touches}
+use Rattle.apex_machine.specs.Pieces.{Part, pieces, touches}
 use Rattle.apex_machine.specs.Runs.{Goes}
-use Rattle.apex_machine.specs.Views.{judge, view_in}
 use Rattle.piece_check.specs.Parts.{Holding, HoldsBefore, IsOf, holder, piece_at}
-use Rattle.verdict_merge.specs.Rounds.{AllRun, IsNo, Rejects, parts_in}
+use Rattle.verdict_merge.specs.Rounds.{AllRun, IsNo, Rejects, Runs, parts_in}
 use Rattle.run_walk.specs.declared.walk.Refusal.{Refusal}
-
--- the view of a record: that of the piece that judges it, if there is one
-abbrev pub IsViewAt : Configuration → List Holding → Ordered → Option View → Type 0
-IsViewAt configuration holdings ordered (Some view) =
-    (number : ℕ) × (number < length (pieces configuration)) × (piece_at configuration number ≡ judge ordered)
-    × (view_in (parts_in holdings number) ordered ≡ Some view)
-IsViewAt configuration holdings ordered None = (number : ℕ) → number < length (pieces configuration) → view_in (parts_in holdings number) ordered ≡ None
 
 -- a piece takes a record and may take the next one; or it rejects the record for a cause, and its part is as it was
 abbrev pub HasTaken : Configuration → Ordered → Holding → Option Cause → Holding → Type 0
@@ -33,3 +24,7 @@ Takes configuration ordered old (Some refusal) new =
     IsNo configuration (parts_in old) (ordered ∷ []) (record { pos = ordered.pos; piece = refusal.piece; cause = refusal.cause })
     × Rejects configuration (piece_at configuration refusal.piece) (parts_in new refusal.piece) ordered refusal.cause
     × ((number : ℕ) → refusal.piece ≤ number → parts_in new number ≡ parts_in old number)
+
+-- each piece has a run over these records from its part
+abbrev pub EachRuns : Configuration → (ℕ → Part) → List Ordered → Type 0
+EachRuns configuration parts records = (number : ℕ) → number < length (pieces configuration) → Runs configuration parts number records

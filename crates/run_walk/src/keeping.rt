@@ -1,10 +1,11 @@
 // How the records that were taken last are kept.
 
-ghost use Rattle.std.specs.Prelude.{◌≡◌, ◌≤◌, ◌+◌, ℕ, IfOk, OnOk, drop, length, max};
+ghost use Rattle.std.specs.Prelude.{◌≡◌, ◌≤◌, ◌+◌, ◌++◌, List, [], IfOk, OnOk, drop, length, max, take};
 ghost use Rattle.apex_machine.specs.Configuration.{Configuration};
 ghost use Rattle.apex_machine.specs.Runs.{ArePlaced, AreOfCores};
-ghost use Rattle.verdict_merge.specs.Rounds.{AreGoing};
+ghost use Rattle.verdict_merge.specs.Rounds.{AllRun, AreGoing, cold_parts, parts_in};
 ghost use Rattle.run_walk.specs.Kept.{AreRecent, IsBegun, IsKept, most_of};
+ghost use Rattle.run_walk.specs.Walks.{EachRuns};
 
 use crate::recent::Recent;
 use crate::span::Span;
@@ -24,7 +25,7 @@ impl Recent {
     /// `Memory` if it is refused.
     #[tactic(auto, using(crate::proofs::Kept::recent_none))]
     pub fn start(alloc: Global, config: &Config, most: usize) -> Result<Recent, WalkFault>
-        ensures recent { IfOk result (AreRecent config.now 0) }
+        ensures recent { IfOk result (AreRecent config.now []) }
         ensures begun { IfOk result IsBegun }
         ensures most { IfOk result (λ recent. most_of recent ≡ max most 4096) }
     {
@@ -46,7 +47,7 @@ impl Recent {
     ) -> Result<(), AllocError>
         requires begun { IsBegun self.old }
         requires few { length records.items ≤ most_of self.old }
-        ensures recent { OnOk result ((configuration : Configuration) (first : ℕ) → AreRecent configuration first self.old → ArePlaced first records.items → AreOfCores configuration.cores records.items → AreGoing configuration (first + length records.items) pieces.now → AreRecent configuration (first + length records.items) self.new) }
+        ensures recent { OnOk result ((configuration : Configuration) (taken : List Ordered) → AreRecent configuration taken self.old → ArePlaced (length taken) records.items → AreOfCores configuration.cores records.items → AllRun configuration (cold_parts configuration) (taken ++ records.items) (parts_in pieces.now) → AreGoing configuration (length taken + length records.items) pieces.now → AreRecent configuration (taken ++ records.items) self.new) }
         ensures begun { OnOk result (IsBegun self.new) }
         ensures most { most_of self.new ≡ most_of self.old }
     {
@@ -67,7 +68,7 @@ impl Recent {
         requires begun { IsBegun self.old }
         requires few { length records.items ≤ most_of self.old }
         requires count { count ≤ length records.items }
-        ensures recent { OnOk result ((configuration : Configuration) (first : ℕ) → AreRecent configuration first self.old → ArePlaced first records.items → AreOfCores configuration.cores records.items → AreRecent configuration (first + count) self.new) }
+        ensures recent { OnOk result ((configuration : Configuration) (taken : List Ordered) → AreRecent configuration taken self.old → ArePlaced (length taken) records.items → AreOfCores configuration.cores records.items → EachRuns configuration (cold_parts configuration) (taken ++ take count records.items) → AreRecent configuration (taken ++ take count records.items) self.new) }
         ensures left { IfOk result (λ left. left.items ≡ drop count records.items) }
     {
         let left = records.split_off(count)?;
@@ -79,7 +80,7 @@ impl Recent {
     ///
     /// If memory is refused, the records are given up.
     pub fn into_span(self) -> Result<Span, AllocError>
-        ensures { IfOk result (λ span. (configuration : Configuration) (next : ℕ) → AreRecent configuration next self → IsKept configuration next span.before span.records.items) }
+        ensures { IfOk result (λ span. (configuration : Configuration) (taken : List Ordered) → AreRecent configuration taken self → IsKept configuration taken span.before span.records.items) }
     {
         let Recent {
             most: _,

@@ -1,11 +1,12 @@
 // Records, and the pieces as they were before them.
 
-ghost use Rattle.std.specs.Prelude.{◌≡◌, ◌≤◌, ◌<◌, ◌+◌, ℕ, [], None, Ok, length};
-ghost use Rattle.verdict_merge.specs.Rounds.{AreGoing};
+ghost use Rattle.std.specs.Prelude.{◌≡◌, ◌≤◌, ◌<◌, ◌+◌, List, [], ◌∷◌, OnOk, length};
+ghost use Rattle.verdict_merge.specs.Rounds.{AllRun, AreGoing, parts_in};
 ghost use Rattle.run_walk.specs.Kept.{IsKept, IsWhole};
+ghost use Rattle.run_walk.specs.Walks.{EachRuns};
 
-use crate::walk::{Refusal, Walk, WalkFault};
-use apex_types::{Ordered, Place};
+use crate::walk::{Walk, WalkFault};
+use apex_types::Ordered;
 use module_config::Config;
 use std::alloc::Global;
 use std::collections::VecDeque;
@@ -29,44 +30,32 @@ impl Span {
         }
     }
 
-    /// Gives up the first records until there are no more than this many; the pieces take them. Returns the place of a record that the
-    /// pieces reject, if there is one: the pieces that took it before were others.
+    /// Gives up the first records until there are no more than this many; the pieces take them again.
     ///
     /// `Memory` if it was refused to a piece.
-    pub fn shorten(
-        &mut self,
-        config: &Config,
-        most: usize,
-    ) -> Result<Option<(Place, Refusal)>, WalkFault>
+    pub fn shorten(&mut self, config: &Config, most: usize) -> Result<(), WalkFault>
         requires { IsWhole config.now self.old }
-        ensures kept { result ≡ Ok None → (next : ℕ) → IsKept config.now next self.old.before self.old.records.items → IsKept config.now next self.new.before self.new.records.items }
-        ensures few { result ≡ Ok None → length self.new.records.items ≤ most }
-        ensures many { result ≡ Ok None → most ≤ length self.old.records.items → most ≤ length self.new.records.items }
+        ensures kept { OnOk result ((taken : List Ordered) → IsKept config.now taken self.old.before self.old.records.items → IsKept config.now taken self.new.before self.new.records.items) }
+        ensures few { OnOk result (length self.new.records.items ≤ most) }
+        ensures many { OnOk result (most ≤ length self.old.records.items → most ≤ length self.new.records.items) }
     {
         'records: while self.records.len() > most {
             let Some(first) = self.records.pop_front() else {
-                return Ok(None);
+                return Ok(());
             };
-            if let Some(rejected) = take_again(&mut self.before, config, first)? {
-                return Ok(Some(rejected));
-            }
+            give_up(&mut self.before, config, first)?;
         }
-        Ok(None)
+        Ok(())
     }
 }
 
-// Lets the pieces take a record, which is then given up.
-fn take_again(
-    pieces: &mut Walk,
-    config: &Config,
-    ordered: Ordered,
-) -> Result<Option<(Place, Refusal)>, WalkFault>
+// Lets the pieces take a record again, which is then given up.
+fn give_up(pieces: &mut Walk, config: &Config, ordered: Ordered) -> Result<(), WalkFault>
     requires going { AreGoing config.now ordered.pos pieces.old }
     requires core { ordered.core < config.now.cores }
-    ensures { result ≡ Ok None → AreGoing config.now (ordered.pos + 1) pieces.new }
+    requires accepted { EachRuns config.now (parts_in pieces.old) (ordered ∷ []) }
+    ensures going { OnOk result (AreGoing config.now (ordered.pos + 1) pieces.new) }
+    ensures taken { OnOk result (AllRun config.now (parts_in pieces.old) (ordered ∷ []) (parts_in pieces.new)) }
 {
-    match pieces.take(config, &ordered)? {
-        None => Ok(None),
-        Some(refusal) => Ok(Some((ordered.pos, refusal))),
-    }
+    pieces.take_again(config, &ordered)
 }

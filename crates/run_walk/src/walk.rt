@@ -1,13 +1,12 @@
 // The pieces of a module, which take one record after another.
 
-ghost use Rattle.std.specs.Prelude.{◌≡◌, ◌<◌, ◌+◌, All, IfOk, IfSome, None};
-ghost use Rattle.apex_machine.specs.Views.{view_in};
+ghost use Rattle.std.specs.Prelude.{◌≡◌, ◌<◌, ◌+◌, [], ◌∷◌, All, IfOk, IfSome, None, OnOk};
 ghost use Rattle.piece_check.specs.Found.{IsWindowAt};
 ghost use Rattle.piece_check.specs.Parts.{HoldsBefore, IsOf};
-ghost use Rattle.verdict_merge.specs.Rounds.{AreGoing};
-ghost use Rattle.run_walk.specs.Walks.{HasTaken, IsViewAt, Takes};
+ghost use Rattle.verdict_merge.specs.Rounds.{AllRun, AreGoing, cold_parts, parts_in};
+ghost use Rattle.run_walk.specs.Walks.{EachRuns, HasTaken, Takes};
 
-use apex_types::{Cause, Ordered, View};
+use apex_types::{Cause, Ordered};
 use module_config::Config;
 use piece_check::{Piece, PieceFault, WindowAt, Windows};
 use std::alloc::{AllocError, Global};
@@ -54,6 +53,7 @@ impl Walk {
     ///
     /// `Memory` if it is refused.
     pub fn start(alloc: Global, config: &Config) -> Result<Walk, WalkFault>
+        ensures cold { IfOk result (λ walk. AllRun config.now (cold_parts config.now) [] (parts_in walk)) }
         ensures going { IfOk result (AreGoing config.now 0) }
     {
         match start_pieces(alloc, config) {
@@ -87,15 +87,6 @@ impl Walk {
         self.pieces.as_slice()
     }
 
-    /// What a user's relation sees of the next record, before it is taken: the view of the piece that judges it. None if no piece of
-    /// this module judges it.
-    pub fn view(&self, config: &Config, ordered: &Ordered) -> Option<View>
-        requires going { AreGoing config.now ordered.now.pos self.now }
-        ensures { IsViewAt config.now self.now ordered.now result }
-    {
-        view_among(self.pieces.as_slice(), config, ordered)
-    }
-
     /// Takes the next record: each piece that it touches takes it, or the first that rejects it is reported. That piece and those with
     /// greater numbers are then as they were before the record.
     ///
@@ -108,6 +99,20 @@ impl Walk {
     {
         let windows = look_up(&mut self.windows, config, ordered);
         take_in_turn(self.pieces.as_mut_slice(), config, ordered, windows)
+    }
+
+    /// Takes the next record again, over which the pieces have a run. So no piece rejects it.
+    ///
+    /// `Memory` if it was refused to a piece.
+    pub fn take_again(&mut self, config: &Config, ordered: &Ordered) -> Result<(), WalkFault>
+        requires going { AreGoing config.now ordered.now.pos self.old }
+        requires core { ordered.now.core < config.now.cores }
+        requires accepted { EachRuns config.now (parts_in self.old) (ordered.now ∷ []) }
+        ensures going { OnOk result (AreGoing config.now (ordered.now.pos + 1) self.new) }
+        ensures taken { OnOk result (AllRun config.now (parts_in self.old) (ordered.now ∷ []) (parts_in self.new)) }
+    {
+        let _refusal = self.take(config, ordered)?;
+        Ok(())
     }
 }
 
@@ -122,31 +127,6 @@ impl Clone for Walk {
             pieces: self.pieces.clone()?,
             windows: Windows::new(self.alloc),
         })
-    }
-}
-
-// The view that one of these pieces has of a record, if one has.
-fn view_among(pieces: &[Piece], config: &Config, ordered: &Ordered) -> Option<View>
-    requires { AreGoing config.now ordered.now.pos pieces.now }
-    ensures { IsViewAt config.now pieces.now ordered.now result }
-{
-    for piece in pieces {
-        if let Some(view) = view_of(piece, config, ordered) {
-            return Some(view);
-        }
-    }
-    None
-}
-
-// The view that a piece has of a record. A piece that the record does not touch has none.
-fn view_of(piece: &Piece, config: &Config, ordered: &Ordered) -> Option<View>
-    requires { HoldsBefore ordered.now.pos piece.now.part }
-    ensures { result ≡ view_in piece.now.part ordered.now }
-{
-    if piece.subject().is_touched(config, ordered) {
-        piece.view(ordered)
-    } else {
-        None
     }
 }
 

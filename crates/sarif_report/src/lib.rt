@@ -1,11 +1,13 @@
 //! The outcome of a check as a SARIF 2.1.0 log, for tools that show results next to the files that they concern.
 //!
-//! Promises only that its functions end and meet no fault: it decides nothing. A log of a Yes has no result. A log of a No, of a broken
-//! rule or of a refusal has one, and the rule of that result. If memory ran out, the log says so in a notification.
+//! Promises: the text of a log is JSON in the layout of `serde_json`, and a line feed. The tokens of the JSON are those of one value, each
+//! once and in order, so each text of the finding is one string, with its characters escaped as JSON escapes them. A file is referred to by
+//! its name, in which each byte but letters, digits and five marks is escaped. The log of a run with a finding has it as its one result,
+//! with the rule of the result; another log has none.
 //!
-//! The crate has the JSON of a log, the references of files, and what each cause demands. It knows no check: `apexcheck` passes it a
-//! `Finding` with the rule, the message and the place, and the records before that (`sarif.rt`), and writes the log. The check has its
-//! answer before, and no clause speaks of a log. The functions have no contracts.
+//! No clause says that a finding is that of the check. The crate has the JSON of a log, the references of files, and what each cause demands.
+//! It knows no check: `apexcheck` passes it a `Finding` with the rule, the message and the place, and the records before that
+//! (`sarif.rt`), and writes the log. The check has its answer before. The log decides nothing.
 #![tactic(auto)]
 
 mod cause;

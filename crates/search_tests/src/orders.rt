@@ -47,7 +47,7 @@ const FAR: usize = 100;
 const MUCH: u64 = 100;
 
 // What the searches propose.
-const CASES: [Case<'static>; 9] = [
+const CASES: [Case<'static>; 10] = [
     Case {
         name: "no record",
         lanes: &[&[], &[]],
@@ -118,7 +118,15 @@ const CASES: [Case<'static>; 9] = [
         window: FAR,
         effort: 0,
         order: &[],
-        end: End::Stuck,
+        end: End::EffortUsed,
+    },
+    Case {
+        name: "too little effort to go back",
+        lanes: &[&[Put(1)], &[Put(2)], &[Get(2), Get(1)]],
+        window: FAR,
+        effort: 1,
+        order: &[0, 1],
+        end: End::EffortUsed,
     },
 ];
 

@@ -80,7 +80,6 @@ impl<'a> Toy<'a> {
     fn count_again(&mut self)
         ensures history { self.new.history ≡ self.old.history }
         ensures decided { self.new.decided ≡ self.old.decided }
-        ensures lengths { self.new.lengths ≡ self.old.lengths }
     {
         for next in self.next.iter_mut() {
             *next = 0;
@@ -95,7 +94,6 @@ impl<'a> Toy<'a> {
     fn go_on(&mut self, core: usize)
         ensures history { self.new.history ≡ self.old.history }
         ensures decided { self.new.decided ≡ self.old.decided }
-        ensures lengths { self.new.lengths ≡ self.old.lengths }
     {
         if core < self.next.len() {
             self.next[core] = self.next[core].saturating_add(1);
@@ -104,7 +102,7 @@ impl<'a> Toy<'a> {
 }
 
 impl<'a> Tip for Toy<'a> {
-    ghost use Rattle.std.specs.Prelude.{drop, nat_le, slice_index};
+    ghost use Rattle.std.specs.Prelude.{drop};
 
     ghost undecided = { λ toy. drop toy.decided toy.history.items };
 
@@ -115,8 +113,6 @@ impl<'a> Tip for Toy<'a> {
     ghost Input = { Unit {0} };
 
     ghost input = { λ toy. tt };
-
-    ghost is_ended = { λ toy core. nat_le (slice_index toy.lengths.items core) (slice_index toy.next.items core) };
 
     fn judge(&mut self, core: usize) -> Result<Answer, AllocError> {
         let length = self.lengths.get(core).copied().unwrap_or(0);

@@ -1,2 +1,2 @@
-pub mod Markup
+pub mod Sent
 pub mod Strips

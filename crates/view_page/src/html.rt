@@ -1,11 +1,12 @@
 // The page around a picture.
 
+use crate::classes::{classes_of_look, pattern_of};
 use crate::layout::Strip;
-use crate::look::Look;
-use crate::markup::Markup;
-use crate::picture::Picture;
 use crate::style::{DEFINITIONS, PAGE_STYLE, STYLE};
+use markup::Markup;
 use std::alloc::AllocError;
+use view_picture::Picture;
+use view_words::Look;
 
 /// What a page says in addition to its picture.
 #[derive(Clone, Copy)]
@@ -58,8 +59,8 @@ fn tell_answer(out: &mut Markup, texts: &PageTexts<'_>) -> Result<(), AllocError
 
 /// Begins a part of the picture with its heading.
 pub fn strip_heading(out: &mut Markup, picture: &Picture, strip: Strip) -> Result<(), AllocError> {
-    let first = picture.columns.get(strip.from);
-    let last = picture.columns.get(strip.to.saturating_sub(1));
+    let first = picture.columns().get(strip.from);
+    let last = picture.columns().get(strip.to.saturating_sub(1));
     if let (Some(first), Some(last)) = (first, last) {
         out.mark("<h3>")?;
         out.say(format_args!("places {} to {}", first.place.number(), last.place.number()))?;
@@ -95,15 +96,15 @@ fn tell_key(out: &mut Markup) -> Result<(), AllocError> {
     out.mark("<ul class=\"key\">\n")?;
     for (look, text) in KEY {
         out.mark("<li><svg width=\"34\" height=\"18\" aria-hidden=\"true\"><g class=\"")?;
-        out.mark(look.classes())?;
+        out.mark(classes_of_look(look))?;
         out.mark("\"><rect class=\"fill\" x=\"2\" y=\"2\" width=\"30\" height=\"14\"/>")?;
-        if let Some(pattern) = look.pattern() {
+        if let Some(pattern) = pattern_of(look) {
             out.mark("<rect class=\"pattern\" fill=\"")?;
             out.mark(pattern)?;
             out.mark("\" x=\"2\" y=\"2\" width=\"30\" height=\"14\"/>")?;
         }
         out.mark("</g></svg>")?;
-        out.mark(text)?;
+        out.say(text)?;
         out.mark("</li>\n")?;
     }
     out.mark(POINTS)?;

@@ -1,13 +1,12 @@
 // Where everything is in a picture: strips of records, one below the other, and lanes in each.
 
 ghost use Rattle.std.specs.Prelude.{IfOk};
-ghost use Rattle.view_page.specs.Strips.{Cover, record_count};
+ghost use Rattle.view_page.specs.Strips.{Cover};
+ghost use Rattle.view_picture.specs.Records.{record_count};
 
-use crate::column::{Column, Status};
-use crate::lane::Lane;
-use crate::lane_key::LaneKey;
-use crate::picture::Picture;
 use std::alloc::{AllocError, Global};
+use view_picture::{Column, Lane, Picture, Status};
+use view_words::LaneKey;
 
 /// The width of the labels of lanes, in pixels like all lengths here.
 pub const LABELS: u64 = 186;
@@ -57,14 +56,14 @@ pub struct Strip {
 pub fn strips_of(picture: &Picture) -> Result<Vec<Strip>, AllocError>
     ensures { IfOk result (λ strips. Cover strips.items 0 (record_count picture.now)) }
 {
-    let count = picture.columns.len();
-    let mut strips = Vec::new(picture.alloc);
+    let count = picture.len();
+    let mut strips = Vec::new(picture.alloc());
     let step = step_of(picture);
     let mut to = count;
     let mut width = 0u64;
     for index in 0..count {
         let from = count - index;
-        let more = width_of(picture.columns.get(from - 1), step);
+        let more = width_of(picture.columns().get(from - 1), step);
         if width.saturating_add(more) > COLUMNS {
             strips.push(Strip { from, to })?;
             to = from;
@@ -80,7 +79,7 @@ pub fn strips_of(picture: &Picture) -> Result<Vec<Strip>, AllocError>
 // The width of a record, by the number of records.
 fn step_of(picture: &Picture) -> u64 {
     let (mut count, mut width) = (0u64, 0u64);
-    for column in picture.columns.iter() {
+    for column in picture.columns().iter() {
         match column.status {
             Status::Accepted | Status::Broken => count = count.saturating_add(1),
             Status::Rejected => width = width.saturating_add(WIDE_STEP),
@@ -141,7 +140,7 @@ pub struct Layout {
 impl Layout {
     /// Where everything is in this strip, in a picture in which it begins at this height.
     pub fn new(picture: &Picture, strip: Strip) -> Result<Layout, AllocError> {
-        let alloc = picture.alloc;
+        let alloc = picture.alloc();
         let edges = edges_of(picture, strip)?;
         let foot_of_labels = height_of_labels(picture, strip);
         let top = foot_of_labels.saturating_add(PLACES);
@@ -186,7 +185,7 @@ impl Layout {
     /// The row of the lane of this key, if the strip shows it.
     pub fn row(&self, picture: &Picture, key: &LaneKey) -> Option<Row> {
         for row in self.rows.iter() {
-            if let Some(lane) = picture.lanes.get(row.lane) {
+            if let Some(lane) = picture.lanes().get(row.lane) {
                 if lane.key == *key {
                     return Some(*row);
                 }
@@ -197,12 +196,12 @@ impl Layout {
 }
 
 fn edges_of(picture: &Picture, strip: Strip) -> Result<Vec<u64>, AllocError> {
-    let mut edges = Vec::new(picture.alloc);
+    let mut edges = Vec::new(picture.alloc());
     let step = step_of(picture);
     let mut x = LABELS;
     edges.push(x)?;
     for column in strip.from..strip.to {
-        x = x.saturating_add(width_of(picture.columns.get(column), step));
+        x = x.saturating_add(width_of(picture.columns().get(column), step));
         edges.push(x)?;
     }
     Ok(edges)
@@ -215,7 +214,7 @@ pub const LONGEST_LABEL: usize = 30;
 fn height_of_labels(picture: &Picture, strip: Strip) -> u64 {
     let mut longest = 0usize;
     for column in strip.from..strip.to {
-        if let Some(column) = picture.columns.get(column) {
+        if let Some(column) = picture.columns().get(column) {
             if column.status != Status::After && column.status != Status::Beyond {
                 longest = longest.max(column.label.len().min(LONGEST_LABEL));
             }
@@ -236,14 +235,14 @@ fn rows_of(
         to: usize::MAX,
     };
     let count = picture
-        .lanes
+        .lanes()
         .iter()
         .filter(|lane| is_shown(picture, lane, all))
         .count();
     let chosen = if count > MANY_LANES { strip } else { all };
     let mut rows = Vec::new(alloc);
     let mut y = top;
-    for (index, lane) in picture.lanes.iter().enumerate() {
+    for (index, lane) in picture.lanes().iter().enumerate() {
         if !is_shown(picture, lane, chosen) {
             continue;
         }
@@ -266,7 +265,7 @@ fn is_shown(picture: &Picture, lane: &Lane, strip: Strip) -> bool {
     match lane.key {
         LaneKey::Core(_) => true,
         LaneKey::Process(_) | LaneKey::Thing(_) => lane.is_concerned(strip.from, strip.to),
-        LaneKey::Partition(_) => picture.lanes.iter().any(|other| {
+        LaneKey::Partition(_) => picture.lanes().iter().any(|other| {
             other.key.partition() == lane.key.partition()
                 && other.is_concerned(strip.from, strip.to)
         }),

@@ -1,36 +1,24 @@
-//! A stretch of a run as a picture: SVG by itself, or a page of HTML around it.
+//! A picture as it is written: as SVG by itself, or in a page of HTML.
 //!
-//! Promises that its functions end, and one thing more: `Markup::say` escapes its text, and all text of a file or of a command line enters
-//! a picture through it. If memory is refused, a function returns `AllocError`; it never shortens or omits a text instead. Nothing here
-//! judges.
+//! Promises: the strips of a picture have each of its records once, in their order. What a sink receives of a picture or a page is markup:
+//! the program's own, whose tags have a few names, and texts that are escaped, whatever the files and the command line say. If the writing
+//! fails, the sink has the first bytes of such markup. If memory is refused, a function returns an error; it never shortens or omits a text
+//! instead. Nothing here judges.
 #![tactic(auto)]
 
-mod arrow;
-mod bars;
-mod changes;
-mod column;
+mod classes;
+mod fault;
 mod html;
-mod labels;
-mod lane;
-mod lane_key;
 mod layout;
-mod look;
-mod marks;
-mod markup;
-mod picture;
-mod process_bars;
 mod shapes;
 mod strip;
 mod strip_marks;
 mod style;
 mod table;
-mod thing_bars;
 mod wrapped;
+mod written;
 
-pub use column::{Source, Status};
-pub use html::{PageTexts, page_foot, page_head, strip_heading};
+pub use fault::PageFault;
+pub use html::PageTexts;
 pub use layout::{Strip, strips_of};
-pub use markup::{Markup, escaped_has_no_delimiter};
-pub use picture::{Added, Picture};
-pub use strip::{svg_foot, svg_head, tell_strip};
-pub use table::{table_foot, table_head, tell_rows};
+pub use written::{write_html, write_svg};

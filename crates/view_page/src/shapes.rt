@@ -1,6 +1,9 @@
 // The shapes of which a strip is made.
 
-use crate::markup::Markup;
+ghost use Rattle.std.specs.Prelude.{◌≡◌, true};
+ghost use Rattle.markup.specs.Own.{is_own};
+
+use markup::Markup;
 use std::alloc::AllocError;
 use std::fmt::Display;
 
@@ -23,15 +26,17 @@ pub(crate) fn tell_rect(
     y: u64,
     right: u64,
     height: u64,
-) -> Result<(), AllocError> {
+) -> Result<(), AllocError>
+    requires { is_own class.now ≡ true }
+{
     out.mark("<rect class=\"")?;
     out.mark(class)?;
-    out.mark("\"")?;
+    out.mark("\" ")?;
     tell_box(out, left, y, right, height)?;
     out.mark("/>\n")
 }
 
-// Where a rectangle is.
+// Where a rectangle is, after a space in its tag.
 pub(crate) fn tell_box(
     out: &mut Markup,
     left: u64,
@@ -39,7 +44,7 @@ pub(crate) fn tell_box(
     right: u64,
     height: u64,
 ) -> Result<(), AllocError> {
-    out.mark(" x=\"")?;
+    out.mark("x=\"")?;
     out.say(left)?;
     out.mark("\" y=\"")?;
     out.say(y)?;
@@ -70,7 +75,9 @@ pub(crate) fn tell_text(
     x: u64,
     y: u64,
     text: impl Display + Drop,
-) -> Result<(), AllocError> {
+) -> Result<(), AllocError>
+    requires { is_own class.now ≡ true }
+{
     out.mark("<text class=\"")?;
     out.mark(class)?;
     out.mark("\" x=\"")?;

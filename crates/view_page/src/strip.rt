@@ -1,21 +1,24 @@
 // A strip of a picture as SVG.
 
-use crate::bars::{Bar, Saying};
-use crate::column::{Column, Status};
+ghost use Rattle.std.specs.Prelude.{◌≡◌, true};
+ghost use Rattle.markup.specs.Own.{is_own};
+
+use crate::classes::{
+    class_of_ground, class_of_lane, class_of_status, classes_of_look, pattern_of,
+};
 use crate::html::PageTexts;
-use crate::lane::Lane;
-use crate::lane_key::LaneKey;
 use crate::layout::{LABELS, LONGEST_LABEL, Layout, Row, Strip};
-use crate::markup::Markup;
-use crate::picture::Picture;
 use crate::shapes::{
     BAND, BEFORE_TEXT, CHARACTER, Fitted, INSIDE, tell_box, tell_rect, tell_size, tell_text,
 };
 use crate::strip_marks::{tell_arrow, tell_marks};
 use crate::style::{DEFINITIONS, STYLE};
 use crate::wrapped::{longest, wrapped_lines};
+use markup::Markup;
 use run_view::ThingKey;
 use std::alloc::AllocError;
+use view_picture::{Bar, Column, Lane, Picture, Status};
+use view_words::{LaneKey, Saying};
 
 /// The fewest characters of a text that are worth showing.
 const LEAST_ROOM: usize = 9;
@@ -39,7 +42,7 @@ pub fn svg_head(
     strips: &[Strip],
     texts: &PageTexts<'_>,
 ) -> Result<(), AllocError> {
-    let lines = wrapped_lines(picture.alloc, texts)?;
+    let lines = wrapped_lines(picture.alloc(), texts)?;
     let mut width = width_of_lines(&lines);
     let mut height = TEXT_LINE.saturating_mul((lines.len() as u64).saturating_add(1));
     for strip in strips {
@@ -67,7 +70,7 @@ pub fn svg_foot(
 ) -> Result<(), AllocError> {
     let mut y = y;
     out.mark("<g class=\"answer\">\n")?;
-    for line in wrapped_lines(picture.alloc, texts)?.iter() {
+    for line in wrapped_lines(picture.alloc(), texts)?.iter() {
         y = y.saturating_add(TEXT_LINE);
         tell_text(out, "line", BEFORE_ANSWER, y, line)?;
     }
@@ -96,16 +99,16 @@ pub fn tell_strip(
     tell_title(out, picture, strip)?;
     tell_grounds(out, picture, &layout)?;
     for column in strip.from..strip.to {
-        if let Some(one) = picture.columns.get(column) {
+        if let Some(one) = picture.columns().get(column) {
             tell_column(out, &layout, column, one)?;
         }
     }
     for row in layout.rows.iter() {
-        if let Some(lane) = picture.lanes.get(row.lane) {
+        if let Some(lane) = picture.lanes().get(row.lane) {
             tell_lane(out, picture, &layout, *row, lane)?;
         }
     }
-    for arrow in picture.arrows.iter() {
+    for arrow in picture.arrows().iter() {
         tell_arrow(out, picture, &layout, arrow)?;
     }
     tell_frames(out, picture, &layout)?;
@@ -115,8 +118,8 @@ pub fn tell_strip(
 
 // What the strip shows, for a person who cannot see it.
 fn tell_title(out: &mut Markup, picture: &Picture, strip: Strip) -> Result<(), AllocError> {
-    let first = picture.columns.get(strip.from);
-    let last = picture.columns.get(strip.to.saturating_sub(1));
+    let first = picture.columns().get(strip.from);
+    let last = picture.columns().get(strip.to.saturating_sub(1));
     if let (Some(first), Some(last)) = (first, last) {
         out.mark("<title>")?;
         out.say(format_args!(
@@ -143,14 +146,11 @@ fn tell_grounds(out: &mut Markup, picture: &Picture, layout: &Layout) -> Result<
     }
     let height = layout.bottom.saturating_sub(layout.top);
     for column in layout.strip.from..layout.strip.to {
-        let Some(one) = picture.columns.get(column) else {
+        let Some(one) = picture.columns().get(column) else {
             continue;
         };
-        let class = match one.status {
-            Status::Accepted => continue,
-            Status::Rejected => "ground-rejected",
-            Status::Broken => "ground-rejected",
-            Status::After | Status::Beyond => "ground-after",
+        let Some(class) = class_of_ground(one.status) else {
+            continue;
         };
         let (left, right) = (layout.left(column), layout.left(column.saturating_add(1)));
         tell_rect(out, class, left, layout.top, right, height)?;
@@ -163,7 +163,7 @@ fn tell_frames(out: &mut Markup, picture: &Picture, layout: &Layout) -> Result<(
     let height = layout.bottom.saturating_sub(layout.top);
     let mut is_said = false;
     for column in layout.strip.from..layout.strip.to {
-        let Some(one) = picture.columns.get(column) else {
+        let Some(one) = picture.columns().get(column) else {
             continue;
         };
         let (left, right) = (layout.left(column), layout.left(column.saturating_add(1)));
@@ -197,7 +197,7 @@ fn tell_column(
 ) -> Result<(), AllocError> {
     let (left, right) = (layout.left(index), layout.left(index.saturating_add(1)));
     out.mark("<g class=\"record ")?;
-    out.mark(status_class(column.status))?;
+    out.mark(class_of_status(column.status))?;
     out.mark("\" data-place=\"")?;
     out.say(column.place.number())?;
     out.mark("\"><title>")?;
@@ -249,15 +249,6 @@ fn tell_label(
     Ok(())
 }
 
-fn status_class(status: Status) -> &'static str {
-    match status {
-        Status::Accepted => "accepted",
-        Status::Rejected => "rejected",
-        Status::Broken => "broken",
-        Status::After | Status::Beyond => "after",
-    }
-}
-
 // A lane: its label, its bars and its marks.
 fn tell_lane(
     out: &mut Markup,
@@ -267,7 +258,7 @@ fn tell_lane(
     lane: &Lane,
 ) -> Result<(), AllocError> {
     out.mark("<g class=\"lane ")?;
-    out.mark(lane_class(&lane.key))?;
+    out.mark(class_of_lane(&lane.key))?;
     out.mark("\">\n")?;
     let is_core = matches!(&lane.key, LaneKey::Core(_));
     let x = match &lane.key {
@@ -300,15 +291,6 @@ fn tell_lane(
     out.mark("</g>\n")
 }
 
-fn lane_class(key: &LaneKey) -> &'static str {
-    match key {
-        LaneKey::Core(_) => "core",
-        LaneKey::Partition(_) => "partition",
-        LaneKey::Process(_) => "process",
-        LaneKey::Thing(_) => "thing",
-    }
-}
-
 // A bar, as far as it is in the strip.
 fn tell_bar(
     out: &mut Markup,
@@ -325,17 +307,17 @@ fn tell_bar(
     }
     let (left, right) = (layout.left(from), layout.left(to));
     out.mark("<g class=\"")?;
-    out.mark(bar.saying.look.classes())?;
+    out.mark(classes_of_look(bar.saying.look))?;
     out.mark("\"><title>")?;
     out.say(bar.saying.title.as_str())?;
     tell_stretch(out, picture, bar)?;
-    out.mark("</title><rect class=\"fill\"")?;
+    out.mark("</title><rect class=\"fill\" ")?;
     tell_box(out, left, y, right, height)?;
     out.mark("/>")?;
-    if let Some(pattern) = bar.saying.look.pattern() {
+    if let Some(pattern) = pattern_of(bar.saying.look) {
         out.mark("<rect class=\"pattern\" fill=\"")?;
         out.mark(pattern)?;
-        out.mark("\"")?;
+        out.mark("\" ")?;
         tell_box(out, left, y, right, height)?;
         out.mark("/>")?;
     }
@@ -358,8 +340,14 @@ fn tell_bar_text(
     };
     let y = y.saturating_add(height.min(TALL) / 2).saturating_add(4);
     let x = left.saturating_add(BEFORE_TEXT);
-    let class = if height <= BAND { "said small" } else { "said" };
-    tell_text(out, class, x, y, Fitted(text, room))
+    tell_text(out, class_of_bar_text(height), x, y, Fitted(text, room))
+}
+
+// The class of the text of a bar of this height.
+fn class_of_bar_text(height: u64) -> &'static str
+    ensures { is_own result.now ≡ true }
+{
+    if height <= BAND { "said small" } else { "said" }
 }
 
 // The text of a bar that has room for this many characters: its text, the shorter one, or the beginning of its text.
@@ -379,13 +367,13 @@ fn text_that_fits(saying: &Saying, room: usize) -> Option<&str> {
 // The first and the last place of a bar.
 fn tell_stretch(out: &mut Markup, picture: &Picture, bar: &Bar) -> Result<(), AllocError> {
     out.mark("\n")?;
-    match picture.columns.get(bar.from) {
+    match picture.columns().get(bar.from) {
         Some(column) if bar.from > 0 => {
             out.say(format_args!("from place {}", column.place.number()))?;
         }
         _ => out.mark("from before the picture or its first record")?,
     }
-    match picture.columns.get(bar.to) {
+    match picture.columns().get(bar.to) {
         Some(column) => out.say(format_args!(", up to place {}", column.place.number())),
         None => out.mark(", to the end of the picture"),
     }

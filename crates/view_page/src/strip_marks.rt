@@ -1,13 +1,14 @@
 // The marks and the arrows of a strip.
 
-use crate::arrow::{Arrow, ArrowEnd, ArrowKind};
-use crate::lane::{Lane, Mark, MarkKind};
+use crate::classes::{
+    class_of_point, classes_of_arrow, classes_of_box, sign_of_box, words_of_arrow,
+};
 use crate::layout::{LABELS, Layout, Row};
-use crate::markup::Markup;
-use crate::picture::Picture;
 use crate::shapes::{BAND, CHARACTER, Fitted, INSIDE, tell_box, tell_line};
+use markup::Markup;
 use std::alloc::AllocError;
 use std::fmt::Display;
+use view_picture::{Arrow, ArrowEnd, ArrowKind, Lane, Mark, MarkKind, Picture};
 
 // The marks of a lane in the strip.
 pub(crate) fn tell_marks(
@@ -43,23 +44,13 @@ fn tell_box_mark(
     y: u64,
     height: u64,
 ) -> Result<(), AllocError> {
-    let (class, sign) = match mark.kind {
-        MarkKind::Lawful => ("mark lawful", "✓ "),
-        MarkKind::Rejected
-        | MarkKind::Unlawful
-        | MarkKind::Tick
-        | MarkKind::Dispatch
-        | MarkKind::Call
-        | MarkKind::Return
-        | MarkKind::Restart => ("mark unlawful", "✗ "),
-    };
     let (left, right) = (
         layout.left(mark.column).saturating_add(3),
         layout.left(mark.column.saturating_add(1)).saturating_sub(3),
     );
     out.mark("<g class=\"")?;
-    out.mark(class)?;
-    out.mark("\"><rect")?;
+    out.mark(classes_of_box(mark.kind))?;
+    out.mark("\"><rect ")?;
     tell_box(
         out,
         left,
@@ -72,7 +63,7 @@ fn tell_box_mark(
     out.mark("\" y=\"")?;
     out.say(y.saturating_add(height / 2).saturating_add(4))?;
     out.mark("\">")?;
-    out.mark(sign)?;
+    out.mark(sign_of_box(mark.kind))?;
     let room = right.saturating_sub(left).saturating_sub(INSIDE) / CHARACTER;
     out.say(Fitted(mark.text.as_str(), (room as usize).saturating_sub(2)))?;
     out.mark("</text></g>\n")
@@ -87,10 +78,10 @@ fn tell_point_mark(
     row: Row,
 ) -> Result<(), AllocError> {
     out.mark("<g class=\"mark ")?;
-    out.mark(point_class(mark.kind))?;
+    out.mark(class_of_point(mark.kind))?;
     out.mark("\"><title>")?;
     out.say(mark.text.as_str())?;
-    if let Some(column) = picture.columns.get(mark.column) {
+    if let Some(column) = picture.columns().get(mark.column) {
         out.mark("\n")?;
         out.say(column.source.as_str())?;
     }
@@ -136,31 +127,19 @@ fn tell_point(
 
 // Where the last lane of the partition of this lane ends.
 fn foot_of_partition(picture: &Picture, layout: &Layout, row: Row) -> u64 {
-    let part = match picture.lanes.get(row.lane) {
+    let part = match picture.lanes().get(row.lane) {
         Some(lane) => lane.key.partition(),
         None => None,
     };
     let mut foot = row.y.saturating_add(row.height);
     for other in layout.rows.iter() {
-        if let Some(lane) = picture.lanes.get(other.lane) {
+        if let Some(lane) = picture.lanes().get(other.lane) {
             if lane.key.partition() == part {
                 foot = foot.max(other.y.saturating_add(other.height));
             }
         }
     }
     foot
-}
-
-fn point_class(kind: MarkKind) -> &'static str {
-    match kind {
-        MarkKind::Tick => "tick",
-        MarkKind::Dispatch => "dispatch",
-        MarkKind::Call => "call",
-        MarkKind::Return => "return",
-        MarkKind::Restart => "restart",
-        MarkKind::Rejected | MarkKind::Unlawful => "unlawful",
-        MarkKind::Lawful => "lawful",
-    }
 }
 
 // An arrow, as far as it is in the strip.
@@ -195,14 +174,10 @@ pub(crate) fn tell_arrow(
 
 // An arrow along this path.
 fn tell_way(out: &mut Markup, arrow: &Arrow, way: Way) -> Result<(), AllocError> {
-    let (class, title) = match arrow.kind {
-        ArrowKind::Wake => ("arrow wake", "ends its wait"),
-        ArrowKind::Message => ("arrow message", "the message"),
-    };
     out.mark("<g class=\"")?;
-    out.mark(class)?;
+    out.mark(classes_of_arrow(arrow.kind))?;
     out.mark("\"><title>")?;
-    out.mark(title)?;
+    out.mark(words_of_arrow(arrow.kind))?;
     out.say(format_args!(
         ": from place {} to place {}",
         arrow.from.place, arrow.to.place

@@ -1,10 +1,10 @@
 // The table of the records of a picture.
 
-use crate::column::{Column, Status};
+use crate::classes::tag_of_row;
 use crate::layout::Strip;
-use crate::markup::Markup;
-use crate::picture::Picture;
+use markup::Markup;
 use std::alloc::AllocError;
+use view_picture::{Column, Picture, Status};
 
 /// Begins the table.
 pub fn table_head(out: &mut Markup) -> Result<(), AllocError> {
@@ -16,7 +16,7 @@ pub fn table_head(out: &mut Markup) -> Result<(), AllocError> {
 /// Adds the rows of these records.
 pub fn tell_rows(out: &mut Markup, picture: &Picture, strip: Strip) -> Result<(), AllocError> {
     for index in strip.from..strip.to {
-        if let Some(column) = picture.columns.get(index) {
+        if let Some(column) = picture.columns().get(index) {
             tell_row(out, column)?;
         }
     }
@@ -29,12 +29,7 @@ pub fn table_foot(out: &mut Markup) -> Result<(), AllocError> {
 }
 
 fn tell_row(out: &mut Markup, column: &Column) -> Result<(), AllocError> {
-    out.mark(match column.status {
-        Status::Accepted => "<tr>",
-        Status::Rejected => "<tr class=\"rejected\" id=\"fault\">",
-        Status::Broken => "<tr class=\"broken\" id=\"fault\">",
-        Status::After | Status::Beyond => "<tr class=\"after\">",
-    })?;
+    out.mark(tag_of_row(column.status))?;
     out.mark("<td>")?;
     out.say(column.place.number())?;
     out.mark("</td><td>")?;

@@ -1,11 +1,18 @@
 // A run as a trace, record by record.
 
-ghost use Rattle.std.specs.Prelude.{◌<◌, IfSome, length};
-ghost use Rattle.view_trace.specs.declared.event.TheConstants.{MOST_HELD};
+ghost use Rattle.std.specs.Prelude.{◌≡◌, ◌<◌, IfSome, OnOk, length};
+ghost use Rattle.view_trace.specs.Trace.{AddsOthers};
+ghost use Rattle.view_trace.specs.declared.events.TheConstants.{MOST_HELD};
 
-use crate::event::{Events, FlowKind, Track};
+use crate::ends::{end_cores, end_messages, end_modes, end_processes};
+use crate::event::{Arguments, Event, FlowKind, Phase, Track};
+use crate::events::Events;
 use crate::fault::TraceFault;
+use crate::known::{TracedProcess, close_process, renew_core, renew_process};
 use crate::said::{counter_name, due_text, held_number, mode_name, state_name};
+use crate::tracks::{
+    CHANNELS, CORES, actor_of, core_track, mode_track, process_of, process_track, woken_by,
+};
 use apex_machine::Mode;
 use apex_types::{Body, CoreId, Ordered, PartId, Who};
 use piece_check::{Piece, Seen, Subject};
@@ -13,18 +20,6 @@ use run_view::{Change, CoreView, Followed, ProcessState, ProcessView, ThingKey, 
 use sink::Sink;
 use std::alloc::{AllocError, Global};
 use wording::{Ascii, Look, Numbered, Words, tell_record};
-
-/// The processes of the trace: one for the cores, one for the channels, and one for each partition from a number on.
-const CORES: u64 = 1;
-
-const CHANNELS: u64 = 2;
-
-const FIRST_PARTITION: u64 = 10;
-
-/// The threads of a partition: one for its mode, and one for each process from a number on.
-const MODE: u64 = 1;
-
-const FIRST_PROCESS: u64 = 2;
 
 /// A run as a trace.
 #[derive(Drop)]
@@ -40,15 +35,10 @@ pub struct Tracer<'a, W> {
     place: u64,
 }
 
-#[derive(Clone, Copy)]
-struct TracedProcess {
-    who: Who,
-    view: ProcessView,
-    runs: bool,
-    is_open: bool,
-}
-
 impl<'a, W: Sink> Tracer<'a, W> {
+    ghost use Rattle.view_trace.specs.Trace.{AddsInstant, AddsRecord, Ends, begun};
+    ghost use Rattle.view_trace.specs.Traced.{traced};
+
     /// A trace without an event, which goes to this sink.
     pub fn new(alloc: Global, output: &'a mut W) -> Tracer<'a, W> {
         Tracer {
@@ -71,17 +61,45 @@ impl<'a, W: Sink> Tracer<'a, W> {
     }
 
     /// Begins the trace with what the pieces hold before the first record: all of it is among the changes.
-    pub fn begin(&mut self, pieces: &[Piece], changes: &[Change]) -> Result<(), TraceFault> {
+    pub fn begin(&mut self, pieces: &[Piece], changes: &[Change]) -> Result<(), TraceFault>
+        ensures { OnOk result (AddsOthers (begun (traced W.bytes self.old)) (traced W.bytes self.new)) }
+    {
         self.events.begin()?;
-        self.events.name_process(CORES, "cores")?;
-        self.events.name_process(CHANNELS, "channels")?;
-        for piece in pieces {
-            if let Subject::Partition(part) = piece.subject() {
-                let name = format!(in self.alloc; "partition {}", part.number())?;
-                self.events.name_process(process_of(part), name.as_str())?;
-            }
-        }
+        self.name_processes(pieces)?;
         self.apply(pieces, changes)
+    }
+
+    fn name_processes(&mut self, pieces: &[Piece]) -> Result<(), TraceFault>
+        ensures { OnOk result (AddsOthers (traced W.bytes self.old) (traced W.bytes self.new)) }
+    {
+        self.events.add_mark(&Event::process_name(CORES, "cores"))?;
+        self.events
+            .add_mark(&Event::process_name(CHANNELS, "channels"))?;
+        self.name_partitions(pieces)
+    }
+
+    fn name_partitions(&mut self, pieces: &[Piece]) -> Result<(), TraceFault>
+        ensures { OnOk result (AddsOthers (traced W.bytes self.old) (traced W.bytes self.new)) }
+    {
+        for piece in pieces {
+            self.name_partition(piece)?;
+        }
+        Ok(())
+    }
+
+    // Names the process of a partition, if the piece is one.
+    #[tactic(auto, using(crate::proofs::Traces::others_none))]
+    fn name_partition(&mut self, piece: &Piece) -> Result<(), TraceFault>
+        ensures { OnOk result (AddsOthers (traced W.bytes self.old) (traced W.bytes self.new)) }
+    {
+        match piece.subject() {
+            Subject::Partition(part) => {
+                let name = format!(in self.alloc; "partition {}", part.number())?;
+                self.events
+                    .add_mark(&Event::process_name(process_of(part), name.as_str()))
+            }
+            _ => Ok(()),
+        }
     }
 
     /// Adds a record that is accepted, with what it changed, and what it does with messages.
@@ -91,7 +109,9 @@ impl<'a, W: Sink> Tracer<'a, W> {
         ordered: &Ordered,
         changes: &[Change],
         followed: &Followed,
-    ) -> Result<(), TraceFault> {
+    ) -> Result<(), TraceFault>
+        ensures { OnOk result (AddsRecord ordered.now.pos (traced W.bytes self.old) (traced W.bytes self.new)) }
+    {
         self.place = ordered.pos.number();
         self.begin_wakes(ordered)?;
         self.apply(pieces, changes)?;
@@ -101,43 +121,30 @@ impl<'a, W: Sink> Tracer<'a, W> {
     }
 
     /// Adds the record that is rejected, and the name of the cause.
-    pub fn reject(&mut self, ordered: &Ordered, cause: &str) -> Result<(), TraceFault> {
+    pub fn reject(&mut self, ordered: &Ordered, cause: &str) -> Result<(), TraceFault>
+        ensures { OnOk result (AddsInstant ordered.now.pos (traced W.bytes self.old) (traced W.bytes self.new)) }
+    {
         self.place = ordered.pos.number();
         let name = format!(in self.alloc; "rejected: {cause}")?;
-        let words = self.words_of(ordered)?;
-        let time = self.time_of(&ordered.core);
-        let track = actor_of(ordered);
-        self.events
-            .instant(track, self.place, name.as_str(), time, words.as_str())
+        self.add_instant(ordered, name.as_str())
     }
 
     /// Ends the trace: what is open ends with it.
-    pub fn end(&mut self) -> Result<(), TraceFault> {
+    pub fn end(&mut self) -> Result<(), TraceFault>
+        ensures { OnOk result (Ends (traced W.bytes self.old) (W.bytes self.new.events.output.now)) }
+    {
         let place = self.place.saturating_add(1);
-        for number in self.messages.iter() {
-            let track = Track {
-                process: CHANNELS,
-                thread: 0,
-            };
-            self.events
-                .end_flow(FlowKind::Message, track, place, *number)?;
-        }
-        for core in self.cores.iter() {
-            self.events.end_slice(core_track(core.core), place)?;
-        }
-        for part in self.modes.iter() {
-            self.events.end_slice(mode_track(*part), place)?;
-        }
-        for process in self.processes.iter() {
-            if process.is_open {
-                self.events.end_slice(process_track(process.who), place)?;
-            }
-        }
+        end_messages(&mut self.events, self.messages.as_slice(), place)?;
+        end_cores(&mut self.events, self.cores.as_slice(), place)?;
+        end_modes(&mut self.events, self.modes.as_slice(), place)?;
+        end_processes(&mut self.events, self.processes.as_slice(), place)?;
         self.events.end()
     }
 
     // Adds what a record does.
-    fn add_record(&mut self, ordered: &Ordered) -> Result<(), TraceFault> {
+    fn add_record(&mut self, ordered: &Ordered) -> Result<(), TraceFault>
+        ensures { OnOk result (AddsInstant ordered.now.pos (traced W.bytes self.old) (traced W.bytes self.new)) }
+    {
         let name = match &ordered.rec.body {
             Body::Call(call) => {
                 format!(in self.alloc; "{}", Ascii(call.request.service().name()))?
@@ -146,11 +153,18 @@ impl<'a, W: Sink> Tracer<'a, W> {
             Body::Disp(_) => String::from_str(self.alloc, "dispatch")?,
             Body::Tick(_) => String::from_str(self.alloc, "tick")?,
         };
+        self.add_instant(ordered, name.as_str())
+    }
+
+    // Adds the instant of a record.
+    fn add_instant(&mut self, ordered: &Ordered, name: &str) -> Result<(), TraceFault>
+        ensures { OnOk result (AddsInstant ordered.now.pos (traced W.bytes self.old) (traced W.bytes self.new)) }
+    {
         let words = self.words_of(ordered)?;
         let time = self.time_of(&ordered.core);
         let track = actor_of(ordered);
-        self.events
-            .instant(track, self.place, name.as_str(), time, words.as_str())
+        let event = Event::instant(track, ordered.pos.number(), name, time, words.as_str());
+        self.events.add(&event)
     }
 
     fn words_of(&self, ordered: &Ordered) -> Result<String, AllocError> {
@@ -170,97 +184,178 @@ impl<'a, W: Sink> Tracer<'a, W> {
     }
 
     // Begins a flow to each process whose wait a record ends.
-    fn begin_wakes(&mut self, ordered: &Ordered) -> Result<(), TraceFault> {
+    fn begin_wakes(&mut self, ordered: &Ordered) -> Result<(), TraceFault>
+        ensures { OnOk result (AddsOthers (traced W.bytes self.old) (traced W.bytes self.new)) }
+    {
         let track = actor_of(ordered);
         for index in 0..woken_by(ordered).len() {
             let number = self.wakes.saturating_add(index as u64);
+            let phase = Phase::BeginFlow(number);
             self.events
-                .begin_flow(FlowKind::Wake, track, self.place, number)?;
+                .add_mark(&Event::flow(FlowKind::Wake, phase, track, self.place))?;
         }
         Ok(())
     }
 
-    fn end_wakes(&mut self, ordered: &Ordered) -> Result<(), TraceFault> {
+    fn end_wakes(&mut self, ordered: &Ordered) -> Result<(), TraceFault>
+        ensures { OnOk result (AddsOthers (traced W.bytes self.old) (traced W.bytes self.new)) }
+    {
         for who in woken_by(ordered) {
             let track = process_track(*who);
+            let phase = Phase::EndFlow(self.wakes);
             self.events
-                .end_flow(FlowKind::Wake, track, self.place, self.wakes)?;
+                .add_mark(&Event::flow(FlowKind::Wake, phase, track, self.place))?;
             self.wakes = self.wakes.saturating_add(1);
         }
         Ok(())
     }
 
     // Adds what a record does with messages.
-    fn follow(&mut self, ordered: &Ordered, followed: &Followed) -> Result<(), TraceFault> {
-        if let Some(ended) = followed.ended {
-            self.end_message(ended.place.number(), process_track(ended.who))?;
+    fn follow(&mut self, ordered: &Ordered, followed: &Followed) -> Result<(), TraceFault>
+        ensures { OnOk result (AddsOthers (traced W.bytes self.old) (traced W.bytes self.new)) }
+    {
+        self.end_waiting(followed)?;
+        self.send(ordered, followed)?;
+        self.receive(followed)
+    }
+
+    // Ends the flow of a message whose sender no longer waits to send it.
+    #[tactic(auto, using(crate::proofs::Traces::others_none))]
+    fn end_waiting(&mut self, followed: &Followed) -> Result<(), TraceFault>
+        ensures { OnOk result (AddsOthers (traced W.bytes self.old) (traced W.bytes self.new)) }
+    {
+        match followed.ended {
+            Some(ended) => self.end_message(ended.place.number(), process_track(ended.who)),
+            None => Ok(()),
         }
-        if followed.is_sent {
-            let track = actor_of(ordered);
-            self.events
-                .begin_flow(FlowKind::Message, track, self.place, self.place)?;
-            self.messages.push(self.place)?;
+    }
+
+    // Begins the flow of a message, if one is sent.
+    #[tactic(auto, using(crate::proofs::Traces::others_none))]
+    fn send(&mut self, ordered: &Ordered, followed: &Followed) -> Result<(), TraceFault>
+        ensures { OnOk result (AddsOthers (traced W.bytes self.old) (traced W.bytes self.new)) }
+    {
+        if !followed.is_sent {
+            return Ok(());
         }
-        if let Some(received) = followed.received {
-            let number = received.sent.place.number();
-            let track = process_track(received.by);
-            if !received.stays {
-                return self.end_message(number, track);
-            }
-            if self.messages.as_slice().contains(&number) {
-                self.events
-                    .step_flow(FlowKind::Message, track, self.place, number)?;
-            }
+        self.messages.push(self.place)?;
+        let phase = Phase::BeginFlow(self.place);
+        self.events.add_mark(&Event::flow(FlowKind::Message, phase, actor_of(ordered), self.place))
+    }
+
+    // Ends the flow of a message that is received, or continues it if the message stays.
+    #[tactic(auto, using(crate::proofs::Traces::others_none))]
+    fn receive(&mut self, followed: &Followed) -> Result<(), TraceFault>
+        ensures { OnOk result (AddsOthers (traced W.bytes self.old) (traced W.bytes self.new)) }
+    {
+        let Some(received) = followed.received else {
+            return Ok(());
+        };
+        let number = received.sent.place.number();
+        let track = process_track(received.by);
+        if !received.stays {
+            return self.end_message(number, track);
         }
-        Ok(())
+        if !self.messages.as_slice().contains(&number) {
+            return Ok(());
+        }
+        let phase = Phase::StepFlow(number);
+        self.events
+            .add_mark(&Event::flow(FlowKind::Message, phase, track, self.place))
     }
 
     // Ends the flow of a message, if it is open.
-    fn end_message(&mut self, number: u64, track: Track) -> Result<(), TraceFault> {
+    #[tactic(auto, using(crate::proofs::Traces::others_none))]
+    fn end_message(&mut self, number: u64, track: Track) -> Result<(), TraceFault>
+        ensures { OnOk result (AddsOthers (traced W.bytes self.old) (traced W.bytes self.new)) }
+    {
         let Some(index) = index_of(self.messages.as_slice(), number) else {
             return Ok(());
         };
         self.messages.remove(index);
+        let phase = Phase::EndFlow(number);
         self.events
-            .end_flow(FlowKind::Message, track, self.place, number)
+            .add_mark(&Event::flow(FlowKind::Message, phase, track, self.place))
     }
 
     // Adds what has changed.
-    fn apply(&mut self, pieces: &[Piece], changes: &[Change]) -> Result<(), TraceFault> {
-        let mut is_moved = false;
-        for change in changes {
-            match change {
-                Change::Core(view) => is_moved |= self.apply_core(view)?,
-                Change::Mode(part, mode) => self.apply_mode(part, *mode)?,
-                Change::Process(who, view) => self.apply_process(pieces, who, view)?,
-                Change::Ended(who) => self.end_process(who)?,
-                Change::Thing(key) => self.apply_thing(pieces, key)?,
-                Change::Removed(_) => {}
-            }
-        }
-        if is_moved {
-            self.renew_running()?;
+    #[tactic(auto, using(crate::proofs::Traces::others_last))]
+    fn apply(&mut self, pieces: &[Piece], changes: &[Change]) -> Result<(), TraceFault>
+        ensures { OnOk result (AddsOthers (traced W.bytes self.old) (traced W.bytes self.new)) }
+    {
+        if self.apply_all(pieces, changes)? {
+            return self.renew_running();
         }
         Ok(())
     }
 
+    // Adds each change. Returns whether a core has another occupant.
+    fn apply_all(&mut self, pieces: &[Piece], changes: &[Change]) -> Result<bool, TraceFault>
+        ensures { OnOk result (AddsOthers (traced W.bytes self.old) (traced W.bytes self.new)) }
+    {
+        let mut is_moved = false;
+        for change in changes {
+            is_moved |= self.apply_change(pieces, change)?;
+        }
+        Ok(is_moved)
+    }
+
+    // Adds a change. Returns whether a core has another occupant.
+    #[tactic(auto, using(crate::proofs::Traces::others_none))]
+    fn apply_change(&mut self, pieces: &[Piece], change: &Change) -> Result<bool, TraceFault>
+        ensures { OnOk result (AddsOthers (traced W.bytes self.old) (traced W.bytes self.new)) }
+    {
+        match change {
+            Change::Core(view) => self.apply_core(view),
+            Change::Mode(part, mode) => {
+                self.apply_mode(part, *mode)?;
+                Ok(false)
+            }
+            Change::Process(who, view) => {
+                self.apply_process(pieces, who, view)?;
+                Ok(false)
+            }
+            Change::Ended(who) => {
+                self.end_process(who)?;
+                Ok(false)
+            }
+            Change::Thing(key) => {
+                self.apply_thing(pieces, key)?;
+                Ok(false)
+            }
+            Change::Removed(_) => Ok(false),
+        }
+    }
+
     // Adds the occupant of a core. Returns whether it is another one.
-    fn apply_core(&mut self, view: &CoreView) -> Result<bool, TraceFault> {
-        let before = self.cores.iter().position(|last| last.core == view.core);
-        match before {
+    #[tactic(auto, using(crate::proofs::Traces::others_none, crate::proofs::Traces::others_then))]
+    fn apply_core(&mut self, view: &CoreView) -> Result<bool, TraceFault>
+        ensures { OnOk result (AddsOthers (traced W.bytes self.old) (traced W.bytes self.new)) }
+    {
+        match self.cores.iter().position(|last| last.core == view.core) {
             Some(index) => {
-                if !self.renew_core(index, view) {
+                if !renew_core(&mut self.cores, index, view) {
                     return Ok(false);
                 }
-                self.events.end_slice(core_track(view.core), self.place)?;
+                let track = core_track(view.core);
+                self.events.add_mark(&Event::slice_end(track, self.place))?;
+                self.begin_occupant(view)?;
+                Ok(true)
             }
             None => {
                 self.cores.push(*view)?;
                 let name = format!(in self.alloc; "core {}", view.core.number())?;
                 self.events
-                    .name_thread(core_track(view.core), name.as_str())?;
+                    .add_mark(&Event::thread_name(core_track(view.core), name.as_str()))?;
+                self.begin_occupant(view)?;
+                Ok(true)
             }
         }
+    }
+
+    fn begin_occupant(&mut self, view: &CoreView) -> Result<(), TraceFault>
+        ensures { OnOk result (AddsOthers (traced W.bytes self.old) (traced W.bytes self.new)) }
+    {
         let name = match &view.occupant {
             Some(who) => format!(in self.alloc; "{}", Numbered(*who))?,
             None => String::from_str(self.alloc, "idle")?,
@@ -270,32 +365,31 @@ impl<'a, W: Sink> Tracer<'a, W> {
             None => String::from_str(self.alloc, "no window")?,
         };
         let (name, window) = (name.as_str(), window.as_str());
+        let track = core_track(view.core);
         self.events
-            .begin_slice(core_track(view.core), self.place, name, view.time, window)?;
-        Ok(true)
+            .add_mark(&Event::slice(track, self.place, name, view.time, window))
     }
 
-    // Keeps what is known of the core with this index. Returns whether its occupant is another one.
-    fn renew_core(&mut self, index: usize, view: &CoreView) -> bool {
-        match self.cores.get_mut(index) {
-            Some(last) => {
-                let is_other = last.occupant != view.occupant;
-                *last = *view;
-                is_other
-            }
-            None => false,
-        }
-    }
-
-    fn apply_mode(&mut self, part: &PartId, mode: Mode) -> Result<(), TraceFault> {
+    #[tactic(auto, using(crate::proofs::Traces::others_last))]
+    fn apply_mode(&mut self, part: &PartId, mode: Mode) -> Result<(), TraceFault>
+        ensures { OnOk result (AddsOthers (traced W.bytes self.old) (traced W.bytes self.new)) }
+    {
+        let track = mode_track(*part);
         if self.modes.as_slice().contains(part) {
-            self.events.end_slice(mode_track(*part), self.place)?;
-        } else {
-            self.modes.push(*part)?;
-            self.events.name_thread(mode_track(*part), "mode")?;
+            self.events.add_mark(&Event::slice_end(track, self.place))?;
+            return self.begin_mode(part, mode);
         }
+        self.modes.push(*part)?;
+        self.events.add_mark(&Event::thread_name(track, "mode"))?;
+        self.begin_mode(part, mode)
+    }
+
+    fn begin_mode(&mut self, part: &PartId, mode: Mode) -> Result<(), TraceFault>
+        ensures { OnOk result (AddsOthers (traced W.bytes self.old) (traced W.bytes self.new)) }
+    {
+        let track = mode_track(*part);
         self.events
-            .begin_slice(mode_track(*part), self.place, mode_name(mode), 0, "")
+            .add_mark(&Event::slice(track, self.place, mode_name(mode), 0, ""))
     }
 
     fn apply_process(
@@ -303,83 +397,119 @@ impl<'a, W: Sink> Tracer<'a, W> {
         pieces: &[Piece],
         who: &Who,
         view: &ProcessView,
-    ) -> Result<(), TraceFault> {
+    ) -> Result<(), TraceFault>
+        ensures { OnOk result (AddsOthers (traced W.bytes self.old) (traced W.bytes self.new)) }
+    {
         let runs = self.is_running(who, view);
         match self.processes.iter().position(|traced| traced.who == *who) {
             Some(index) => self.go_on(index, view, runs),
             None => {
                 let name = name_of(self.alloc, pieces, who)?;
-                self.events.name_thread(process_track(*who), name.as_str())?;
-                self.processes.push(TracedProcess {
-                    who: *who,
-                    view: *view,
-                    runs,
-                    is_open: true,
-                })?;
-                self.count_priority(who, view)?;
-                self.begin_state(who, view, runs)
+                self.begin_process(who, name.as_str(), view, runs)
             }
         }
     }
 
+    fn begin_process(
+        &mut self,
+        who: &Who,
+        name: &str,
+        view: &ProcessView,
+        runs: bool,
+    ) -> Result<(), TraceFault>
+        ensures { OnOk result (AddsOthers (traced W.bytes self.old) (traced W.bytes self.new)) }
+    {
+        self.processes.push(TracedProcess {
+            who: *who,
+            view: *view,
+            runs,
+            is_open: true,
+        })?;
+        self.events
+            .add_mark(&Event::thread_name(process_track(*who), name))?;
+        self.count_priority(who, view)?;
+        self.begin_state(who, view, runs)
+    }
+
     // Shows what a process that is known does now.
-    fn go_on(&mut self, index: usize, view: &ProcessView, runs: bool) -> Result<(), TraceFault> {
-        let Some(last) = self.processes.get_mut(index) else {
+    #[tactic(auto, using(crate::proofs::Traces::others_none, crate::proofs::Traces::others_last))]
+    fn go_on(&mut self, index: usize, view: &ProcessView, runs: bool) -> Result<(), TraceFault>
+        ensures { OnOk result (AddsOthers (traced W.bytes self.old) (traced W.bytes self.new)) }
+    {
+        let Some(last) = renew_process(&mut self.processes, index, view, runs) else {
             return Ok(());
         };
-        let who = last.who;
-        let was_open = last.is_open;
-        let is_same_priority = last.view.current_priority == view.current_priority;
-        let is_same = last.view.state == view.state && last.runs == runs;
-        last.view = *view;
-        last.runs = runs;
-        last.is_open = true;
-        if !was_open || !is_same_priority {
-            self.count_priority(&who, view)?;
-        }
-        if was_open && is_same {
+        self.renew_priority(&last, view)?;
+        self.renew_state(&last, view, runs)
+    }
+
+    // Shows the priority of a process, if it was not shown last.
+    #[tactic(auto, using(crate::proofs::Traces::others_none))]
+    fn renew_priority(&mut self, last: &TracedProcess, view: &ProcessView) -> Result<(), TraceFault>
+        ensures { OnOk result (AddsOthers (traced W.bytes self.old) (traced W.bytes self.new)) }
+    {
+        if last.is_open && last.view.current_priority == view.current_priority {
             return Ok(());
         }
-        if was_open {
-            self.end_state(&who)?;
+        self.count_priority(&last.who, view)
+    }
+
+    // Shows what a process does, if it was not shown last.
+    #[tactic(auto, using(crate::proofs::Traces::others_none, crate::proofs::Traces::others_last))]
+    fn renew_state(
+        &mut self,
+        last: &TracedProcess,
+        view: &ProcessView,
+        runs: bool,
+    ) -> Result<(), TraceFault>
+        ensures { OnOk result (AddsOthers (traced W.bytes self.old) (traced W.bytes self.new)) }
+    {
+        if !last.is_open {
+            return self.begin_state(&last.who, view, runs);
         }
-        self.begin_state(&who, view, runs)
+        if last.view.state == view.state && last.runs == runs {
+            return Ok(());
+        }
+        self.end_state(&last.who)?;
+        self.begin_state(&last.who, view, runs)
     }
 
-    fn count_priority(&mut self, who: &Who, view: &ProcessView) -> Result<(), TraceFault> {
+    fn count_priority(&mut self, who: &Who, view: &ProcessView) -> Result<(), TraceFault>
+        ensures { OnOk result (AddsOthers (traced W.bytes self.old) (traced W.bytes self.new)) }
+    {
         let name = format!(in self.alloc; "priority of process {}", who.proc.number())?;
-        self.events.count_priority(
-            process_of(who.part),
-            self.place,
-            name.as_str(),
-            u64::from(view.current_priority),
-        )
+        let arguments = Arguments::Priority(u64::from(view.current_priority));
+        let process = process_of(who.part);
+        self.events.add_mark(&Event::counter(process, self.place, name.as_str(), arguments))
     }
 
-    fn begin_state(&mut self, who: &Who, view: &ProcessView, runs: bool) -> Result<(), TraceFault> {
+    fn begin_state(&mut self, who: &Who, view: &ProcessView, runs: bool) -> Result<(), TraceFault>
+        ensures { OnOk result (AddsOthers (traced W.bytes self.old) (traced W.bytes self.new)) }
+    {
         let name = state_name(self.alloc, view, runs)?;
         let due = due_text(self.alloc, view)?;
         let time = self.time_of(&view.affinity);
         let (name, due) = (name.as_str(), due.as_str());
+        let track = process_track(*who);
         self.events
-            .begin_slice(process_track(*who), self.place, name, time, due)
+            .add_mark(&Event::slice(track, self.place, name, time, due))
     }
 
-    fn end_state(&mut self, who: &Who) -> Result<(), TraceFault> {
-        self.events.end_slice(process_track(*who), self.place)
+    fn end_state(&mut self, who: &Who) -> Result<(), TraceFault>
+        ensures { OnOk result (AddsOthers (traced W.bytes self.old) (traced W.bytes self.new)) }
+    {
+        self.events
+            .add_mark(&Event::slice_end(process_track(*who), self.place))
     }
 
-    fn end_process(&mut self, who: &Who) -> Result<(), TraceFault> {
-        let mut was_open = false;
-        if let Some(traced) = self.processes.iter_mut().find(|traced| traced.who == *who) {
-            was_open = traced.is_open;
-            traced.is_open = false;
+    #[tactic(auto, using(crate::proofs::Traces::others_none))]
+    fn end_process(&mut self, who: &Who) -> Result<(), TraceFault>
+        ensures { OnOk result (AddsOthers (traced W.bytes self.old) (traced W.bytes self.new)) }
+    {
+        if close_process(&mut self.processes, who) {
+            return self.end_state(who);
         }
-        if was_open {
-            self.end_state(who)
-        } else {
-            Ok(())
-        }
+        Ok(())
     }
 
     // Whether a core runs a process.
@@ -390,14 +520,19 @@ impl<'a, W: Sink> Tracer<'a, W> {
     }
 
     // Adds the processes that have begun or stopped to run.
-    fn renew_running(&mut self) -> Result<(), TraceFault> {
+    fn renew_running(&mut self) -> Result<(), TraceFault>
+        ensures { OnOk result (AddsOthers (traced W.bytes self.old) (traced W.bytes self.new)) }
+    {
         for index in 0..self.processes.len() {
-            self.renew_process(index)?;
+            self.renew_runner(index)?;
         }
         Ok(())
     }
 
-    fn renew_process(&mut self, index: usize) -> Result<(), TraceFault> {
+    #[tactic(auto, using(crate::proofs::Traces::others_none))]
+    fn renew_runner(&mut self, index: usize) -> Result<(), TraceFault>
+        ensures { OnOk result (AddsOthers (traced W.bytes self.old) (traced W.bytes self.new)) }
+    {
         let Some(process) = self.processes.get(index) else {
             return Ok(());
         };
@@ -409,7 +544,10 @@ impl<'a, W: Sink> Tracer<'a, W> {
         self.go_on(index, &view, runs)
     }
 
-    fn apply_thing(&mut self, pieces: &[Piece], key: &ThingKey) -> Result<(), TraceFault> {
+    #[tactic(auto, using(crate::proofs::Traces::others_none))]
+    fn apply_thing(&mut self, pieces: &[Piece], key: &ThingKey) -> Result<(), TraceFault>
+        ensures { OnOk result (AddsOthers (traced W.bytes self.old) (traced W.bytes self.new)) }
+    {
         let Some(view) = view_of(self.alloc, pieces, key)? else {
             return Ok(());
         };
@@ -419,13 +557,11 @@ impl<'a, W: Sink> Tracer<'a, W> {
         };
         let name = counter_name(self.alloc, key)?;
         let waiting = usize::saturating_add(view.senders.len(), view.waiters.len());
-        self.events.count_held(
-            process,
-            self.place,
-            name.as_str(),
-            held_number(&view.contents),
-            waiting as u64,
-        )
+        let arguments = Arguments::Held {
+            held: held_number(&view.contents),
+            waiting: waiting as u64,
+        };
+        self.events.add_mark(&Event::counter(process, self.place, name.as_str(), arguments))
     }
 }
 
@@ -439,49 +575,6 @@ fn index_of(numbers: &[u64], number: u64) -> Option<usize>
         }
     }
     None
-}
-
-// The processes whose waits a record ends.
-fn woken_by(ordered: &Ordered) -> &[Who] {
-    match &ordered.rec.body {
-        Body::Call(call) => call.claim.woken.as_slice(),
-        Body::Tick(woken) => woken.as_slice(),
-        Body::Ret(_) | Body::Disp(_) => &[],
-    }
-}
-
-// The track of the process or the core that makes a record.
-fn actor_of(ordered: &Ordered) -> Track {
-    match &ordered.rec.body {
-        Body::Call(call) => process_track(call.who),
-        Body::Ret(ret) => process_track(ret.who),
-        Body::Disp(_) | Body::Tick(_) => core_track(ordered.core),
-    }
-}
-
-fn core_track(core: CoreId) -> Track {
-    Track {
-        process: CORES,
-        thread: u64::from(core.number()) + 1,
-    }
-}
-
-fn process_of(part: PartId) -> u64 {
-    FIRST_PARTITION + u64::from(part.number())
-}
-
-fn mode_track(part: PartId) -> Track {
-    Track {
-        process: process_of(part),
-        thread: MODE,
-    }
-}
-
-fn process_track(who: Who) -> Track {
-    Track {
-        process: process_of(who.part),
-        thread: FIRST_PROCESS + u64::from(who.proc.number()),
-    }
 }
 
 // The name of a process.

@@ -6,7 +6,7 @@ use Rattle.std.specs.Prelude.{Any, IfErr, IsErrAnd}
 use Rattle.std.specs.declared.io.ErrorKind.TheVariants.{OutOfMemory}
 use Rattle.std.proofs.lemmas.List.{map-append, take_more}
 use Rattle.std.proofs.lemmas.Result.{IfOk-at_ok}
-use Rattle.apexcheck.proofs.Asked.{of_error}
+use Rattle.apexcheck.proofs.Failed.{of_error}
 use Rattle.apexcheck.proofs.files.open_cores.Goals as goal
 use Rattle.apexcheck.specs.declared.files.OpenFault.TheVariants.{Unopened}
 

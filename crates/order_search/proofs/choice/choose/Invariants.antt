@@ -1,7 +1,7 @@
-use Rattle.std.proofs.Common.{◌≡◌, ◌<◌, ℕ, true, IfSome}
+use Rattle.std.proofs.Common.{◌≡◌, ◌<◌, IfSome}
 use Rattle.order_search.proofs.choice.choose.Given as goal
 
--- nothing is taken; where each core so far is at its end, each is; what is best so far is of one of the cores
+-- nothing is taken; what is best so far is of one of the cores
 abbrev pub invariant-loop-core : goal.invariant-loop-core
 invariant-loop-core g l =
     let tip = g.T.Tip in
@@ -9,6 +9,5 @@ invariant-loop-core g l =
       undecided : tip.undecided l.tip ≡ tip.undecided l.fn.tip;
       decided : tip.decided l.tip ≡ tip.decided l.fn.tip;
       input : tip.input l.tip ≡ tip.input l.fn.tip;
-      ended : l.at_end ≡ true → (core : ℕ) → core < l.core → tip.is_ended l.tip core ≡ true;
       best : IfSome l.best (λ candidate. candidate.core < l.cores);
     }

@@ -1,4 +1,4 @@
-use Rattle.std.proofs.Common.{◌≡◌, ◌++◌, ◌∙◌, List, Some, None, Ok, ap, map, subst, sym, arith}
+use Rattle.std.proofs.Common.{◌≡◌, ◌+◌, ◌++◌, ◌∙◌, List, Some, None, Ok, ap, length, map, subst, sym, arith}
 use Rattle.std.proofs.lemmas.List.{map-append}
 use Rattle.apex_types.specs.declared.record.Ordered.{Ordered}
 use Rattle.apex_machine.specs.Runs.{ArePlaced, AreOfCores}
@@ -6,9 +6,11 @@ use Rattle.circular_buffer.specs.Buffer.{keep_last}
 use Rattle.placement.specs.Lanes.{AreHonest, IsFilled, Lead}
 use Rattle.placement.specs.Reading.{CanFail}
 use Rattle.user_rules.specs.Rules.{relations_of}
+use Rattle.verdict_merge.specs.Rounds.{cold_parts, parts_of}
 use Rattle.report.specs.Last.{item_of, most_last}
-use Rattle.report.specs.Rounds.{IsDecided, LeavesItsPiece}
-use Rattle.report.specs.Shown.{StillRejects}
+use Rattle.report.specs.Rounds.{IsDecided, LeavesItsBreach, LeavesItsPiece}
+use Rattle.report.specs.Shown.{StillBreaks, StillRejects}
+use Rattle.report.proofs.Breaking.{still_breaks}
 use Rattle.report.proofs.Going.{after_on, decided_on, filled_on, last_on}
 use Rattle.report.proofs.LastOnes.{kept_on}
 use Rattle.report.proofs.Rejecting.{still_rejects}
@@ -36,6 +38,36 @@ tell-requires-in-Ok-Some-clause-rejects g c =
     rw c.in-Ok-Some.field-0-is at (rw c.in-Ok-Some.is at (rw c.deref-in-rounds.ensures.value at c.judge_and_fill-decided.ensures.decided)) in
     subst (λ records. StillRejects config records (Ok verdict) judged) (sym c.deref-in-Ok-Some-2.ensures.value)
     (still_rejects config c.rounds.judge judged outcome.0 round (Ok verdict) outcome.2.0 outcome.2.2 c.rounds.invariant.may.placed decided.2)
+
+pub tell-requires-clause-breaks : goal.tell-requires-clause-breaks
+tell-requires-clause-breaks g c =
+    let config = c.args.config.now in
+    let relations = relations_of c.args.rules.now in
+    let outcome = c.rounds.invariant.outcome in
+    let round : List Ordered = c.rounds.round.items in
+    let judged = c.judge_last-answer.new.judge in
+    let leaves : LeavesItsBreach config relations c.rounds.judge round c.judge_last-answer.result judged = rw c.deref.ensures.value at c.judge_last-answer.ensures.breach in
+    let counted : c.rounds.judge.count ≡ 0 + length outcome.0 = omega (arith, outcome.2.2) in
+    rw c.deref-in-Ended-2.ensures.value
+    (still_breaks config relations (cold_parts config) (parts_of c.rounds.judge) 0 c.rounds.judge.count outcome.0 round c.judge_last-answer.result judged.breach
+    outcome.2.0 outcome.2.1 counted leaves)
+
+pub tell-requires-in-Ok-Some-clause-breaks : goal.tell-requires-in-Ok-Some-clause-breaks
+tell-requires-in-Ok-Some-clause-breaks g c =
+    let config = c.args.config.now in
+    let relations = relations_of c.args.rules.now in
+    let outcome = c.rounds.invariant.outcome in
+    let round : List Ordered = c.rounds.round.items in
+    let verdict = c.in-Ok-Some.verdict in
+    let judged = c.judge_and_fill-decided.new.judge in
+    let left : LeavesItsBreach config relations c.rounds.judge c.deref-in-rounds.result.now (Ok verdict) judged =
+    rw c.in-Ok-Some.field-0-is at (rw c.in-Ok-Some.is at c.judge_and_fill-decided.ensures.breach) in
+    let leaves : LeavesItsBreach config relations c.rounds.judge round (Ok verdict) judged =
+    subst (λ (list : List Ordered). LeavesItsBreach config relations c.rounds.judge list (Ok verdict) judged) c.deref-in-rounds.ensures.value left in
+    let counted : c.rounds.judge.count ≡ 0 + length outcome.0 = omega (arith, outcome.2.2) in
+    subst (λ records. StillBreaks config relations records (Ok verdict) judged.breach) (sym c.deref-in-Ok-Some-2.ensures.value)
+    (still_breaks config relations (cold_parts config) (parts_of c.rounds.judge) 0 c.rounds.judge.count outcome.0 round (Ok verdict) judged.breach
+    outcome.2.0 outcome.2.1 counted leaves)
 
 pub returns-in-Ended : goal.returns-in-Ended
 returns-in-Ended g c = λ honest.

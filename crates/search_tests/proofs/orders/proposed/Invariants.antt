@@ -6,4 +6,4 @@ use Rattle.search_tests.proofs.orders.proposed.Given as goal
 abbrev pub invariant-loop : goal.invariant-loop
 invariant-loop g l =
     let tip = g.T.Tip in
-    Agrees l.search (tip.undecided l.tip) (tip.is_ended l.tip)
+    Agrees l.search (tip.undecided l.tip)

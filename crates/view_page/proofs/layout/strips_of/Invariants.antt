@@ -1,5 +1,6 @@
 use Rattle.std.proofs.Common.{◌≤◌, ◌+◌, reverse}
-use Rattle.view_page.specs.Strips.{Cover, record_count}
+use Rattle.view_page.specs.Strips.{Cover}
+use Rattle.view_picture.specs.Records.{record_count}
 use Rattle.view_page.proofs.layout.strips_of.Given as goal
 
 -- the strips so far have the records from `to` on

@@ -1,5 +1,5 @@
 use Rattle.std.proofs.Common.{◌≡◌, inr}
-use Rattle.apexcheck.proofs.Asked.{of_error}
+use Rattle.apexcheck.proofs.Failed.{of_error}
 use Rattle.apexcheck.specs.declared.files.OpenFault.TheVariants.{Unopened}
 use Rattle.apexcheck.specs.Files.{RefusesOne}
 use Rattle.apexcheck.proofs.files.Opened+Observed+Watched+F.open.Goals as goal

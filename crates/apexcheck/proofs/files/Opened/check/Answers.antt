@@ -10,7 +10,8 @@ use Rattle.verdict_merge.specs.declared.verdict.Verdict.{Verdict}
 use Rattle.apexcheck.specs.declared.ending.Ending.{Ending}
 use Rattle.apexcheck.specs.Endings.{end_of_check}
 use Rattle.apexcheck.specs.Files.{given_of}
-use Rattle.apexcheck.specs.Ruled.{AnswersRuled, IsRuledEnding, rules_given, where_asked}
+use Rattle.asked_rules.specs.Asked.{rules_given}
+use Rattle.apexcheck.specs.Ruled.{AnswersRuled, IsRuledEnding, where_asked}
 use Rattle.apexcheck.proofs.files.Opened.check.Goals as goal
 
 -- a run ends by the answer under the rules that its text says

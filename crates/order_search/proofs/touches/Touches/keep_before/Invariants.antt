@@ -1,4 +1,3 @@
-use Rattle.std.proofs.Common.{vec_len}
 use Rattle.std.specs.VecDeque.{deque_len}
 use Rattle.order_search.proofs.touches.Touches.keep_before.Given as goal
 

@@ -1,34 +1,28 @@
--- The pieces take the first record, and the others are still kept.
-use Rattle.std.proofs.Common.{◌≡◌, ◌∷◌, List, length, ap, arith, refl, subst}
+-- The pieces take the first record again, and the others are still kept.
+use Rattle.std.proofs.Common.{◌≡◌, ◌∷◌, List, length, ap, arith, subst}
 use Rattle.apex_types.specs.declared.record.Ordered.{Ordered}
 use Rattle.run_walk.specs.Kept.{IsKept}
-use Rattle.run_walk.proofs.Kept.{first_core, first_going, kept_on}
+use Rattle.run_walk.proofs.Kept.{first_core, first_going, first_taken, kept_on}
 use Rattle.run_walk.proofs.span.Span.shorten.Goals as goal
 
-pub take_again-requires-clause-going : goal.take_again-requires-clause-going
-take_again-requires-clause-going c =
+pub give_up-requires : goal.give_up-requires
+give_up-requires c =
     let configuration = c.args.config.now in
-    let next = c.requires.0 in
+    let taken = c.requires.0 in
     let before = c.records.self.before in
-    first_going configuration next before c.in-Some.first c.pop_front.new.self.items
-    (subst (λ (kept : List Ordered). IsKept configuration next before kept) c.in-Some.ensures.items (c.records.invariant.kept next c.requires.1))
-
-pub take_again-requires-clause-core : goal.take_again-requires-clause-core
-take_again-requires-clause-core c =
-    let configuration = c.args.config.now in
-    let next = c.requires.0 in
-    let before = c.records.self.before in
-    first_core configuration next before c.in-Some.first c.pop_front.new.self.items
-    (subst (λ (kept : List Ordered). IsKept configuration next before kept) c.in-Some.ensures.items (c.records.invariant.kept next c.requires.1))
+    let kept : IsKept configuration taken before (c.in-Some.first ∷ c.pop_front.new.self.items) =
+    subst (λ (kept : List Ordered). IsKept configuration taken before kept) c.in-Some.ensures.items (c.records.invariant.kept taken c.requires.1) in
+    record {
+      going = first_going configuration taken before c.in-Some.first c.pop_front.new.self.items kept;
+      core = first_core configuration taken before c.in-Some.first c.pop_front.new.self.items kept;
+      accepted = first_taken configuration taken before c.in-Some.first c.pop_front.new.self.items kept;
+    }
 
 pub records-preserved : goal.records-preserved
 records-preserved c = record {
-  kept = λ next is.
-      kept_on c.args.config.now next c.records.self.before c.take_again.new.pieces c.in-Some.first c.pop_front.new.self.items
-      (subst (λ (kept : List Ordered). IsKept c.args.config.now next c.records.self.before kept) c.in-Some.ensures.items (c.records.invariant.kept next is))
-      (c.in_ok-rejected.ensures (rw c.in_default-2.is refl));
+  kept = λ taken is.
+      kept_on c.args.config.now taken c.records.self.before c.give_up.new.pieces c.in-Some.first c.pop_front.new.self.items
+      (subst (λ (kept : List Ordered). IsKept c.args.config.now taken c.records.self.before kept) c.in-Some.ensures.items (c.records.invariant.kept taken is))
+      c.in_ok-give_up.ensures.going c.in_ok-give_up.ensures.taken;
   many = λ enough. omega (arith, c.records-test.true, c.len.ensures, ap (λ (list : List Ordered). length list) c.in-Some.ensures.items);
 }
-
-pub returns-clause-kept : goal.returns-clause-kept
-returns-clause-kept c = λ ended. c.records.invariant.kept

@@ -1,10 +1,11 @@
-use Rattle.std.proofs.Common.{◌≤◌, ℕ, length}
+use Rattle.std.proofs.Common.{◌≤◌, ℕ, List, length}
+use Rattle.apex_types.specs.declared.record.Ordered.{Ordered}
 use Rattle.run_walk.specs.Kept.{IsKept}
 use Rattle.run_walk.proofs.span.Span.shorten.Given as goal
 
 abbrev pub invariant-records : goal.invariant-records
 invariant-records l = record {
-  kept : (next : ℕ) → IsKept l.config next l.fn.self.before l.fn.self.records.items → IsKept l.config next l.self.before l.self.records.items;
+  kept : (taken : List Ordered) → IsKept l.config taken l.fn.self.before l.fn.self.records.items → IsKept l.config taken l.self.before l.self.records.items;
   many : l.most ≤ length l.fn.self.records.items → l.most ≤ length l.self.records.items;
 }
 

@@ -1,0 +1,14 @@
+use Rattle.std.proofs.Common.{inl, inr}
+use Rattle.module_config.specs.Reading.{configuration_of}
+use Rattle.apexorder.proofs.Written.{none_received}
+use Rattle.apexorder.proofs.ruled.propose_ruled.Goals as goal
+
+pub returns-in-Ok-clause-certified : goal.returns-in-Ok-clause-certified
+returns-in-Ok-clause-certified g c = λ configuration texts read known.
+    inr (c.in-Ok.relations.items, c.in-Ok.ensures, c.propose_under.ensures.certified configuration texts read known)
+
+pub returns-in-Err : goal.returns-in-Err
+returns-in-Err g c = record {
+  rows = none_received (configuration_of c.args.text.now) _ c.args.output.now.bytes;
+  certified = λ configuration texts read known. inl c.out_of_memory.ensures;
+}

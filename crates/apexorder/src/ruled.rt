@@ -1,0 +1,72 @@
+// The search under the rules of options and of a rules file.
+
+ghost use Rattle.std.specs.Prelude.{◌≡◌, ℕ, List, Ok, Some, map, option_map};
+ghost use Rattle.apex_machine.specs.Configuration.{Configuration};
+ghost use Rattle.module_config.specs.Reading.{configuration_of};
+ghost use Rattle.record_read.specs.Row.{records_of};
+ghost use Rattle.rules_file.specs.Reading.{said};
+ghost use Rattle.apexorder.specs.Endings.{HasReceived, IsCertifiedBy};
+ghost use Rattle.apexorder.specs.Ruled.{IsCertified};
+
+use crate::ending::{Ending, out_of_memory};
+use crate::proposing::propose_into;
+use apex_types::View;
+use asked_rules::all_relations;
+use csv_rows::TextSource;
+use order_tip::Watcher;
+use rule_options::RuleOption;
+use rules_file::NamedRule;
+use sink::WriterSink;
+use std::alloc::Global;
+use std::io::Write;
+use user_rules::{Relation, Rule, Test};
+
+/// Searches for an order of these recordings, and tests rules on it: those that these options request, numbered in their order, and the
+/// named ones after them.
+pub fn propose_ruled<S: TextSource + Drop, V: Watcher, W: Write + Drop>(
+    alloc: Global,
+    effort: u64,
+    text: &[u8],
+    options: &[RuleOption],
+    rules: &[NamedRule],
+    cores: Vec<S>,
+    watcher: &mut V,
+    output: &mut WriterSink<W>,
+) -> Ending
+    ensures rows { HasReceived (configuration_of text.now) (map (λ source. option_map records_of (S.remaining source)) cores.items) output.old.bytes output.new.bytes }
+    ensures certified { (configuration : Configuration) (texts : List (List ℕ)) → configuration_of text.now ≡ Ok configuration → map S.remaining cores.items ≡ map Some texts → IsCertified configuration options.now (map said rules.now) texts output.old.bytes output.new.bytes result }
+{
+    match all_relations(alloc, options, rules) {
+        Ok(relations) => propose_under(alloc, effort, text, relations, cores, watcher, output),
+        Err(_) => out_of_memory(),
+    }
+}
+
+// Searches for an order of these recordings, and tests these relations on it.
+fn propose_under<S: TextSource + Drop, V: Watcher, W: Write + Drop>(
+    alloc: Global,
+    effort: u64,
+    text: &[u8],
+    relations: Vec<Relation>,
+    cores: Vec<S>,
+    watcher: &mut V,
+    output: &mut WriterSink<W>,
+) -> Ending
+    ensures rows { HasReceived (configuration_of text.now) (map (λ source. option_map records_of (S.remaining source)) cores.items) output.old.bytes output.new.bytes }
+    ensures certified { (configuration : Configuration) (texts : List (List ℕ)) → configuration_of text.now ≡ Ok configuration → map S.remaining cores.items ≡ map Some texts → IsCertifiedBy configuration relations.items texts output.old.bytes output.new.bytes result }
+{
+    let mut rules = Vec::new(alloc);
+    for relation in relations {
+        let Ok(tested) = relation.clone() else {
+            return out_of_memory();
+        };
+        let Ok(test) = Box::new(alloc, move |view: &View| tested.holds(view)) else {
+            return out_of_memory();
+        };
+        let test: Test = test;
+        if rules.push(Rule::new(relation, test)).is_err() {
+            return out_of_memory();
+        }
+    }
+    propose_into(alloc, effort, text, &rules, cores, watcher, output)
+}

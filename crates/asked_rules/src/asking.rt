@@ -1,0 +1,53 @@
+// The relations that are asked for, and the rules of a file.
+
+ghost use Rattle.std.specs.Prelude.{◌≡◌, IfOk, map, option_map};
+ghost use Rattle.rules_file.specs.Reading.{GivesPlaced, said};
+ghost use Rattle.asked_rules.specs.Asked.{HoldInTurn, SayBoth, walk_given};
+
+use rule_options::{RuleOption, relations_of};
+use rules_file::{NamedRule, RulesRefusal};
+use std::alloc::{AllocError, Global};
+use user_rules::Relation;
+
+/// The rules of a rules file, in its order; none if there is no file.
+///
+/// # Errors
+///
+/// The refusal has the key at which the walk over the text stops, or is that of memory.
+pub fn read_rules(alloc: Global, text: Option<&[u8]>) -> Result<Vec<NamedRule>, RulesRefusal>
+    ensures { GivesPlaced (λ rules. map said rules.items) result (walk_given (option_map (λ text. text.now) text.entry)) }
+{
+    match text {
+        Some(text) => rules_file::read_explained(alloc, text),
+        None => Ok(Vec::new(alloc)),
+    }
+}
+
+/// The relations that options request, followed by those of rules.
+///
+/// # Errors
+///
+/// `AllocError` if memory is refused.
+pub fn all_relations(
+    alloc: Global,
+    options: &[RuleOption],
+    rules: &[NamedRule],
+) -> Result<Vec<Relation>, AllocError>
+    ensures { IfOk result (λ relations. SayBoth options.now (map said rules.now) relations.items) }
+{
+    let mut relations = relations_of(alloc, options)?;
+    let mut those_after = relations_in(alloc, rules)?;
+    relations.append(&mut those_after)?;
+    Ok(relations)
+}
+
+// The relations of rules, in their order.
+fn relations_in(alloc: Global, rules: &[NamedRule]) -> Result<Vec<Relation>, AllocError>
+    ensures { IfOk result (λ relations. HoldInTurn (map said rules.now) relations.items) }
+{
+    let mut relations = Vec::new(alloc);
+    for rule in rules {
+        relations.push(rule.relation.clone()?)?;
+    }
+    Ok(relations)
+}

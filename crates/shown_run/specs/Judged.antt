@@ -1,0 +1,51 @@
+-- What a run that is shown comes to.
+use Rattle.std.specs.Prelude.{◌≡◌, ◌⊎◌, ℕ, List, Option, Some, None, Result, Ok, Err}
+use Rattle.apex_machine.specs.Configuration.{Configuration}
+use Rattle.piece_check.specs.Parts.{Holding}
+use Rattle.placement.specs.declared.fault.InputFault.{InputFault}
+use Rattle.placement.specs.declared.placer.Filled.{Filled}
+use Rattle.placement.specs.declared.placer.Filled.TheVariants.{Ended, Full}
+use Rattle.placement.specs.Lanes.{IsAhead, Placing}
+use Rattle.placement.specs.Reading.{CanFail}
+use Rattle.placement.specs.Scan.{Scan}
+use Rattle.report.specs.declared.fault.CheckFault.{CheckFault}
+use Rattle.report.specs.declared.fault.CheckFault.TheVariants.{Memory}
+use Rattle.report.specs.Outcome.{IsJudged, answer_with}
+use Rattle.user_rules.specs.declared.relation.Relation.{Relation}
+use Rattle.verdict_merge.specs.declared.verdict.Verdict.{Verdict}
+use Rattle.verdict_merge.specs.declared.verdict.Verdict.TheVariants.{Yes}
+use Rattle.verdict_merge.specs.Rounds.{Judging}
+use Rattle.shown_run.specs.declared.fault.FollowFault.{FollowFault}
+use Rattle.shown_run.specs.declared.fault.FollowFault.TheVariants.{Refused, Stopped}
+
+-- the pieces after so many records, as a check has them
+abbrev pub judging_of : ℕ → List Holding → Judging
+judging_of place pieces = record { count = place; pieces = pieces; breach = None }
+
+-- how a placer fills a round after which the input ends so, or goes on
+abbrev pub filled_of : Option (Result (Unit {0}) InputFault) → Filled
+filled_of None = Full
+filled_of (Some end) = Ended end
+
+-- the answer of a run after a round, up to this place: the verdict that decides in it, if one does; else, if the input ends so after it, Yes
+-- with the number of all records or the fault; and none if the run goes on
+abbrev pub answer_after : ℕ → Option (Result (Unit {0}) InputFault) → Option Verdict → Option (Result Verdict CheckFault)
+answer_after next end (Some verdict) = Some (Ok verdict)
+answer_after next (Some end) None = Some (answer_with (Yes next) end)
+answer_after next None None = None
+
+-- the answer is that of a check of what is ahead of the placer; a lack of memory outranks it
+abbrev pub IsAnswerOf : CanFail → Configuration → List Relation → Placing → Result Verdict CheckFault → Type 0
+IsAnswerOf can_fail configuration relations start answer =
+    (answer ≡ Err Memory) ⊎ ((scanned : Scan) × IsAhead can_fail start scanned × IsJudged configuration relations scanned answer)
+
+-- the same of a run that is followed, unless its follower stops it
+abbrev pub IsFollowed : {Stop : Type 0} → CanFail → Configuration → List Relation → Placing → Result Verdict (FollowFault Stop) → Type 0
+IsFollowed can_fail configuration relations start (Ok verdict) = IsAnswerOf can_fail configuration relations start (Ok verdict)
+IsFollowed can_fail configuration relations start (Err (Refused fault)) = IsAnswerOf can_fail configuration relations start (Err fault)
+IsFollowed can_fail configuration relations start (Err (Stopped stop)) = Unit {0}
+
+-- the answer of a run that its follower does not stop
+abbrev pub followed_by : {Stop : Type 0} → Result Verdict CheckFault → Result Verdict (FollowFault Stop)
+followed_by (Ok verdict) = Ok verdict
+followed_by (Err fault) = Err (Refused fault)

@@ -1,0 +1,43 @@
+// The stretch of a run that a picture shows.
+
+use apex_types::{Cause, Ordered};
+use run_walk::Walk;
+use std::collections::VecDeque;
+
+/// Which stretch is asked for.
+#[derive(Clone, Copy, Debug)]
+pub struct Asked {
+    /// The last place that the picture may show with its states.
+    pub at: Option<u64>,
+    /// How many records before its end it shows.
+    pub span: usize,
+}
+
+impl Asked {
+    /// How many records from this place on are not after the last place that may be shown.
+    pub(crate) fn count_from(&self, first: u64) -> usize {
+        match self.at {
+            Some(at) => at.saturating_add(1).saturating_sub(first) as usize,
+            None => usize::MAX,
+        }
+    }
+}
+
+/// A stretch of a run: the last records that were accepted, the pieces as they were before the first of them, the record that was
+/// rejected, and the records after it.
+#[derive(Drop)]
+pub struct Stretch {
+    pub before: Walk,
+    pub kept: VecDeque<Ordered>,
+    pub rejected: Option<Rejected>,
+    /// Whether the view of the last kept record breaks a rule.
+    pub is_broken: bool,
+    pub after: Vec<Ordered>,
+}
+
+/// A record that was rejected, and why.
+#[derive(Drop)]
+pub struct Rejected {
+    pub ordered: Ordered,
+    pub cause: Cause,
+}

@@ -1,0 +1,226 @@
+// The changes of a record, shown in a picture.
+
+use crate::picture::{Picture, ProcessNow};
+use apex_machine::Mode;
+use apex_types::{PartId, Who};
+use piece_check::Piece;
+use run_view::{Change, CoreView, ProcessState, ProcessView, ThingKey, view_of};
+use std::alloc::AllocError;
+use view_words::{
+    Hold, KeyName, LaneKey, add_words, mode_saying, occupant_saying, process_name, process_saying,
+    quoted, thing_saying, verb_of, window_saying,
+};
+use wording::Numbered;
+
+impl Picture {
+    // Shows changes from this column on, and adds them in words.
+    pub(crate) fn apply(
+        &mut self,
+        pieces: &[Piece],
+        changes: &[Change],
+        column: usize,
+        told: &mut String,
+    ) -> Result<(), AllocError> {
+        for change in changes {
+            match change {
+                Change::Core(view) => self.apply_core(column, view, told)?,
+                Change::Mode(part, mode) => self.apply_mode(column, part, *mode, told)?,
+                Change::Process(who, view) => {
+                    self.apply_process(pieces, column, who, view, told)?;
+                }
+                Change::Ended(who) => {
+                    add_words(told, format_args!("{} is no longer there", Numbered(*who)))?;
+                    self.processes.retain(|process| process.who != *who);
+                    self.end_lane(LaneKey::Process(*who), column)?;
+                }
+                Change::Thing(key) => self.apply_thing(pieces, column, key, told)?,
+                Change::Removed(key) => {
+                    add_words(told, format_args!("{} is no longer there", KeyName(*key)))?;
+                    self.end_lane(LaneKey::Thing(*key), column)?;
+                }
+            }
+        }
+        self.say_processes(column)
+    }
+
+    fn end_lane(&mut self, key: LaneKey, column: usize) -> Result<(), AllocError> {
+        let lane = self.lane(key, "")?;
+        lane.bars.end(column);
+        lane.concerned.push(column)?;
+        Ok(())
+    }
+
+    fn apply_mode(
+        &mut self,
+        column: usize,
+        part: &PartId,
+        mode: Mode,
+        told: &mut String,
+    ) -> Result<(), AllocError> {
+        let saying = mode_saying(self.alloc, *part, mode, false)?;
+        add_words(told, format_args!("{}", saying.title))?;
+        let lane = self.lane(LaneKey::Partition(*part), "")?;
+        lane.bars.say(column, saying)?;
+        lane.concerned.push(column)?;
+        Ok(())
+    }
+
+    fn apply_core(
+        &mut self,
+        column: usize,
+        view: &CoreView,
+        told: &mut String,
+    ) -> Result<(), AllocError> {
+        let window = window_saying(self.alloc, view)?;
+        let occupant = occupant_saying(self.alloc, view)?;
+        let last = match self.cores.iter().find(|last| last.core == view.core) {
+            Some(last) => Some(*last),
+            None => None,
+        };
+        if !matches!(&last, Some(last) if last.window == view.window) {
+            add_words(told, format_args!("{}", window.title))?;
+        }
+        if !matches!(&last, Some(last) if last.occupant == view.occupant) {
+            add_words(told, format_args!("{}", occupant.title))?;
+        }
+        self.keep_core(view)?;
+        let lane = self.lane(LaneKey::Core(view.core), "")?;
+        lane.windows.say(column, window)?;
+        lane.bars.say(column, occupant)
+    }
+
+    // Keeps what is known of a core.
+    fn keep_core(&mut self, view: &CoreView) -> Result<(), AllocError> {
+        match self.cores.iter().position(|last| last.core == view.core) {
+            Some(index) => self.cores[index] = *view,
+            None => self.cores.push(*view)?,
+        }
+        Ok(())
+    }
+
+    fn apply_process(
+        &mut self,
+        pieces: &[Piece],
+        column: usize,
+        who: &Who,
+        view: &ProcessView,
+        told: &mut String,
+    ) -> Result<(), AllocError> {
+        let is_affected = self.is_affected(who, view);
+        self.keep_process(who, view)?;
+        let name = process_name(self.alloc, pieces, who)?;
+        let lane = self.lane(LaneKey::Process(*who), name.as_str())?;
+        if !is_affected {
+            return Ok(());
+        }
+        lane.concerned.push(column)?;
+        let saying = process_saying(self.alloc, who, view, Hold::Waits)?;
+        let verb = verb_of(saying.look);
+        add_words(
+            told,
+            format_args!("{} {verb}{}", Numbered(*who), saying.text),
+        )?;
+        let (current, base) = (view.current_priority, view.base_priority);
+        if current != base {
+            add_words(
+                told,
+                format_args!("its priority is {current}, and its own {base}"),
+            )?;
+        }
+        Ok(())
+    }
+
+    // Whether a process is new, does something else, or has another priority.
+    fn is_affected(&self, who: &Who, view: &ProcessView) -> bool {
+        match self.processes.iter().find(|process| process.who == *who) {
+            Some(last) => {
+                last.view.state != view.state || last.view.current_priority != view.current_priority
+            }
+            None => true,
+        }
+    }
+
+    // Keeps what is known of a process.
+    fn keep_process(&mut self, who: &Who, view: &ProcessView) -> Result<(), AllocError> {
+        match self
+            .processes
+            .iter()
+            .position(|process| process.who == *who)
+        {
+            Some(index) => self.processes[index].view = *view,
+            None => self.processes.push(ProcessNow {
+                who: *who,
+                view: *view,
+                hold: Hold::Waits,
+            })?,
+        }
+        Ok(())
+    }
+
+    fn apply_thing(
+        &mut self,
+        pieces: &[Piece],
+        column: usize,
+        key: &ThingKey,
+        told: &mut String,
+    ) -> Result<(), AllocError> {
+        let Some(view) = view_of(self.alloc, pieces, key)? else {
+            return Ok(());
+        };
+        let saying = thing_saying(self.alloc, key, &view)?;
+        add_words(told, format_args!("{}", saying.title))?;
+        let name = quoted(self.alloc, view.name.as_slice())?;
+        let lane = self.lane(LaneKey::Thing(*key), name.as_str())?;
+        lane.bars.say(column, saying)?;
+        lane.concerned.push(column)?;
+        Ok(())
+    }
+
+    // Shows what each process does from this column on.
+    fn say_processes(&mut self, column: usize) -> Result<(), AllocError> {
+        for index in 0..self.processes.len() {
+            self.say_process(column, index)?;
+        }
+        Ok(())
+    }
+
+    // Shows what the process with this index does from this column on.
+    fn say_process(&mut self, column: usize, index: usize) -> Result<(), AllocError> {
+        let Some(process) = self.processes.get(index) else {
+            return Ok(());
+        };
+        let before = process.hold;
+        let now = self.hold_of(process);
+        let saying = process_saying(self.alloc, &process.who, &process.view, now)?;
+        let key = LaneKey::Process(process.who);
+        if let Some(process) = self.processes.get_mut(index) {
+            process.hold = now;
+        }
+        let lane = self.lane(key, "")?;
+        if before != now {
+            lane.concerned.push(column)?;
+        }
+        lane.bars.say(column, saying)
+    }
+
+    // What a process now has of its core.
+    fn hold_of(&self, process: &ProcessNow) -> Hold {
+        if process.view.state != ProcessState::Ready {
+            return Hold::Waits;
+        }
+        let affinity = &process.view.affinity;
+        let Some(core) = self.cores.iter().find(|core| core.core == *affinity) else {
+            return Hold::Waits;
+        };
+        let Some(occupant) = &core.occupant else {
+            return Hold::Waits;
+        };
+        if *occupant == process.who {
+            return Hold::Runs;
+        }
+        match process.hold {
+            Hold::Runs | Hold::Lost if occupant.part == process.who.part => Hold::Lost,
+            Hold::Runs | Hold::Lost | Hold::Waits => Hold::Waits,
+        }
+    }
+}

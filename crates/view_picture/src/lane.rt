@@ -1,0 +1,77 @@
+// A lane of a picture.
+
+use crate::bars::Bars;
+use std::alloc::Global;
+use view_words::LaneKey;
+
+/// What is in a lane at a column.
+#[derive(Clone, Copy, Debug, PartialEq, Eq)]
+pub enum MarkKind {
+    Tick,
+    Dispatch,
+    Call,
+    Return,
+    /// The partition restarts.
+    Restart,
+    /// What the rejected record says.
+    Rejected,
+    /// What would have been lawful.
+    Lawful,
+    /// What is unlawful.
+    Unlawful,
+}
+
+impl MarkKind {
+    /// Whether the mark has its text beside it, like those in the column of a rejected record.
+    pub fn is_box(self) -> bool {
+        match self {
+            MarkKind::Rejected | MarkKind::Lawful | MarkKind::Unlawful => true,
+            MarkKind::Tick
+            | MarkKind::Dispatch
+            | MarkKind::Call
+            | MarkKind::Return
+            | MarkKind::Restart => false,
+        }
+    }
+}
+
+/// A mark in a lane at a column, with its text.
+#[derive(Debug, Drop)]
+pub struct Mark {
+    pub column: usize,
+    pub kind: MarkKind,
+    pub text: String,
+}
+
+/// A lane: its subject, its label, its bars and its marks. The windows of a core are bars of their own.
+#[derive(Drop)]
+pub struct Lane {
+    pub key: LaneKey,
+    pub label: String,
+    pub windows: Bars,
+    pub bars: Bars,
+    pub marks: Vec<Mark>,
+    /// The columns at which it acts or is affected, in rising order.
+    pub concerned: Vec<usize>,
+}
+
+impl Lane {
+    /// A lane with nothing in it.
+    pub fn new(alloc: Global, key: LaneKey, label: String) -> Lane {
+        Lane {
+            key,
+            label,
+            windows: Bars::new(alloc),
+            bars: Bars::new(alloc),
+            marks: Vec::new(alloc),
+            concerned: Vec::new(alloc),
+        }
+    }
+
+    /// Whether it acts or is affected at one of these columns.
+    pub fn is_concerned(&self, from: usize, to: usize) -> bool {
+        self.concerned
+            .iter()
+            .any(|column| from <= *column && *column < to)
+    }
+}

@@ -1,0 +1,207 @@
+// A picture as it grows, record by record.
+
+ghost use Rattle.std.specs.Prelude.{◌≡◌, ◌<◌, IfOk, length};
+ghost use Rattle.view_picture.specs.Records.{record_count};
+
+use crate::arrow::Arrow;
+use crate::column::{Column, Source, Status, source_text};
+use crate::lane::{Lane, MarkKind};
+use crate::marks::actor_of;
+use apex_types::{Body, CoreId, Ordered, Who};
+use piece_check::Piece;
+use run_view::{Change, CoreView, Followed, Lawful, ProcessView};
+use std::alloc::{AllocError, Global};
+use view_words::{Hold, LaneKey, label_of, label_of_lane, words_of};
+
+/// A stretch of a run as a picture.
+#[derive(Drop)]
+pub struct Picture {
+    pub(crate) alloc: Global,
+    pub(crate) columns: Vec<Column>,
+    // In the order in which they are shown.
+    pub(crate) lanes: Vec<Lane>,
+    pub(crate) arrows: Vec<Arrow>,
+    pub(crate) cores: Vec<CoreView>,
+    pub(crate) processes: Vec<ProcessNow>,
+}
+
+// A process as it is now.
+#[derive(Clone, Copy)]
+pub(crate) struct ProcessNow {
+    pub(crate) who: Who,
+    pub(crate) view: ProcessView,
+    pub(crate) hold: Hold,
+}
+
+/// A record that is added to a picture.
+#[derive(Clone, Copy)]
+pub struct Added<'a> {
+    pub ordered: &'a Ordered,
+    pub source: Source<'a>,
+    pub status: Status,
+}
+
+impl Picture {
+    /// A picture without a record.
+    pub fn new(alloc: Global) -> Picture {
+        Picture {
+            alloc,
+            columns: Vec::new(alloc),
+            lanes: Vec::new(alloc),
+            arrows: Vec::new(alloc),
+            cores: Vec::new(alloc),
+            processes: Vec::new(alloc),
+        }
+    }
+
+    /// Shows what the pieces hold before the first record: all of it is among the changes.
+    pub fn begin(&mut self, pieces: &[Piece], changes: &[Change]) -> Result<(), AllocError> {
+        let mut told = String::new(self.alloc);
+        self.apply(pieces, changes, 0, &mut told)?;
+        for lane in self.lanes.iter_mut() {
+            lane.concerned.clear();
+        }
+        Ok(())
+    }
+
+    /// Adds a record that is accepted, with what it changed, and the message that it receives.
+    pub fn accept(
+        &mut self,
+        pieces: &[Piece],
+        added: &Added<'_>,
+        changes: &[Change],
+        followed: &Followed,
+    ) -> Result<(), AllocError> {
+        let column = self.columns.len();
+        let mut told = String::new(self.alloc);
+        self.apply(pieces, changes, column, &mut told)?;
+        self.mark_record(column, added.ordered)?;
+        self.add_wakes(column, added.ordered)?;
+        if let Some(received) = &followed.received {
+            self.add_message(column, added.ordered, &received.sent)?;
+        }
+        self.add_column(added, told)
+    }
+
+    /// Adds the record that is rejected, the name of the cause, and what would have been lawful. No state is shown from there on.
+    pub fn reject(
+        &mut self,
+        added: &Added<'_>,
+        cause: &str,
+        lawful: &[Lawful],
+    ) -> Result<(), AllocError> {
+        let column = self.columns.len();
+        self.end_bars(column);
+        let actor = actor_of(added.ordered);
+        let text = format!(in self.alloc; "rejected: {cause}")?;
+        self.add_mark(actor, column, MarkKind::Rejected, text)?;
+        if let Body::Disp(Some(who)) = &added.ordered.rec.body {
+            let text = String::from_str(self.alloc, "is dispatched")?;
+            self.add_mark(LaneKey::Process(*who), column, MarkKind::Unlawful, text)?;
+        }
+        for one in lawful {
+            self.add_lawful(column, one)?;
+        }
+        self.add_column(added, String::new(self.alloc))
+    }
+
+    /// Adds a record after the last one whose states are shown.
+    pub fn follow(&mut self, added: &Added<'_>) -> Result<(), AllocError> {
+        let column = self.columns.len();
+        self.end_bars(column);
+        self.add_column(added, String::new(self.alloc))
+    }
+
+    /// How many records there are.
+    pub fn len(&self) -> usize
+        ensures { result ≡ record_count self.now }
+    {
+        self.columns.len()
+    }
+
+    /// The records in their order.
+    pub fn columns(&self) -> &[Column]
+        ensures { length result.now ≡ record_count self.now }
+    {
+        self.columns.as_slice()
+    }
+
+    /// The lanes, in the order in which they are shown.
+    pub fn lanes(&self) -> &[Lane] {
+        self.lanes.as_slice()
+    }
+
+    /// The arrows between lanes.
+    pub fn arrows(&self) -> &[Arrow] {
+        self.arrows.as_slice()
+    }
+
+    /// Where its memory comes from.
+    pub fn alloc(&self) -> Global {
+        self.alloc
+    }
+
+    // The open bars end before this column.
+    fn end_bars(&mut self, column: usize) {
+        for lane in self.lanes.iter_mut() {
+            lane.windows.end(column);
+            lane.bars.end(column);
+        }
+    }
+
+    fn add_column(&mut self, added: &Added<'_>, changes: String) -> Result<(), AllocError> {
+        let ordered = added.ordered;
+        let time = match added.status {
+            Status::Accepted | Status::Broken => self.time_of(&ordered.core),
+            Status::Rejected | Status::After | Status::Beyond => None,
+        };
+        let label = label_of(self.alloc, ordered, time)?;
+        let source = source_text(self.alloc, &added.source)?;
+        self.columns.push(Column {
+            place: ordered.pos,
+            core: ordered.core,
+            time,
+            status: added.status,
+            label,
+            source,
+            words: words_of(self.alloc, ordered)?,
+            changes,
+        })?;
+        Ok(())
+    }
+
+    fn time_of(&self, core: &CoreId) -> Option<u64> {
+        match self.cores.iter().find(|view| view.core == *core) {
+            Some(view) => Some(view.time),
+            None => None,
+        }
+    }
+
+    // The lane of this key, which is added if there is none; the name is added to its label.
+    pub(crate) fn lane(&mut self, key: LaneKey, name: &str) -> Result<&mut Lane, AllocError> {
+        let index = self.lane_index(&key, name)?;
+        Ok(&mut self.lanes[index])
+    }
+
+    // The index of that lane.
+    fn lane_index(&mut self, key: &LaneKey, name: &str) -> Result<usize, AllocError>
+        ensures { IfOk result (λ index. index < length self.new.lanes.items) }
+    {
+        let rank = key.rank();
+        let before = self
+            .lanes
+            .iter()
+            .filter(|lane| lane.key.rank() < rank)
+            .count();
+        let index = before.min(self.lanes.len());
+        if let Some(lane) = self.lanes.get(index) {
+            if lane.key == *key {
+                return Ok(index);
+            }
+        }
+        let label = label_of_lane(self.alloc, key, name)?;
+        self.lanes
+            .insert(index, Lane::new(self.alloc, *key, label))?;
+        Ok(index)
+    }
+}

@@ -1,0 +1,59 @@
+// Where the events of a trace are.
+
+use crate::event::Track;
+use apex_types::{Body, CoreId, Ordered, PartId, Who};
+
+/// The processes of the trace: one for the cores, one for the channels, and one for each partition from a number on.
+pub const CORES: u64 = 1;
+
+pub const CHANNELS: u64 = 2;
+
+pub const FIRST_PARTITION: u64 = 10;
+
+/// The threads of a partition: one for its mode, and one for each process from a number on.
+pub const MODE: u64 = 1;
+
+pub const FIRST_PROCESS: u64 = 2;
+
+// The processes whose waits a record ends.
+pub fn woken_by(ordered: &Ordered) -> &[Who] {
+    match &ordered.rec.body {
+        Body::Call(call) => call.claim.woken.as_slice(),
+        Body::Tick(woken) => woken.as_slice(),
+        Body::Ret(_) | Body::Disp(_) => &[],
+    }
+}
+
+// The track of the process or the core that makes a record.
+pub fn actor_of(ordered: &Ordered) -> Track {
+    match &ordered.rec.body {
+        Body::Call(call) => process_track(call.who),
+        Body::Ret(ret) => process_track(ret.who),
+        Body::Disp(_) | Body::Tick(_) => core_track(ordered.core),
+    }
+}
+
+pub fn core_track(core: CoreId) -> Track {
+    Track {
+        process: CORES,
+        thread: u64::from(core.number()) + 1,
+    }
+}
+
+pub fn process_of(part: PartId) -> u64 {
+    FIRST_PARTITION + u64::from(part.number())
+}
+
+pub fn mode_track(part: PartId) -> Track {
+    Track {
+        process: process_of(part),
+        thread: MODE,
+    }
+}
+
+pub fn process_track(who: Who) -> Track {
+    Track {
+        process: process_of(who.part),
+        thread: FIRST_PROCESS + u64::from(who.proc.number()),
+    }
+}
