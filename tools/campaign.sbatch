@@ -8,4 +8,4 @@
 #SBATCH --array=0-19
 #SBATCH --cpus-per-task=4
 set -euo pipefail
-exec make -f tools/campaign.mk -j "$(((SLURM_CPUS_PER_TASK + 1) / 2))" SHARES="$SLURM_ARRAY_TASK_COUNT" SHARE="$SLURM_ARRAY_TASK_ID"
+exec tools/campaign --jobs "$(((SLURM_CPUS_PER_TASK + 1) / 2))" --shares "$SLURM_ARRAY_TASK_COUNT" --share "$SLURM_ARRAY_TASK_ID" recordings results

@@ -171,7 +171,9 @@ def wrong_body_of(root: Path, edit: Path, by_path: dict[str, list[Function]]) ->
         if word != "old":
             continue
         files.append(path)
-        at = positions((root / path).read_text(encoding="utf-8"), text)
+        # .ci/wrong_bodies_apply refuses an edit of a file that there is not; here it changes no function.
+        source = root / path
+        at = positions(source.read_text(encoding="utf-8"), text) if source.exists() else -1
         there = by_path.get(path, [])
         found = bisect_right([it.start for it in there], at) - 1
         if at >= 0 and found >= 0:

@@ -1,4 +1,4 @@
-"""Reads links.toml, the links that no text of the repository gives."""
+"""Reads links.toml and bodies.toml, the links that no text of the repository gives."""
 import tomllib
 from dataclasses import dataclass, field
 from pathlib import Path
@@ -17,8 +17,16 @@ class Link:
 
 
 @dataclass
+class Broken:
+    """The one rule or promise whose words begin so and that wrong bodies break, by patterns over CRATE/NAME."""
+    bodies: list[str]
+    rule: str = ""
+    promise: str = ""
+
+
+@dataclass
 class Hand:
-    """The file: links of rules, texts that explain, and how words are to be read."""
+    """The files: links of rules, texts that explain, and how words are to be read."""
     set_up: set[str]
     spoken: set[str]
     means: dict[str, str]
@@ -26,11 +34,13 @@ class Hand:
     causes: dict[str, list[str]]
     explains: list[str]
     links: list[Link]
+    broken: list[Broken]
 
 
-def hand_of(path: Path) -> Hand:
-    """Reads the file."""
-    data = tomllib.loads(path.read_text(encoding="utf-8"))
+def hand_of(folder: Path) -> Hand:
+    """Reads the files of a folder."""
+    data = tomllib.loads((folder / "links.toml").read_text(encoding="utf-8"))
+    broken = tomllib.loads((folder / "bodies.toml").read_text(encoding="utf-8"))["body"]
     kinds = {name: kind for kind, names in data["kinds"].items() for name in names}
     return Hand(set(data["set_up"]), set(data["spoken"]), data["means"], kinds, data["causes"], data["explains"],
-                [Link(**link) for link in data["link"]])
+                [Link(**link) for link in data["link"]], [Broken(**it) for it in broken])

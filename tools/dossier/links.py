@@ -2,6 +2,7 @@
 import re
 from collections.abc import Callable
 from dataclasses import dataclass, field
+from fnmatch import fnmatchcase
 from functools import cache
 
 from cases import cases_of, services_of
@@ -15,8 +16,10 @@ FACTS = re.compile(r"Facts$|^WorkedRun$")
 MOST_STEPS = 6
 # a clause that cites a definition further away is no news where there is a nearer one
 MOST_OF_SEVERAL = 4
+# how a wrong body of a rule itself is found; others are of a whole of which the rule is a part, or are only near it
+BY_HAND, IN_FUNCTION = "by hand", "in a function whose clause cites a definition of the rule"
 BESIDE_THE_PROGRAM = {
-    "apex_laws", "explanation", "input_explanation", "config_explanation", "rules_explanation", "toml_lines", "program_words", "sarif_report", "wording", "run_view", "run_walk", "view_page", "view_trace", "apexview",
+    "apex_laws", "explanation", "input_explanation", "config_explanation", "rules_explanation", "toml_lines", "program_words", "sarif_report", "wording", "run_view", "run_walk", "view_words", "view_picture", "markup", "view_page", "view_trace", "apexview",
     "part_tests", "intake_tests", "crate_tests",
 }
 Goal = Callable[[str], bool]
@@ -60,13 +63,19 @@ class Row:
         return bool(self.definitions) and all(it.path.endswith(".rt") for it in self.definitions)
 
     @property
+    def has_own_body(self) -> bool:
+        """Whether a wrong body breaks the rule itself, and not only something near it."""
+        return any(why in (BY_HAND, IN_FUNCTION) for _, why in self.bodies)
+
+    @property
     def missing(self) -> list[str]:
         """The kinds of partner that a rule has none of. A law is proved of all recordings, and has no code to be wrong."""
         have = {"definition": self.definitions, "law": self.laws, "clause": self.carried, "case": self.exercises, "wrong body": self.bodies}
         if self.explains or self.is_plain:
             return []
         asked = ("definition", "law") if self.is_law or self.rule.part == "13" else tuple(have)
-        return [name for name in asked if not have[name]]
+        own = ["own wrong body"] if "wrong body" in asked and self.bodies and not self.has_own_body else []
+        return [name for name in asked if not have[name]] + own
 
 
 class Dossier:
@@ -89,6 +98,9 @@ class Dossier:
         self.in_function = {key: [body for body in self.code.bodies if key in body.functions] for key in self.code.functions}
         self.callers = self.callers_of()
         self._drop_unknown()
+        self.broken_rules: dict[str, list[WrongBody]] = {}
+        self.promise_by_hand: dict[str, int] = {}
+        self._read_broken()
         self.rows = [self._row(rule) for rule in self.rules]
 
     def _drop_unknown(self) -> None:
@@ -102,6 +114,23 @@ class Dossier:
                 named = getattr(link, what)
                 self.said += [f"links.toml has {it} under {what}, which there is not: {link.rule}" for it in named if it not in there]
                 setattr(link, what, [it for it in named if it in there])
+
+    def _read_broken(self) -> None:
+        """Notes which rule or promise is given for which wrong bodies, and as a fault what fits nothing or more than one."""
+        for given in self.hand.broken:
+            bodies = [body for body in self.code.bodies for pattern in given.bodies if fnmatchcase(f"{body.crate}/{body.name}", pattern)]
+            for pattern in given.bodies:
+                if not any(fnmatchcase(f"{body.crate}/{body.name}", pattern) for body in self.code.bodies):
+                    self.said.append(f"bodies.toml has {pattern}, which no wrong body fits")
+            rules = [rule.text for rule in self.rules if given.rule and rule.text.startswith(given.rule)]
+            promises = [it.number for it in self.code.promises if given.promise and it.words.startswith(given.promise)]
+            if len(rules) + len(promises) != 1:
+                self.said.append(f"{len(rules) + len(promises)} rules or promises begin with: {given.rule or given.promise}")
+                continue
+            if rules:
+                self.broken_rules.setdefault(rules[0], []).extend(bodies)
+            for body in bodies if promises else []:
+                self.promise_by_hand.setdefault(body.path, promises[0])
 
     def _read_clauses(self) -> None:
         """Notes which clauses cite a definition, and which definitions are laws: those of functions without code."""
@@ -137,6 +166,14 @@ class Dossier:
             level = [caller for key in level for caller in self.callers.get(key, ()) if caller not in seen]
             seen |= set(level)
         return []
+
+    def promises_of(self, body: WrongBody) -> tuple[list[str], list[int]]:
+        """The nearest functions with a promise that call what a wrong body changes, or are it, with their promises; else the promise by hand."""
+        callers = self.promised_callers(body.functions)
+        promises = sorted({number for key in callers for number in self.code.functions[key].promises})
+        if not promises and body.path in self.promise_by_hand:
+            promises = [self.promise_by_hand[body.path]]
+        return callers, promises
 
     def whole(self, definition: Definition) -> Definition:
         """The definition itself, or the one of which it is a case or a field."""
@@ -242,17 +279,17 @@ class Dossier:
     def bodies_of(self, row: Row, link: Link) -> list[tuple[WrongBody, str]]:
         """The wrong bodies of a rule: of the functions whose clause cites its definitions; else of those that carry it by way of
         others; else of the files of these functions."""
-        by_name = {body.name: body for body in self.code.bodies}
-        found = {name: (by_name[name], "by hand") for name in link.bodies}
+        by_hand = [body for body in self.code.bodies if body.name in link.bodies] + self.broken_rules.get(row.rule.text, [])
+        found = {body.path: (body, BY_HAND) for body in by_hand}
         cited = [it.function.key for it in row.carried if len(it.path) == 1 and it.clause.word == "ensures"]
         direct = [body for key in cited for body in self.in_function[key]]
         by_way = [body for it in row.carried for body in self.in_function[it.function.key]]
         in_file = [body for it in row.carried for body in self.code.bodies if it.function.path in body.files]
-        ways = [("in a function whose clause cites a definition of the rule", direct),
+        ways = [(IN_FUNCTION, direct),
                 ("in a function that carries the rule by way of other definitions", by_way), ("in the file of such a function", in_file)]
         why, bodies = next((way for way in ways if way[1]), ("", []))
-        for body in bodies if direct or not link.bodies else []:
-            found.setdefault(body.name, (body, why))
+        for body in bodies if direct or not by_hand else []:
+            found.setdefault(body.path, (body, why))
         return sorted(found.values(), key=lambda it: it[0].path)
 
     def faults(self) -> list[str]:
@@ -262,6 +299,9 @@ class Dossier:
             count = sum(rule.text.startswith(text) for rule in self.rules)
             if count != 1:
                 said.append(f"{count} rules begin with: {text}")
+        of_rules = {body.path for row in self.rows for body, _ in row.bodies}
+        said += [f"{body.path} has no rule and no promise: tools/dossier/bodies.toml gives it one"
+                 for body in self.code.bodies if body.path not in of_rules and not self.promises_of(body)[1]]
         for rule in self.rules:
             said += [f"{rule.number} names {name}, which is no definition" for name in rule.unknown]
             said += [f"{rule.number} may mean one of several: {name}" for name in rule.ambiguous]

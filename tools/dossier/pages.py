@@ -117,7 +117,8 @@ def bodies_part(dossier: Dossier, row: Row) -> str:
         return ""
     whys = "; ".join(dict.fromkeys(why for _, why in row.bodies))
     items = cut([body_item(body) for body, _ in row.bodies], "rule_wrong_body.csv")
-    return f"<i>({whys})</i>{items}{audit_words(dossier, list(dict.fromkeys(body.crate for body, _ in row.bodies)))}"
+    own = "" if row.has_own_body else "<b class=none>none of its own</b> "
+    return f"{own}<i>({whys})</i>{items}{audit_words(dossier, list(dict.fromkeys(body.crate for body, _ in row.bodies)))}"
 
 
 def standard_of(row: Row) -> list[str]:
@@ -200,9 +201,9 @@ the rows that it shares with its file, except for creations, START, SET_PARTITIO
 with the code of a condition count, and a No about the outcome of a call. A rule that names no service goes by its object, by the kind of the record that is rejected, or by the cause or
 fault that the case expects. A link says that the case has such a record, and not that the case tests nothing else. Beside each file is how many of its cases count,
 and how many of those expect a No or a refusal there.</li>
-<li><b>Wrong bodies.</b> The edits of the functions whose clause cites a definition of the rule; where there is none, those of the functions that carry the
-rule by way of others, and else those in the same file. docs/AUDIT.md counts by crate, so an audit is given by crate.</li>
-<li><b>By hand.</b> Links that no text gives are in tools/dossier/links.toml.</li></ul>"""
+<li><b>Wrong bodies.</b> Those that are given by hand, and the edits of the functions whose clause cites a definition of the rule: these are the rule's own.
+Where there is none, those of the functions that carry the rule by way of others, and else those in the same file: they are near the rule, and it is listed as open. docs/AUDIT.md counts by crate, so an audit is given by crate.</li>
+<li><b>By hand.</b> Links that no text gives are in tools/dossier/links.toml and tools/dossier/bodies.toml.</li></ul>"""
 
 
 def rules_page(dossier: Dossier) -> str:
@@ -236,11 +237,10 @@ def bodies_list(dossier: Dossier) -> list[str]:
     rules = reverse_of(dossier.rows, lambda row: [body.path for body, _ in row.bodies])
     found = []
     for body in dossier.code.bodies:
-        callers = dossier.promised_callers(body.functions)
-        promises = sorted({number for key in callers for number in dossier.code.functions[key].promises})
+        callers, promises = dossier.promises_of(body)
         links = ", ".join(f'<a href="#p{number}">{number}</a>' for number in promises)
         names = ", ".join(f"<code>{text(function_name(key))}</code>" for key in callers)
-        by_call = "" if set(callers) <= set(body.functions) else f" of {names}"
+        by_call = " by hand" if not callers else "" if set(callers) <= set(body.functions) else f" of {names}"
         numbers = rules.get(body.path, [])
         other = f"no rule; promises {links}{by_call}" if promises else "<b class=none>no rule and no promise</b>"
         said = f"rules {rule_links(numbers)}" if numbers else other
@@ -294,16 +294,18 @@ def definitions_list(dossier: Dossier) -> tuple[list[str], list[str]]:
 
 
 OTHER_DIRECTION = """<p>The other direction of <a href="rules.html">rules.html</a>. A wrong body without a rule has the promises of the function
-that it changes, or of the nearest functions of its crate that call this one; one that has neither changes a function whose name its crate has
-more than once, or that only methods of a trait call. Its file says what it changes.</p>"""
+that it changes, or of the nearest functions of its crate that call this one; where no call says so, as with a method of a trait or a name that its crate has
+more than once, tools/dossier/bodies.toml gives it its rule or its promise.</p>"""
 
 
 def gaps_list(dossier: Dossier) -> list[str]:
     """The rules without a partner, by the kind of partner."""
     found = []
-    for name in ("definition", "law", "clause", "case", "wrong body"):
+    for name in ("definition", "law", "clause", "case", "wrong body", "own wrong body"):
         items = "".join(f"<li>{item}</li>" for item in gap_items(dossier, name))
-        found.append(f"no {name}<ul>{items}</ul>")
+        said = "no wrong body of its own: those that rules.html shows are only near the rule" if name == "own wrong body" else f"no {name}"
+        count = sum(name in row.missing for row in dossier.rows)
+        found.append(f"{said} ({count} of {len(dossier.rows)} rules)<ul>{items}</ul>")
     return found
 
 

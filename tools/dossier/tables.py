@@ -54,7 +54,8 @@ def tables(dossier: Dossier) -> dict[str, str]:
                                 [[row.rule.number, it.file.name, it.count, it.refusals, "; ".join(it.names)] for row in rows for it in row.exercises]),
         "rule_wrong_body.csv": csv_of(["rule", "crate", "wrong body", "why"],
                                       [[row.rule.number, body.crate, body.name, shortened(why)] for row in rows for body, why in row.bodies]),
-        "wrong_bodies.csv": csv_of(["crate", "set", "wrong body", "functions", "last audit of the crate", "rules"],
+        "wrong_bodies.csv": csv_of(["crate", "set", "wrong body", "functions", "last audit of the crate", "rules", "promises"],
                                    [[it.crate, it.part, it.name, " ".join(function_name(key) for key in it.functions),
-                                     audit.of(it.crate), " ".join(bodies.get(it.path, []))] for it in dossier.code.bodies]),
+                                     audit.of(it.crate), " ".join(bodies.get(it.path, [])),
+                                     " ".join(map(str, dossier.promises_of(it)[1]))] for it in dossier.code.bodies]),
     }
