@@ -4,13 +4,16 @@ crates/case_runner/data/README.md describes their form.
 """
 import re
 import subprocess
+import sys
 import tempfile
 from dataclasses import dataclass, field
 from pathlib import Path
 
+sys.path.append(str(Path(__file__).resolve().parent.parent / "tools/dossier"))
+from cases import sections_of  # noqa: E402
+
 SECONDS = 20
 
-HEADING = re.compile(r"-- (.+) --$")
 CHANGED = re.compile(r"(config\.toml|rules\.toml|order\.csv|core\d+\.csv)(?: (line|from line) (\d+)| (\d+) times)?$")
 VALUED = re.compile(r"(workers|depth) (\d+)$")
 
@@ -85,20 +88,6 @@ def cases_of(path: Path) -> list[Case]:
         else:
             (cases[-1] if cases else shared).take(heading, lines)
     return cases
-
-
-def sections_of(text: str) -> list[tuple[str, list[str]]]:
-    """The heading of each section with its lines, without empty ones at their end."""
-    found: list[tuple[str, list[str]]] = []
-    for line in text.split("\n"):
-        if heading := HEADING.match(line):
-            found.append((heading[1], []))
-        elif found:
-            found[-1][1].append(line)
-    for _, lines in found:
-        while lines and not lines[-1]:
-            lines.pop()
-    return found
 
 
 def words_of(case: Case) -> list[bytes]:

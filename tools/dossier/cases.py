@@ -43,9 +43,9 @@ class CaseFile:
 
 
 def sections_of(text: str) -> list[tuple[str, list[str]]]:
-    """The heading of each section with its lines, without the text before the first one."""
+    """The heading of each section with its lines, without the text before the first one and without empty lines at the end."""
     found: list[tuple[str, list[str]]] = []
-    for line in text.splitlines():
+    for line in text.split("\n"):
         heading = HEADING.match(line)
         if heading:
             found.append((heading[1], []))
