@@ -1,14 +1,15 @@
 #!/usr/bin/env bash
 # All tests, after the line of the kit that runs them: that each wrong body applies; that docs/FORMATS.md lists the services of the
-# table; that the documents name the crates and calls that there are; that the dossier is what the sources give; the program on one
+# table, and explanations name rules that there are; that the documents name the crates and calls that there are; that the parsers,
+# helps, pages and completions have the options of their table; that the dossier has no dead link; the program on one
 # example through real files; every proof, every wrong body of the gate's set, every test and each program as two compilers build
 # it; the programs as their users run them, with the words of worked cases on standard error, on hostile texts and files, with logs
 # of their outcomes, at a terminal, installed and packed, in one command, and on many recordings; the search for orders, the
-# walkthrough of the guide, and the pictures and traces of apexview; each allocation refused in turn that a waiting set makes for
-# its first entry; and so each of the program's, without rules, with options that ask for rules, with a rules file, with so many
-# rules that several threads test them, with a message between partitions, and with several who wait at a blackboard; and each of
-# apexview's, for a page, a picture and a trace. Every part runs, also after one that fails. At the end come the costs of each crate
-# and the counts of each part. The last line is their sum, `N passed, 0 failed`.
+# walkthrough of the guide, the pictures and traces of apexview, and the recorder in C; each allocation refused in turn that a
+# waiting set makes for its first entry; and so each of the program's, without rules, with options that ask for rules, with a rules
+# file, with so many rules that several threads test them, with a message between partitions, and with several who wait at a
+# blackboard; and each of apexview's, for a page, a picture and a trace. Every part runs, also after one that fails. At the end
+# come the costs of each crate and the counts of each part. The last line is their sum, `N passed, 0 failed`.
 #
 # `bash test.sh quick` shows without a proof, in minutes, that everything works. `bash audit.sh` tries all wrong bodies.
 set -euo pipefail

@@ -1,6 +1,7 @@
 """Reads the worked cases and the examples: which services they call, with which outcomes, and what each must answer."""
 import re
 from dataclasses import dataclass, field
+from functools import cached_property
 from pathlib import Path
 
 HEADING = re.compile(r"^-- (.+) --$")
@@ -16,17 +17,23 @@ Texts = dict[str, list[str]]
 class Case:
     """One case: the services that it calls, each with its outcome, what its line says, and the record that a No is about.
 
-    `said` has the causes and faults of the line, `kind` and `service` are of the rejected record.
+    `said` has the causes and faults of the line, `kind` and `service` are of the rejected record. `line` is that of its heading,
+    and 0 for an example.
     """
     name: str
     answers: set[tuple[str, str]]
     said: set[str]
     kind: str = ""
     service: str = ""
+    line: int = 0
 
     def concerns(self, services: list[str]) -> bool:
         """Whether it calls one of these services, or its No is at one."""
-        return self.service in services or any(service in services for service, _ in self.answers)
+        return self.service in services or not self._called.isdisjoint(services)
+
+    @cached_property
+    def _called(self) -> set[str]:
+        return {service for service, _ in self.answers}
 
     def has_code(self, services: list[str]) -> bool:
         """Whether a call of one of these services has the code of an error condition, or its outcome is what a No is about."""
@@ -71,6 +78,13 @@ def changed(texts: Texts, heading: str, lines: list[str]) -> None:
         texts[name] = lines
 
 
+def lines_of_cases(text: str) -> dict[str, int]:
+    """The line of each case's heading by the name of the case."""
+    headings = {number: HEADING.match(line) for number, line in enumerate(text.split("\n"), 1)}
+    named = {number: found[1].removeprefix("case ") for number, found in headings.items() if found and found[1].startswith("case ")}
+    return {name: number for number, name in reversed(named.items())}
+
+
 def rows_of(texts: Texts) -> list[list[str]]:
     """The fields of the rows of all recordings."""
     return [line.split(",") for name in sorted(texts) if re.fullmatch(r"core\d+\.csv", name) for line in texts[name]]
@@ -109,11 +123,14 @@ def case_file(root: Path, path: Path, set_up: set[str]) -> CaseFile:
     own: list[list[str]] = []
     cut: set[str] = set()
     report, shared_report, name = "", "", ""
-    for heading, lines in sections_of(path.read_text(encoding="utf-8")) + [("case", [])]:
+    text = path.read_text(encoding="utf-8")
+    line_of = lines_of_cases(text)
+    for heading, lines in sections_of(text) + [("case", [])]:
         if heading == "case" or heading.startswith("case "):
             if name:
                 file.cases.append(case_of(name, own, texts, report, set_up))
                 file.cases[-1].said |= cut
+                file.cases[-1].line = line_of[name]
             name, own, cut, report = heading.removeprefix("case "), [], set(), shared_report
             texts = dict(shared)
         elif heading == "report":

@@ -15,11 +15,12 @@ SETS = {"must-fail": "the gate's", "wrong-bodies": "the audit's"}
 
 @dataclass
 class Clause:
-    """A clause of a contract, with the keys of the definitions that it cites."""
+    """A clause of a contract as it is in the source, with the keys of the definitions that it cites."""
     word: str
     name: str
     line: int
     cites: set[str]
+    text: str
 
 
 @dataclass
@@ -60,13 +61,14 @@ class Promise:
 
 @dataclass
 class WrongBody:
-    """A wrong body, with the functions that it changes."""
+    """A wrong body: the edit as it is in its file, and the functions that it changes."""
     crate: str
     part: str
     name: str
     path: str
     files: list[str]
     functions: list[str]
+    text: str
 
 
 def closed(text: str, start: int) -> int:
@@ -103,9 +105,10 @@ def functions_of(index: Index, path: Path) -> list[Function]:
                             bool(re.search(r"^ *\{\}$", body, re.M)))
         function.calls = set(CALLED.findall(body)) - {function.last}
         for clause in CLAUSE.finditer(body):
-            within = body[clause.end() - 1:closed(body, clause.end() - 1)]
+            end = closed(body, clause.end() - 1)
+            within = body[clause.end() - 1:end]
             line = function.line + body.count("\n", 0, clause.start(1))
-            function.clauses.append(Clause(clause[1], clause[2] or "", line, index.mentioned(shown, within)))
+            function.clauses.append(Clause(clause[1], clause[2] or "", line, index.mentioned(shown, within), body[clause.start(1):end]))
         found.append(function)
     return found
 
@@ -163,7 +166,8 @@ def wrong_body_of(root: Path, edit: Path, by_path: dict[str, list[Function]]) ->
     """A wrong body, with the functions in which its old texts are."""
     crate, part = edit.parts[-3], edit.parts[-2]
     path, files, functions = "", [], []
-    for line in edit.read_text(encoding="utf-8").splitlines():
+    edit_text = edit.read_text(encoding="utf-8")
+    for line in edit_text.splitlines():
         word, _, text = line.partition(":")
         text = text.removeprefix(" ")
         if word == "file":
@@ -179,7 +183,7 @@ def wrong_body_of(root: Path, edit: Path, by_path: dict[str, list[Function]]) ->
         if at >= 0 and found >= 0:
             functions.append(there[found].key)
     shown = str(edit.relative_to(root))
-    return WrongBody(crate, part, edit.stem, shown, sorted(set(files)), sorted(set(functions)))
+    return WrongBody(crate, part, edit.stem, shown, sorted(set(files)), sorted(set(functions)), edit_text)
 
 
 @dataclass

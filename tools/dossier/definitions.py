@@ -14,7 +14,10 @@ STANDARD = re.compile(r"\(([^()]*section \d[^()]*)\)\s*$")
 
 @dataclass
 class Definition:
-    """A definition, a plain type, or a case or field of one of them (then `parent` names it)."""
+    """A definition, a plain type, or a case or field of one of them (then `parent` names it).
+
+    `text` is what it says without comments, and `source` its lines as they are in the file.
+    """
     crate: str
     path: str
     line: int
@@ -23,6 +26,7 @@ class Definition:
     comment: str = ""
     parent: str = ""
     text: str = ""
+    source: list[str] = field(default_factory=list)
     mentions: set[str] = field(default_factory=set)
 
     @property
@@ -38,6 +42,23 @@ class Definition:
         """The heading of the standard that the comment names, if it names one."""
         found = STANDARD.search(self.comment)
         return found[1] if found else ""
+
+
+def lines_of_definition(lines: list[str], at: int) -> list[str]:
+    """The lines of a definition of specs/ that begins at an index: up to an empty line or the next comment."""
+    end = at + 1
+    while end < len(lines) and lines[end].strip() and not lines[end].startswith("--"):
+        end += 1
+    return lines[at:end]
+
+
+def lines_of_type(lines: list[str], at: int) -> list[str]:
+    """The lines of a plain type or a constant that begins at an index: up to the line that closes it."""
+    end = at
+    if not lines[at].endswith((";", "}")):
+        while end + 1 < len(lines) and not lines[end].startswith(("}", "]", ")")):
+            end += 1
+    return lines[at:end + 1]
 
 
 def parts_of(group: str) -> list[str]:
@@ -108,7 +129,7 @@ class Index:
             found = DECLARED.match(line)
             if found:
                 kind = "sentence" if found[1] in ("record", "data") else "definition"
-                open_one = Definition(crate, shown, number, kind, found[2], " ".join(comment))
+                open_one = Definition(crate, shown, number, kind, found[2], " ".join(comment), source=lines_of_definition(lines, number - 1))
                 self._add(open_one)
             elif line.startswith(("use ", "pub ", "infixl", "--")):
                 open_one = open_one if line.startswith("--") and not comment and open_one and lines[number - 2] else None
@@ -124,11 +145,12 @@ class Index:
         shown, crate = str(path.relative_to(self.root)), path.relative_to(self.root).parts[1]
         open_one: Definition | None = None
         comment: list[str] = []
-        for number, line in enumerate(path.read_text(encoding="utf-8").splitlines(), 1):
+        lines = path.read_text(encoding="utf-8").splitlines()
+        for number, line in enumerate(lines, 1):
             found = TYPE.match(line)
             if found:
                 kind = "constant" if found[1] in ("const", "static") else "type"
-                open_one = Definition(crate, shown, number, kind, found[2], " ".join(comment))
+                open_one = Definition(crate, shown, number, kind, found[2], " ".join(comment), source=lines_of_type(lines, number - 1))
                 self._add(open_one)
             elif line.startswith("}"):
                 open_one = None

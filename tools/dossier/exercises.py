@@ -14,15 +14,20 @@ PARTS_OF_OBJECTS = "3456789"
 
 @dataclass
 class Exercise:
-    """A file of cases that exercises a rule: how many of its cases do, how many of these expect a refusal there, and why.
+    """A file of cases that exercises a rule: which of its cases do, how many of these expect a refusal there, and why.
 
-    `names` has the cases that are linked by their names.
+    `cases` begins with those that expect a refusal. `names` has the cases that are linked by their names.
     """
     file: CaseFile
-    count: int
+    cases: list[Case]
     refusals: int
     why: str
     names: list[str] = field(default_factory=list)
+
+    @property
+    def count(self) -> int:
+        """How many cases of the file exercise the rule."""
+        return len(self.cases)
 
 
 def services_in(services: list[str], rule: Rule, link: Link) -> list[str]:
@@ -51,7 +56,8 @@ def counted(files: list[CaseFile], why: str, exercised: Callable[[Case], bool], 
     found = []
     for file in files:
         cases = [case for case in file.cases if exercised(case)]
-        found.append(Exercise(file, len(cases), sum(refused(case) for case in cases), why))
+        first = [case for case in cases if refused(case)]
+        found.append(Exercise(file, first + [case for case in cases if not refused(case)], len(first), why))
     return sorted((it for it in found if it.count), key=lambda it: (-it.refusals, -it.count, it.file.name))
 
 
@@ -79,7 +85,7 @@ def by_hand(files: list[CaseFile], link: Link) -> list[Exercise]:
     found = []
     for name, names in chosen.items():
         cases = [case for case in by_name[name].cases if case.name in names or not names]
-        found.append(Exercise(by_name[name], len(cases), sum(bool(case.said) for case in cases), "by hand", names))
+        found.append(Exercise(by_name[name], cases, sum(bool(case.said) for case in cases), "by hand", names))
     return found
 
 

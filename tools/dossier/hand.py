@@ -26,7 +26,7 @@ class Broken:
 
 @dataclass
 class Hand:
-    """The files: links of rules, texts that explain, and how words are to be read."""
+    """The files: links of rules, texts that explain, how words are to be read, and how many rules may be without a kind of partner."""
     set_up: set[str]
     spoken: set[str]
     means: dict[str, str]
@@ -35,6 +35,7 @@ class Hand:
     explains: list[str]
     links: list[Link]
     broken: list[Broken]
+    open: dict[str, int]
 
 
 def hand_of(folder: Path) -> Hand:
@@ -43,4 +44,4 @@ def hand_of(folder: Path) -> Hand:
     broken = tomllib.loads((folder / "bodies.toml").read_text(encoding="utf-8"))["body"]
     kinds = {name: kind for kind, names in data["kinds"].items() for name in names}
     return Hand(set(data["set_up"]), set(data["spoken"]), data["means"], kinds, data["causes"], data["explains"],
-                [Link(**link) for link in data["link"]], [Broken(**it) for it in broken])
+                [Link(**link) for link in data["link"]], [Broken(**it) for it in broken], data["open"])

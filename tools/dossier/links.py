@@ -6,6 +6,7 @@ from fnmatch import fnmatchcase
 from functools import cache
 
 from cases import cases_of, services_of
+from chains import Chain, Chains
 from contracts import Clause, Code, Function, WrongBody, code_of
 from definitions import Definition, Index
 from exercises import Exercise, exercises_of, services_in, services_of_objects
@@ -14,13 +15,15 @@ from rules import Rule, rules_of
 
 FACTS = re.compile(r"Facts$|^WorkedRun$")
 MOST_STEPS = 6
+# the kinds of partner that a rule is asked for
+KINDS = ["definition", "law", "clause", "chain", "case", "wrong body", "own wrong body"]
 # a clause that cites a definition further away is no news where there is a nearer one
 MOST_OF_SEVERAL = 4
 # how a wrong body of a rule itself is found; others are of a whole of which the rule is a part, or are only near it
 BY_HAND, IN_FUNCTION = "by hand", "in a function whose clause cites a definition of the rule"
 BESIDE_THE_PROGRAM = {
-    "apex_laws", "explanation", "input_explanation", "config_explanation", "rules_explanation", "toml_lines", "program_words", "sarif_report", "wording", "run_view", "run_walk", "view_words", "view_picture", "markup", "view_page", "view_trace", "apexview",
-    "part_tests", "intake_tests", "crate_tests",
+    "apex_laws", "explanation", "input_explanation", "config_explanation", "rules_explanation", "toml_lines", "program_words", "sarif_report", "wording", "run_view", "run_walk", "view_words", "view_picture", "markup", "view_page", "view_trace", "view_ending", "shown_files", "view_drawing", "apexview",
+    "part_tests", "intake_tests", "round_tests", "crate_tests", "test_runs",
 }
 Goal = Callable[[str], bool]
 
@@ -56,11 +59,17 @@ class Row:
     is_law: bool = False
     services: list[str] = field(default_factory=list)
     known_as: str = ""
+    chain: Chain | None = None
 
     @property
     def is_plain(self) -> bool:
         """Whether a rule names plain types alone, of which no law and no clause speaks by itself."""
         return bool(self.definitions) and all(it.path.endswith(".rt") for it in self.definitions)
+
+    @property
+    def is_a_law(self) -> bool:
+        """Whether a rule is a law itself, which no clause of a call rests on. Part 13 has the laws."""
+        return self.is_law or self.rule.part == "13"
 
     @property
     def has_own_body(self) -> bool:
@@ -70,10 +79,11 @@ class Row:
     @property
     def missing(self) -> list[str]:
         """The kinds of partner that a rule has none of. A law is proved of all recordings, and has no code to be wrong."""
-        have = {"definition": self.definitions, "law": self.laws, "clause": self.carried, "case": self.exercises, "wrong body": self.bodies}
+        have = {"definition": self.definitions, "law": self.laws, "clause": self.carried, "chain": self.chain, "case": self.exercises,
+                "wrong body": self.bodies}
         if self.explains or self.is_plain:
             return []
-        asked = ("definition", "law") if self.is_law or self.rule.part == "13" else tuple(have)
+        asked = ("definition", "law") if self.is_a_law else tuple(have)
         own = ["own wrong body"] if "wrong body" in asked and self.bodies and not self.has_own_body else []
         return [name for name in asked if not have[name]] + own
 
@@ -95,8 +105,12 @@ class Dossier:
         self.citing: dict[str, list[tuple[Function, Clause]]] = {}
         self.law_of: dict[str, Function] = {}
         self._read_clauses()
-        self.in_function = {key: [body for body in self.code.bodies if key in body.functions] for key in self.code.functions}
+        self.in_function: dict[str, list[WrongBody]] = {key: [] for key in self.code.functions}
+        for body in self.code.bodies:
+            for key in body.functions:
+                self.in_function[key].append(body)
         self.callers = self.callers_of()
+        self.chains = Chains(index, self.code)
         self._drop_unknown()
         self.broken_rules: dict[str, list[WrongBody]] = {}
         self.promise_by_hand: dict[str, int] = {}
@@ -271,6 +285,8 @@ class Dossier:
         row.services = services_in(self.services, rule, link)
         if row.explains:
             return row
+        if not row.is_a_law:
+            row.chain = self.chains.of([self.whole(it) for it in row.definitions], [(it.definition, it.path[::-1]) for it in row.laws])
         row.carried = self.carried_by(row)
         row.exercises = exercises_of(self.cases, self.hand, rule, row.services, services_of_objects(self.services, rule), link)
         row.bodies = self.bodies_of(row, link)
@@ -284,7 +300,8 @@ class Dossier:
         cited = [it.function.key for it in row.carried if len(it.path) == 1 and it.clause.word == "ensures"]
         direct = [body for key in cited for body in self.in_function[key]]
         by_way = [body for it in row.carried for body in self.in_function[it.function.key]]
-        in_file = [body for it in row.carried for body in self.code.bodies if it.function.path in body.files]
+        files = {it.function.path for it in row.carried} if not direct and not by_way else set()
+        in_file = [body for body in self.code.bodies if not files.isdisjoint(body.files)]
         ways = [(IN_FUNCTION, direct),
                 ("in a function that carries the rule by way of other definitions", by_way), ("in the file of such a function", in_file)]
         why, bodies = next((way for way in ways if way[1]), ("", []))
@@ -305,6 +322,16 @@ class Dossier:
         for rule in self.rules:
             said += [f"{rule.number} names {name}, which is no definition" for name in rule.unknown]
             said += [f"{rule.number} may mean one of several: {name}" for name in rule.ambiguous]
+        return said + self.new_gaps()
+
+    def new_gaps(self) -> list[str]:
+        """The kinds of partner of which more rules have none than links.toml says are open."""
+        said = []
+        for kind in KINDS:
+            open_now = [row.rule.number for row in self.rows if kind in row.missing]
+            known = self.hand.open.get(kind, 0)
+            if len(open_now) > known:
+                said.append(f"{len(open_now)} rules have no {kind}, and links.toml says under `open` that {known} have none: {' '.join(open_now)}")
         return said
 
 

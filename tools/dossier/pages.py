@@ -1,104 +1,127 @@
-"""Writes the dossier's pages: HTML that needs no script and no other file."""
-import re
-from html import escape
-
+"""Writes the page of all rules, and the one of their partners."""
+from chains import ANSWER, Chain
 from contracts import SETS, WrongBody
 from definitions import STANDARD, Definition
 from exercises import Exercise
-from links import Carried, Dossier, Law, Row, reverse_of
+from html_words import at, function_name, inline, page, rule_links, text
+from links import KINDS, Carried, Dossier, Law, Row, reverse_of
 
 MOST_SHOWN = 4
 MOST_LAWS = 3
-STYLE = """body{font:16px/1.5 sans-serif;max-width:62em;margin:1em auto;padding:0 1em}code{font-size:.9em;background:#f2f2f2}
-section{border-top:1px solid #bbb;margin-top:1.2em}h3{margin:.6em 0 .2em}dt{font-weight:bold;float:left;width:8.5em}
-dd{margin:0 0 .3em 9em}b.none{color:#a00}i{color:#444}table{border-collapse:collapse}
-td,th{border:1px solid #bbb;padding:.1em .5em;text-align:left;vertical-align:top}"""
+MOST_CASES = 3
+# a text of more lines is shown in part, with a link to the rest; one that the rule does not name itself is opened by hand
+MOST_LINES = 40
+# a law that speaks of a larger whole is opened by hand too
+NEAR = 2
 
 
-def text(words: str) -> str:
-    """Words as HTML. Quotes stay, since no attribute has them."""
-    return escape(words, quote=False)
+def excerpt(lines: list[str], path: str, line: int, is_open: bool) -> str:
+    """The text of a definition, of which the first lines are shown if it is long."""
+    if not lines:
+        return ""
+    more = len(lines) - MOST_LINES
+    rest = f"{more} more lines are at {at(path, line + MOST_LINES)}" if more > 0 else ""
+    return f'<details{" open" if is_open else ""}><summary>its text</summary><pre>{text(chr(10).join(lines[:MOST_LINES]))}</pre>{rest}</details>'
 
 
-def inline(markdown: str) -> str:
-    """Markdown of one line as HTML: code, bold and slanted text."""
-    shown = text(markdown)
-    shown = re.sub(r"`([^`]+)`", r"<code>\1</code>", shown)
-    shown = re.sub(r"\*\*([^*]+)\*\*", r"<b>\1</b>", shown)
-    return re.sub(r"\*([^*]+)\*", r"<i>\1</i>", shown)
+def body_link(body: WrongBody) -> str:
+    """A link to a wrong body."""
+    return f'<a href="bodies/{body.crate}.html#{body.part}-{body.name}">{body.crate}/{body.part}/{body.name}</a>'
 
 
-def page(title: str, body: list[str]) -> str:
-    """A whole page."""
-    head = f'<!DOCTYPE html>\n<html lang="en"><head><meta charset="utf-8"><title>{text(title)}</title>\n<style>{STYLE}</style></head><body>'
-    return "\n".join([head, f"<h1>{text(title)}</h1>", *body, "</body></html>"]) + "\n"
+def linked(dossier: Dossier, key: str) -> str:
+    """A definition by its key, as a link."""
+    it = dossier.index.all[key]
+    return f'<a href="sources/{text(it.path)}.html#L{it.line}"><code>{text(it.shown)}</code></a>'
 
 
-def at(path: str, line: int = 0) -> str:
-    """A link to a file of the repository, with the line in its text."""
-    shown = re.sub(r"^crates/|(?<=/)(?:specs|src|case_runner/data)/", "", path) + (f":{line}" if line else "")
-    return f'<a href="../../{text(path)}">{text(shown)}</a>'
+def rises(dossier: Dossier, keys: list[str]) -> str:
+    """A way up, each definition mentioned by the next."""
+    return " → ".join(linked(dossier, key) for key in keys)
 
 
-def rule_links(numbers: list[str]) -> str:
-    """Links to rules by their numbers."""
-    return ", ".join(f'<a href="rules.html#{number}">{number}</a>' for number in numbers)
-
-
-def way(path: list[str]) -> str:
+def way(dossier: Dossier, path: list[str]) -> str:
     """The definitions between a rule and what it is linked to, the rule's own first."""
-    names = [key.split(":")[1] for key in path]
-    return f' <i>by way of {text(" → ".join(names))}</i>' if len(names) > 1 else ""
+    return f" <i>by way of {rises(dossier, path)}</i>" if len(path) > 1 else ""
 
 
 def cut(items: list[str], file: str, most: int = MOST_SHOWN) -> str:
     """The first items of a list, and where the others are."""
-    more = f"<li>and {len(items) - most} more in {file}</li>" if len(items) > most + 1 else ""
+    more = f'<li>and {len(items) - most} more in <a href="{file}">{file}</a></li>' if len(items) > most + 1 else ""
     shown = items[:most] if more else items
     return "<ul>" + "".join(f"<li>{item}</li>" for item in shown) + more + "</ul>"
 
 
 def case_item(it: Exercise) -> str:
-    """A file of cases, with how many of them exercise a rule, and those that are linked by name."""
-    names = "".join(f", “{text(name)}”" for name in it.names)
+    """A file of cases, with how many of them exercise a rule, and the lines of those that are linked by name, or else of the first ones."""
     cases = "1 case" if len(it.file.cases) == 1 else f"{len(it.file.cases)} cases"
+    shown = it.cases if it.names else it.cases[:MOST_CASES]
+    links = [f'<a href="sources/{it.file.path}.html#L{case.line}">{text(case.name)}</a>' for case in shown if case.line]
+    names = f": {'; '.join(links)}{' and others' if len(shown) < it.count else ''}" if links else ""
     return f"{at(it.file.path)}: {it.count} of {cases}, {it.refusals} refused{names}"
 
 
-def function_name(key: str) -> str:
-    """The name of a function by its key, without its file."""
-    return key.split(":", 1)[1]
+def definition_items(dossier: Dossier, row: Row) -> list[str]:
+    """The definitions of a rule, each with its place, its comment and its text; of a case or a field the text of the whole, once."""
+    wholes = [dossier.whole(it) for it in row.definitions]
+    return [definition_item(row, it, whole, whole in wholes[:number]) for number, (it, whole) in enumerate(zip(row.definitions, wholes))]
 
 
-def definition_item(definition: Definition) -> str:
-    """A definition with its place and its comment."""
+def definition_item(row: Row, definition: Definition, whole: Definition, is_shown: bool) -> str:
+    """A definition of a rule, with the text of the whole unless it is shown already."""
     said = STANDARD.sub("", definition.comment).strip()
     comment = f" – {inline(said)}" if said else ""
-    return f"<code>{text(definition.shown)}</code>, {at(definition.path, definition.line)}{comment}"
+    is_open = definition in row.rule.named and definition is whole
+    said = "" if is_shown else excerpt(whole.source, whole.path, whole.line, is_open)
+    return f"<code>{text(definition.shown)}</code>, {at(definition.path, definition.line)}{comment}{said}"
 
 
-def law_item(law: Law) -> str:
-    """A law with its place and its function."""
+def law_item(dossier: Dossier, law: Law) -> str:
+    """A law with its place, its function and its text."""
     it, function = law.definition, law.function
-    place = f"{function.path.removeprefix('crates/')}:{function.line}"
-    return f"<code>{text(it.name)}</code>, {at(it.path, it.line)}; function <code>{function.name}</code>, {place}{way(law.path[::-1])}"
+    comment = f" – {inline(it.comment)}" if it.comment else ""
+    return (f"<code>{text(it.name)}</code>, {at(it.path, it.line)}{comment}; proved as the contract of <code>{function.name}</code>, "
+            f"{at(function.path, function.line)}{way(dossier, law.path[::-1])}{excerpt(it.source, it.path, it.line, len(law.path) <= NEAR)}")
 
 
-def carried_item(it: Carried) -> str:
-    """A clause that carries a rule, with its function and the promises of that call."""
+def chain_part(dossier: Dossier, chain: Chain | None) -> str:
+    """The steps from a rule's definition to the clause of `check`."""
+    if not chain:
+        return ""
+    chains, field = dossier.chains, chain.field
+    answer = dossier.index.all[ANSWER]
+    steps, up = [], chain.above
+    if chain.by_law:
+        steps.append(f"The law {linked(dossier, chain.by_law[-1])} ties {linked(dossier, chain.by_law[0])} to "
+                     f"{linked(dossier, chain.within[0])}{way(dossier, chain.by_law[:-1])}")
+        up = chain.within + chain.above[1:]
+    elif len(chain.within) > 1:
+        steps.append(f"It is a part of {linked(dossier, chain.within[-1])}: {rises(dossier, chain.within)}")
+    says = f'<a href="sources/{answer.path}.html#L{field.line}"><code>{field.name}</code></a> of {linked(dossier, ANSWER)}'
+    steps.append(f"{rises(dossier, up)}, which is the field {says}: “{text(field.says)}”")
+    call = f"<code>check</code> ({at(chains.call.path, chains.call.line)})"
+    promise = f'<a href="partners.html#p{chains.call.promises[0]}">promise {chains.call.promises[0]}</a>'
+    steps.append(f"This is what the clause ({at(chains.call.path, chains.clause.line)}) of the public call {call} says: "
+                 f"{' → '.join(linked(dossier, key) for key in chains.down)}; {promise}")
+    return "<ol>" + "".join(f"<li>{step}.</li>" for step in steps) + "</ol>"
+
+
+def carried_item(dossier: Dossier, it: Carried) -> str:
+    """A clause that carries a rule, with its text, its function and the promises of that call."""
     unnamed = "its one clause" if len(it.function.clauses) == 1 else "a clause without a name"
     name = f"clause <code>{it.clause.name}</code>" if it.clause.name else unnamed
     words = "" if it.clause.word == "ensures" else " (required)"
     promises = ", ".join(f'<a href="partners.html#p{number}">promise {number}</a>' for number in it.function.promises[:3])
     kind = f"public call, {promises}" if promises else "inside the crate"
     cited = f"cites <code>{text(it.cited.name)}</code>"
-    return f"<code>{text(it.function.name)}</code>, {at(it.function.path, it.clause.line)}: {name}{words} {cited}; {kind}{way(it.path)}"
+    return (f"<code>{text(it.function.name)}</code>, {at(it.function.path, it.function.line)}: {name}{words} {cited}; {kind}{way(dossier, it.path)}"
+            f"<pre>{text(it.clause.text)}</pre>")
 
 
 def body_item(body: WrongBody) -> str:
-    """A wrong body with the functions that it changes."""
+    """A wrong body with its edit, and the functions that it changes."""
     functions = ", ".join(f"<code>{text(function_name(key))}</code>" for key in body.functions)
-    return f"{at(body.path)}, {SETS[body.part]} set, changes {functions}"
+    return f"{body_link(body)}, {SETS[body.part]} set, changes {functions}<pre>{text(body.text.rstrip())}</pre>"
 
 
 def audit_words(dossier: Dossier, crates: list[str]) -> str:
@@ -117,7 +140,8 @@ def bodies_part(dossier: Dossier, row: Row) -> str:
         return ""
     whys = "; ".join(dict.fromkeys(why for _, why in row.bodies))
     items = cut([body_item(body) for body, _ in row.bodies], "rule_wrong_body.csv")
-    own = "" if row.has_own_body else "<b class=none>none of its own</b> "
+    is_open = "own wrong body" in row.missing
+    own = "" if row.has_own_body else "<b class=none>none of its own: this is open</b> " if is_open else "none is asked of a law; near it are some "
     return f"{own}<i>({whys})</i>{items}{audit_words(dossier, list(dict.fromkeys(body.crate for body, _ in row.bodies)))}"
 
 
@@ -153,15 +177,16 @@ def rule_section(dossier: Dossier, row: Row) -> list[str]:
     if standard_of(row):
         parts.append(("In the standard", "; ".join(text(it) for it in standard_of(row))))
     how = "" if row.how == "named" else f' <i>({row.how})</i>'
-    definitions = cut([definition_item(it) for it in row.definitions], "rule_definition.csv")
+    definitions = cut(definition_items(dossier, row), "rule_definition.csv")
     parts.append(("Definitions", how + definitions if row.definitions else ""))
-    parts.append(("Law", cut([law_item(it) for it in row.laws], "rule_law.csv", MOST_LAWS) if row.laws else ""))
-    parts.append(("Clause and call", cut([carried_item(it) for it in row.carried], "rule_clause.csv") if row.carried else ""))
+    parts.append(("Law", cut([law_item(dossier, it) for it in row.laws], "rule_law.csv", MOST_LAWS) if row.laws else ""))
+    parts.append(("Up to check", chain_part(dossier, row.chain)))
+    parts.append(("Clause and call", cut([carried_item(dossier, it) for it in row.carried], "rule_clause.csv") if row.carried else ""))
     cases = [case_item(it) for it in row.exercises]
     why = f' <i>({row.exercises[0].why})</i>' if row.exercises else ""
     parts.append(("Cases", why + cut(cases, "rule_case.csv") if cases else ""))
     parts.append(("Wrong bodies", bodies_part(dossier, row)))
-    absent = {"Definitions": "definition", "Law": "law", "Clause and call": "clause", "Cases": "case", "Wrong bodies": "wrong body"}
+    absent = {"Definitions": "definition", "Law": "law", "Up to check": "chain", "Clause and call": "clause", "Cases": "case", "Wrong bodies": "wrong body"}
     for name, said in parts:
         none = '<b class=none>none</b>' if absent.get(name) in row.missing else '<i>none asked</i>'
         found.append(f"<dl><dt>{name}</dt><dd>{said or none}</dd></dl>")
@@ -188,12 +213,14 @@ def contents(dossier: Dossier) -> list[str]:
 INTRODUCTION = """<p>This page is made from the repository by <code>python3 tools/dossier</code>. It takes each rule of
 docs/SPECIFICATION.md to its definition, law, code, worked cases and wrong bodies. <a href="partners.html">partners.html</a> has the
 other direction and what has no partner; <a href="REVIEW.md">REVIEW.md</a> has what a review of the tool asks besides.
-The same relations are in the CSV files beside this page.</p>
+The same relations are in the CSV files beside this page. A link to a file leads to a page with all its lines; no link needs a network.</p>
 <h2>How the links are made</h2><ul>
 <li><b>Rule.</b> A row of a table, a paragraph or an item of a list, numbered by part. Each of its sentences has a number of its own.</li>
 <li><b>Definition.</b> What the rule names in code type. A rule that names none goes by those of the paragraph or item that it is under.</li>
 <li><b>Law.</b> The law that the rule names; else the laws that mention one of its definitions in the fewest steps. The
 steps are shown: a law that is several steps away speaks of a whole of which the rule is a part.</li>
+<li><b>Up to check.</b> The way from the rule's definition to the clause of the public call <code>check</code>, in at most three steps. Where a law
+ties a sentence to a function, that is the first step. Each arrow leads to a definition that mentions the one before it.</li>
 <li><b>Clause and call.</b> The contracts in crates/*/src that cite a definition of the rule. Where no call of docs/PROMISES.md does, also those of
 the nearest definitions that mention it; where only laws mention it, those of the definitions with which its law compares it.</li>
 <li><b>Cases.</b> Files of crates/case_runner/data and folders of examples. A case belongs to a service that a call of its own rows has, or of
@@ -244,7 +271,7 @@ def bodies_list(dossier: Dossier) -> list[str]:
         numbers = rules.get(body.path, [])
         other = f"no rule; promises {links}{by_call}" if promises else "<b class=none>no rule and no promise</b>"
         said = f"rules {rule_links(numbers)}" if numbers else other
-        found.append(f"{body.crate}/{body.part}/{body.name}: {said}")
+        found.append(f"{body_link(body)}: {said}")
     return found
 
 
@@ -271,7 +298,7 @@ def promises_list(dossier: Dossier) -> list[str]:
     for promise in dossier.code.promises:
         numbers = rules.get(str(promise.number), [])
         said = rule_links(numbers) if numbers else '<b class=none>none</b>'
-        place = f"docs/PROMISES.md:{promise.line}"
+        place = at("docs/PROMISES.md", promise.line)
         found.append(f'<span id="p{promise.number}">{promise.number}</span> {inline(first_words(promise.calls))} ({place}): {said}')
     return found
 
@@ -284,12 +311,12 @@ def definitions_list(dossier: Dossier) -> tuple[list[str], list[str]]:
     for key, it in sorted(dossier.index.all.items()):
         if key in rules or key in laws:
             numbers = list(dict.fromkeys(rules.get(key, []) + laws.get(key, [])))
-            named.append(f"<code>{text(it.shown)}</code>, {it.path}:{it.line}: {rule_links(numbers)}")
+            named.append(f"<code>{text(it.shown)}</code>, {at(it.path, it.line)}: {rule_links(numbers)}")
         elif it.crate in ("apex_machine", "apex_laws") and not it.parent and it.path.endswith(".antt"):
             users = sorted(text(user.split(":")[1]) for user in dossier.users.get(key, ()))
             others_too = " and others" if len(users) > 4 else ""
             said = f"mentioned by {', '.join(users[:4])}{others_too}" if users else "<b class=none>mentioned by nothing</b>"
-            others.append(f"<code>{text(it.name)}</code>, {it.path}:{it.line}: {said}")
+            others.append(f"<code>{text(it.name)}</code>, {at(it.path, it.line)}: {said}")
     return named, others
 
 
@@ -298,12 +325,18 @@ that it changes, or of the nearest functions of its crate that call this one; wh
 more than once, tools/dossier/bodies.toml gives it its rule or its promise.</p>"""
 
 
+SAID_OF_GAPS = {
+    "chain": "no chain to the clause of check: another public call carries the rule, or none",
+    "own wrong body": "no wrong body of its own: those that rules.html shows are only near the rule",
+}
+
+
 def gaps_list(dossier: Dossier) -> list[str]:
     """The rules without a partner, by the kind of partner."""
     found = []
-    for name in ("definition", "law", "clause", "case", "wrong body", "own wrong body"):
+    for name in KINDS:
         items = "".join(f"<li>{item}</li>" for item in gap_items(dossier, name))
-        said = "no wrong body of its own: those that rules.html shows are only near the rule" if name == "own wrong body" else f"no {name}"
+        said = SAID_OF_GAPS.get(name, f"no {name}")
         count = sum(name in row.missing for row in dossier.rows)
         found.append(f"{said} ({count} of {len(dossier.rows)} rules)<ul>{items}</ul>")
     return found
@@ -318,7 +351,7 @@ def partners_page(dossier: Dossier) -> str:
     law_items = [f"<code>{text(it.name)}</code>, {at(it.path, it.line)}: {numbers(laws, it.key)}" for it in proved]
     case_items = [f"{at(file.path)} ({len(file.cases)}): {numbers(cases, file.path)}" for file in dossier.cases]
     named, others = definitions_list(dossier)
-    sections = [("Rules without a definition, law, clause, case or wrong body", "gaps", gaps_list(dossier)),
+    sections = [("Rules without a definition, law, clause, chain, case or wrong body", "gaps", gaps_list(dossier)),
                 ("Laws, and the rules that need them", "laws", law_items),
                 ("Definitions, and the rules that name them", "definitions", named),
                 ("Definitions of apex_machine and apex_laws that no rule names", "others", others),
