@@ -11,6 +11,7 @@ use Rattle.apex_types.specs.declared.record.Out.TheVariants as out
 use Rattle.apex_types.specs.declared.record.Who.{Who}
 use Rattle.apex_types.specs.declared.operation.{CallerOperation.CallerOperation, MutexOperation.MutexOperation, NewObject.NewObject, ProcessOperation.ProcessOperation, SamplingOperation.SamplingOperation}
 use Rattle.apex_types.specs.declared.request.Request.{Request}
+use Rattle.apex_types.specs.declared.operation.ObjectOperation.TheVariants as on
 use Rattle.apex_types.specs.declared.request.Request.TheVariants as request
 use Rattle.apex_machine.specs.declared.condition.Condition.{Condition}
 use Rattle.apex_machine.specs.declared.state.CoreState.{CoreState}
@@ -29,11 +30,11 @@ use Rattle.apex_machine.specs.Demands.{AllHold, WakesHere, call_demands, outcome
 use Rattle.apex_machine.specs.DueTimes.{NamesThoseDue, due_by, entry_wait, falls_due, is_released, is_suspension, next_release, release_after, waits_for_normal}
 use Rattle.apex_machine.specs.Objects.{acquired, acquired_again, acquired_from, handed_on, is_owner, mutex_released, not_acquired, released_once}
 use Rattle.apex_machine.specs.Ports.{channel_of}
-use Rattle.apex_machine.specs.Processes.{by_mutex, message_handed_over, new_process, on_ownership, release_reached, release_taken, released, set_by, stopped, woken_by, set_in}
+use Rattle.apex_machine.specs.Processes.{by_mutex, new_process, on_ownership, release_reached, release_taken, released, set_by, stopped, woken_by, set_in}
 use Rattle.apex_machine.specs.ServiceConditions.{conditions_of}
 use Rattle.apex_machine.specs.Services.{answer_of}
 use Rattle.apex_machine.specs.State.{Mutex, Partition, Table, change_at, cold_partition, each_item, first_processes, given_object, initialising_process, is_named, item_at, names_one_of, time_of}
-use Rattle.apex_machine.specs.Waiting.{first_waiter, is_in, is_no_error, set_after, stops, waits_at}
+use Rattle.apex_machine.specs.Waiting.{first_waiter, is_in, is_no_error, set_after, stops, waits_at, message_of}
 use Rattle.apex_laws.specs.Laws.{entries_at}
 use Rattle.apex_laws.specs.PartBounds.{GivesPeriod, IsBoundedPart, PartStaysBounded, PeriodFits, ReleasesFit, period_limit, place_limit, word_limit}
 use Rattle.apex_laws.specs.PartLaws.{IsSoundPart}
@@ -136,10 +137,10 @@ used_counts : (configuration : Configuration) (place : ℕ) (who : Who) (claimed
     → AllFound (CountsTo (place + 1)) (objects_by configuration who claimed asked partition).mutexes
 used_counts configuration place who claimed (request.Create name (NewObject.Mutex priority discipline)) partition all =
     joined_has (CountsTo (place + 1)) partition.mutexes _ (counts_later place partition.mutexes all) (numbered_has (CountsTo (place + 1)) claimed _ (omega arith))
-used_counts configuration place who claimed (request.Mutex mutex (MutexOperation.Acquire time_out)) partition all =
+used_counts configuration place who claimed (request.Object mutex (on.Mutex (MutexOperation.Acquire time_out))) partition all =
     change_counts place (natural_of mutex) (λ found. (acquired who.proc time_out found).next) partition.mutexes
     (λ found most. acquired_counts place found.owner who.proc time_out found most) all
-used_counts configuration place who claimed (request.Mutex mutex MutexOperation.Release) partition all =
+used_counts configuration place who claimed (request.Object mutex (on.Mutex MutexOperation.Release)) partition all =
     change_counts place (natural_of mutex) (λ found. (mutex_released (first_waiter found.discipline found.waiters) found).next) partition.mutexes
     (λ found most. released_counts place (first_waiter found.discipline found.waiters) found most) all
 used_counts configuration place who claimed (request.SamplingPort port SamplingOperation.Read) partition all = counts_later place partition.mutexes all
@@ -207,7 +208,7 @@ set_by_keeps place period cores partition caller (request.Process process operat
     one_keeps (is_number process number) (set_in place period (time_of cores x.affinity) partition.mode operation x) x (set_in_keeps place period (time_of cores x.affinity) partition.mode operation x)
 set_by_keeps place period cores partition caller (request.SetPartitionMode next) number x =
     one_keeps (waits_for_normal x.wait) (record x { wait = entry_wait period (time_of cores x.affinity) x.period; ready_position = place }) x (refl, refl)
-set_by_keeps place period cores partition caller (request.Mutex mutex operation) number x = mutex_keeps (given_object partition.mutexes mutex) _ number x
+set_by_keeps place period cores partition caller (request.Object mutex (on.Mutex operation)) number x = mutex_keeps (given_object partition.mutexes mutex) _ number x
 set_by_keeps place period cores partition caller _ number x = (refl, refl)
 
 adjusted_keeps : (place period : ℕ) (cores : List CoreState) (partition : Partition) (call : CallRecord) (number : ℕ) (x : Process)
@@ -242,8 +243,8 @@ woken_keeps place message x ends = (ends.1 x.last_release, refl)
 
 woken_if_named_keeps : (place : ℕ) (call : CallRecord) (who : Who) (x : Process) → (is_named who call.claim.woken ≡ true → EndsNoRelease x.wait) → KeepsRelease x (woken_if_named place call who x)
 woken_if_named_keeps place call who x ends =
-    elim (is_named who call.claim.woken) as (λ named. is_named who call.claim.woken ≡ named → KeepsRelease x (cond named (woken_by place (message_handed_over call.request) x) x)) [
-      | true ↦ λ named. woken_keeps place (message_handed_over call.request) x (ends named)
+    elim (is_named who call.claim.woken) as (λ named. is_named who call.claim.woken ≡ named → KeepsRelease x (cond named (woken_by place (message_of call.request) x) x)) [
+      | true ↦ λ named. woken_keeps place (message_of call.request) x (ends named)
       | false ↦ λ not_named. (refl, refl)
     ] refl
 

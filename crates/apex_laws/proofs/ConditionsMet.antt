@@ -8,6 +8,7 @@ use Rattle.apex_types.specs.declared.limits.TheConstants.{GREATEST_MAXIMUM, LONG
 use Rattle.apex_types.specs.declared.record.Who.{Who}
 use Rattle.apex_types.specs.declared.operation.{BlackboardOperation.BlackboardOperation, BufferOperation.BufferOperation, CallerOperation.CallerOperation, EventOperation.EventOperation, MutexOperation.MutexOperation, ProcessOperation.ProcessOperation, QueuingOperation.QueuingOperation, SamplingOperation.SamplingOperation, SemaphoreOperation.SemaphoreOperation}
 use Rattle.apex_types.specs.declared.request.Request.{Request}
+use Rattle.apex_types.specs.declared.operation.ObjectOperation.TheVariants as on
 use Rattle.apex_types.specs.declared.request.Request.TheVariants as request
 use Rattle.apex_types.specs.Requested.{kind_of}
 use Rattle.apex_machine.specs.declared.condition.Condition.{Condition}
@@ -83,20 +84,20 @@ module _ (configuration : Configuration) (who : Who) (partition : Partition) whe
   nothing_met (request.Process process ProcessOperation.Suspend) names = in_first _ _ _ (no_process process _ names)
   nothing_met (request.Process process ProcessOperation.Resume) names = in_first _ _ _ (no_process process _ names)
   nothing_met (request.Process process (ProcessOperation.SetPriority priority)) names = in_first _ _ _ (no_process process _ names)
-  nothing_met (request.Buffer buffer (BufferOperation.Send length time_out message)) names =
+  nothing_met (request.Object buffer (on.Buffer (BufferOperation.Send length time_out message))) names =
       in_first _ _ _ (in_first _ _ _ (no_message partition.buffers buffer length (λ found. found.size) names))
-  nothing_met (request.Buffer buffer (BufferOperation.Receive time_out)) names = in_first _ _ _ (in_first _ _ _ (no_object partition.buffers buffer _ names))
-  nothing_met (request.Blackboard blackboard (BlackboardOperation.Display length message)) names = no_message partition.blackboards blackboard length (λ found. found.size) names
-  nothing_met (request.Blackboard blackboard (BlackboardOperation.Read time_out)) names = in_first _ _ _ (in_first _ _ _ (no_object partition.blackboards blackboard _ names))
-  nothing_met (request.Blackboard blackboard BlackboardOperation.Clear) names = no_object partition.blackboards blackboard _ names
-  nothing_met (request.Semaphore semaphore (SemaphoreOperation.Wait time_out)) names = in_first _ _ _ (in_first _ _ _ (no_object partition.semaphores semaphore _ names))
-  nothing_met (request.Semaphore semaphore SemaphoreOperation.Signal) names = no_object partition.semaphores semaphore _ names
-  nothing_met (request.Event event EventOperation.Set) names = no_object partition.events event _ names
-  nothing_met (request.Event event EventOperation.Reset) names = no_object partition.events event _ names
-  nothing_met (request.Event event (EventOperation.Wait time_out)) names = in_first _ _ _ (in_first _ _ _ (no_object partition.events event _ names))
-  nothing_met (request.Mutex mutex (MutexOperation.Acquire time_out)) names =
+  nothing_met (request.Object buffer (on.Buffer (BufferOperation.Receive time_out))) names = in_first _ _ _ (in_first _ _ _ (no_object partition.buffers buffer _ names))
+  nothing_met (request.Object blackboard (on.Blackboard (BlackboardOperation.Display length message))) names = no_message partition.blackboards blackboard length (λ found. found.size) names
+  nothing_met (request.Object blackboard (on.Blackboard (BlackboardOperation.Read time_out))) names = in_first _ _ _ (in_first _ _ _ (no_object partition.blackboards blackboard _ names))
+  nothing_met (request.Object blackboard (on.Blackboard BlackboardOperation.Clear)) names = no_object partition.blackboards blackboard _ names
+  nothing_met (request.Object semaphore (on.Semaphore (SemaphoreOperation.Wait time_out))) names = in_first _ _ _ (in_first _ _ _ (no_object partition.semaphores semaphore _ names))
+  nothing_met (request.Object semaphore (on.Semaphore SemaphoreOperation.Signal)) names = no_object partition.semaphores semaphore _ names
+  nothing_met (request.Object event (on.Event EventOperation.Set)) names = no_object partition.events event _ names
+  nothing_met (request.Object event (on.Event EventOperation.Reset)) names = no_object partition.events event _ names
+  nothing_met (request.Object event (on.Event (EventOperation.Wait time_out))) names = in_first _ _ _ (in_first _ _ _ (no_object partition.events event _ names))
+  nothing_met (request.Object mutex (on.Mutex (MutexOperation.Acquire time_out))) names =
       in_first _ _ _ (in_first _ _ _ (in_first _ _ _ (no_object partition.mutexes mutex _ names)))
-  nothing_met (request.Mutex mutex MutexOperation.Release) names = no_object partition.mutexes mutex _ names
+  nothing_met (request.Object mutex (on.Mutex MutexOperation.Release)) names = no_object partition.mutexes mutex _ names
   nothing_met (request.SamplingPort port (SamplingOperation.Write length message)) names = in_first _ _ _ (no_object partition.sampling_ports port _ names)
   nothing_met (request.SamplingPort port SamplingOperation.Read) names = no_object partition.sampling_ports port _ names
   nothing_met (request.QueuingPort port (QueuingOperation.Send length time_out message)) names =
@@ -113,13 +114,13 @@ module _ (configuration : Configuration) (who : Who) (partition : Partition) whe
 
   time_out_met : (asked : Request) (time_out : ℤ) → HasTimeOut asked time_out → time_out <ℤ negsuc 0 → Has asked condition.TimeOutOutOfRange
   time_out_met (request.Caller (CallerOperation.SuspendSelf given)) time_out same under = in_first _ _ _ (in_first _ _ _ (below_met given time_out same under))
-  time_out_met (request.Mutex mutex (MutexOperation.Acquire given)) time_out same under =
+  time_out_met (request.Object mutex (on.Mutex (MutexOperation.Acquire given))) time_out same under =
       in_first _ _ _ (in_first _ _ _ (in_later _ _ _ (below_met given time_out same under)))
-  time_out_met (request.Buffer buffer (BufferOperation.Send length given message)) time_out same under = in_first _ _ _ (in_later _ _ _ (below_met given time_out same under))
-  time_out_met (request.Buffer buffer (BufferOperation.Receive given)) time_out same under = in_first _ _ _ (in_later _ _ _ (below_met given time_out same under))
-  time_out_met (request.Blackboard blackboard (BlackboardOperation.Read given)) time_out same under = in_first _ _ _ (in_later _ _ _ (below_met given time_out same under))
-  time_out_met (request.Semaphore semaphore (SemaphoreOperation.Wait given)) time_out same under = in_first _ _ _ (in_later _ _ _ (below_met given time_out same under))
-  time_out_met (request.Event event (EventOperation.Wait given)) time_out same under = in_first _ _ _ (in_later _ _ _ (below_met given time_out same under))
+  time_out_met (request.Object buffer (on.Buffer (BufferOperation.Send length given message))) time_out same under = in_first _ _ _ (in_later _ _ _ (below_met given time_out same under))
+  time_out_met (request.Object buffer (on.Buffer (BufferOperation.Receive given))) time_out same under = in_first _ _ _ (in_later _ _ _ (below_met given time_out same under))
+  time_out_met (request.Object blackboard (on.Blackboard (BlackboardOperation.Read given))) time_out same under = in_first _ _ _ (in_later _ _ _ (below_met given time_out same under))
+  time_out_met (request.Object semaphore (on.Semaphore (SemaphoreOperation.Wait given))) time_out same under = in_first _ _ _ (in_later _ _ _ (below_met given time_out same under))
+  time_out_met (request.Object event (on.Event (EventOperation.Wait given))) time_out same under = in_first _ _ _ (in_later _ _ _ (below_met given time_out same under))
   time_out_met (request.QueuingPort port (QueuingOperation.Send length given message)) time_out same under =
       in_first _ _ _ (in_later _ _ _ (below_met given time_out same under))
   time_out_met (request.QueuingPort port (QueuingOperation.Receive given)) time_out same under = in_first _ _ _ (in_later _ _ _ (below_met given time_out same under))
@@ -133,11 +134,11 @@ module _ (configuration : Configuration) (who : Who) (partition : Partition) whe
       (and_from _ _ ((tests.tells_not (is_over given) (given ≡ pos 0) (tests.over_tells given)).1 (λ over. not_over (same ∙ over))) ((tests.may_not_wait_tells who partition).1 may_not))
 
   waits_met : (asked : Request) (time_out : ℤ) → WaitsFor asked time_out → ¬ (time_out ≡ pos 0) → MayNotWait who partition → Has asked condition.MayNotWait
-  waits_met (request.Buffer buffer (BufferOperation.Send length given message)) time_out same not_over may_not = in_later _ _ _ (waiting_met given time_out same not_over may_not)
-  waits_met (request.Buffer buffer (BufferOperation.Receive given)) time_out same not_over may_not = in_later _ _ _ (waiting_met given time_out same not_over may_not)
-  waits_met (request.Blackboard blackboard (BlackboardOperation.Read given)) time_out same not_over may_not = in_later _ _ _ (waiting_met given time_out same not_over may_not)
-  waits_met (request.Semaphore semaphore (SemaphoreOperation.Wait given)) time_out same not_over may_not = in_later _ _ _ (waiting_met given time_out same not_over may_not)
-  waits_met (request.Event event (EventOperation.Wait given)) time_out same not_over may_not = in_later _ _ _ (waiting_met given time_out same not_over may_not)
+  waits_met (request.Object buffer (on.Buffer (BufferOperation.Send length given message))) time_out same not_over may_not = in_later _ _ _ (waiting_met given time_out same not_over may_not)
+  waits_met (request.Object buffer (on.Buffer (BufferOperation.Receive given))) time_out same not_over may_not = in_later _ _ _ (waiting_met given time_out same not_over may_not)
+  waits_met (request.Object blackboard (on.Blackboard (BlackboardOperation.Read given))) time_out same not_over may_not = in_later _ _ _ (waiting_met given time_out same not_over may_not)
+  waits_met (request.Object semaphore (on.Semaphore (SemaphoreOperation.Wait given))) time_out same not_over may_not = in_later _ _ _ (waiting_met given time_out same not_over may_not)
+  waits_met (request.Object event (on.Event (EventOperation.Wait given))) time_out same not_over may_not = in_later _ _ _ (waiting_met given time_out same not_over may_not)
   waits_met (request.QueuingPort port (QueuingOperation.Send length given message)) time_out same not_over may_not = in_later _ _ _ (waiting_met given time_out same not_over may_not)
   waits_met (request.QueuingPort port (QueuingOperation.Receive given)) time_out same not_over may_not = in_later _ _ _ (waiting_met given time_out same not_over may_not)
   waits_met _ time_out same not_over may_not = absurd same

@@ -12,10 +12,10 @@ use Rattle.apex_types.specs.declared.record.Who.{Who}
 use Rattle.apex_types.specs.declared.operation.{QueuingOperation.QueuingOperation, SamplingOperation.SamplingOperation}
 use Rattle.apex_types.specs.declared.request.Request.{Request}
 use Rattle.apex_types.specs.declared.request.Request.TheVariants as request
+use Rattle.apex_types.specs.declared.shape.End.TheVariants.{Senders, Receivers}
 use Rattle.apex_machine.specs.declared.condition.Condition.{Condition}
 use Rattle.apex_machine.specs.declared.state.Entry.{Entry}
 use Rattle.apex_machine.specs.declared.state.WaitingSet.{WaitingSet}
-use Rattle.apex_machine.specs.declared.state.WaitingSet.TheVariants as set
 use Rattle.apex_machine.specs.After.{is_channel}
 use Rattle.apex_machine.specs.Channels.{EndsAreApart, is_receiver, is_sender}
 use Rattle.apex_machine.specs.Configuration.{Configuration, has_partition}
@@ -24,7 +24,7 @@ use Rattle.apex_machine.specs.Pieces.{Module, OfChannel, OfPartition, Piece, is_
 use Rattle.apex_machine.specs.Ports.{Ask, Read, Receive, Send, Write, channel_of, suits_use, use_of}
 use Rattle.apex_machine.specs.ServiceConditions.{conditions_of}
 use Rattle.apex_machine.specs.Services.{answer_of}
-use Rattle.apex_machine.specs.State.{Partition, State, is_named, names_one_of, occupant_of, item_at, time_of}
+use Rattle.apex_machine.specs.State.{Partition, State, is_named, names_one_of, occupant_of, item_at, time_of, channel_set}
 use Rattle.apex_machine.specs.Step.{HasOutcome, IsLawful, IsLawfulBody, IsLawfulCall, IsLawfulReturn, IsThrough, channel_answer, due_of, outcome_returned}
 use Rattle.apex_machine.specs.Waiting.{waits_at}
 use Rattle.apex_laws.specs.Laws.{AllEntries, AreTied, IsTied}
@@ -60,9 +60,9 @@ module_demanded configuration state core (Ret ret) law =
 -- who is woken through a channel: a send those who wait to receive, a receive those who wait to send
 abbrev pub WaitsAcross : Request → (ℕ → Partition) → Configuration → ℕ → Who → Type 0
 WaitsAcross (request.QueuingPort port (QueuingOperation.Send length time_out message)) partitions configuration channel who =
-    IsTrue (is_receiver configuration channel who.part) × IsTrue (waits_at (set.ChannelReceivers channel) (found partitions who))
+    IsTrue (is_receiver configuration channel who.part) × IsTrue (waits_at (channel_set channel Receivers) (found partitions who))
 WaitsAcross (request.QueuingPort port (QueuingOperation.Receive time_out)) partitions configuration channel who =
-    IsTrue (is_sender configuration channel who.part) × IsTrue (waits_at (set.ChannelSenders channel) (found partitions who))
+    IsTrue (is_sender configuration channel who.part) × IsTrue (waits_at (channel_set channel Senders) (found partitions who))
 WaitsAcross _ partitions configuration channel who = ⊥
 
 pub across : (configuration : Configuration) (state : State) (now channel partition : ℕ) (asked : Request) → AreTied configuration state → IsTrue (suits_use configuration channel partition (use_of asked) (state.channels channel))
@@ -70,11 +70,11 @@ pub across : (configuration : Configuration) (state : State) (now channel partit
 across configuration state now channel partition (request.QueuingPort port (QueuingOperation.Send length time_out message)) tied suited who named =
     use_wakes (WaitsAcross (request.QueuingPort port (QueuingOperation.Send length time_out message)) state.partitions configuration channel) configuration now channel partition (Send message time_out)
     (state.channels channel) (state.channels channel).content
-    (all_weaker (IsTied (λ home. IsTrue (is_receiver configuration channel home)) (set.ChannelReceivers channel) state.partitions) _ (λ entry tied. tied) (state.channels channel).receivers (tied.receivers channel)) who named
+    (all_weaker (IsTied (λ home. IsTrue (is_receiver configuration channel home)) (channel_set channel Receivers) state.partitions) _ (λ entry tied. tied) (state.channels channel).receivers (tied.receivers channel)) who named
 across configuration state now channel partition (request.QueuingPort port (QueuingOperation.Receive time_out)) tied suited who named =
     use_wakes (WaitsAcross (request.QueuingPort port (QueuingOperation.Receive time_out)) state.partitions configuration channel) configuration now channel partition (Receive time_out)
     (state.channels channel) (state.channels channel).content
-    (all_weaker (IsTied (λ home. IsTrue (is_sender configuration channel home)) (set.ChannelSenders channel) state.partitions) _ (λ entry tied. tied) (state.channels channel).senders (tied.senders channel)) who named
+    (all_weaker (IsTied (λ home. IsTrue (is_sender configuration channel home)) (channel_set channel Senders) state.partitions) _ (λ entry tied. tied) (state.channels channel).senders (tied.senders channel)) who named
 across configuration state now channel partition (request.SamplingPort port (SamplingOperation.Write length message)) tied suited who named =
     use_wakes (λ one. ⊥) configuration now channel partition (Write message) (state.channels channel) (state.channels channel).content tt who named
 across configuration state now channel partition (request.SamplingPort port SamplingOperation.Read) tied suited who named =
@@ -163,9 +163,9 @@ wakes_here : (partitions : ℕ → Partition) (configuration : Configuration) (a
     → ((who : Who) → is_named who others ≡ true → WaitsAcross asked partitions configuration channel who)
     → WakesHere asked (Some channel) number (partitions number).table others
 wakes_here partitions configuration (request.QueuingPort port (QueuingOperation.Send length time_out message)) channel number others names wait =
-    all_wait partitions number (set.ChannelReceivers channel) others (λ who named. (wait who named).1)
+    all_wait partitions number (channel_set channel Receivers) others (λ who named. (wait who named).1)
 wakes_here partitions configuration (request.QueuingPort port (QueuingOperation.Receive time_out)) channel number others names wait =
-    all_wait partitions number (set.ChannelSenders channel) others (λ who named. (wait who named).1)
+    all_wait partitions number (channel_set channel Senders) others (λ who named. (wait who named).1)
 wakes_here partitions configuration _ channel number others names wait = let one = some_named number others names in absurd (wait one.0 one.1)
 
 -- a lawful call of another partition that names one of these processes goes through the channel at which it waits
@@ -278,8 +278,8 @@ used_demanded configuration state core call tied law number true is =
     (λ number. suits_use configuration number call.who.part (use_of call.request) (state.channels number))
     (channel_answer configuration (time_of state.cores core) call.who.part call.request state.channels) call.claim number (goes_to number call.claim.chan is) law.outcome in (
       neither (has_entry_in call.who (state.channels number).senders) (has_entry_in call.who (state.channels number).receivers)
-          (caller_in_no_set configuration state core call tied law (λ home. IsTrue (is_sender configuration number home)) (set.ChannelSenders number) (state.channels number).senders (tied.senders number))
-          (caller_in_no_set configuration state core call tied law (λ home. IsTrue (is_receiver configuration number home)) (set.ChannelReceivers number) (state.channels number).receivers (tied.receivers number)),
+          (caller_in_no_set configuration state core call tied law (λ home. IsTrue (is_sender configuration number home)) (channel_set number Senders) (state.channels number).senders (tied.senders number))
+          (caller_in_no_set configuration state core call tied law (λ home. IsTrue (is_receiver configuration number home)) (channel_set number Receivers) (state.channels number).receivers (tied.receivers number)),
       (through.kind, (through.out, (through.values, (through.bytes, (through.woken, tt))))),
     )
 

@@ -5,12 +5,13 @@ use Rattle.apex_types.specs.declared.object_kind.ObjectKind.{ObjectKind}
 use Rattle.apex_types.specs.declared.object_kind.ObjectKind.TheVariants as kind
 use Rattle.apex_machine.specs.declared.state.Entry.{Entry}
 use Rattle.apex_machine.specs.declared.state.WaitingSet.{WaitingSet}
-use Rattle.apex_machine.specs.declared.state.WaitingSet.TheVariants as set
 use Rattle.apex_machine.specs.After.{each_set, numbered, with_sets}
-use Rattle.apex_machine.specs.State.{Blackboard, Buffer, Event, Mutex, ObjectOf, Partition, Semaphore, change_at, each_item, item_at, objects_of}
-use Rattle.apex_laws.specs.Laws.{are_distinct, entries_at, entries_in}
-use Rattle.apex_laws.specs.PartLaws.{HasDistinctObjects, is_of_channel}
+use Rattle.apex_machine.specs.State.{ObjectOf, Partition, change_at, each_item, item_at, objects_of, set_at, is_of_channel, entries_at_end}
+use Rattle.apex_laws.specs.Laws.{are_distinct, entries_at, entries_in, entries_of}
+use Rattle.apex_laws.specs.PartLaws.{HasDistinctObjects}
 use Rattle.apex_laws.proofs.Booleans.{is_itself}
+use Rattle.apex_laws.proofs.SetNames.{ends_agree, ends_kept}
+use Rattle.apex_types.specs.declared.shape.End.{End}
 
 -- lists of objects
 
@@ -109,77 +110,29 @@ put_if false put new old object is = sym is
 abbrev pub Leaves : (WaitingSet → List Entry → List Entry) → Partition → WaitingSet → Type 0
 Leaves change partition wanted = change wanted (entries_at partition wanted) ≡ entries_at partition wanted
 
--- what a change makes of a set it makes of the entries of the object that is found
-pub becomes_found : {Object : Type 0} (entries_of : Object → List Entry) (change through : List Entry → List Entry) (found : Option Object) (object : Object) → found ≡ Some object
-    → change (entries_in entries_of found) ≡ through (entries_in entries_of found) → change (entries_of object) ≡ through (entries_of object)
-becomes_found {Object} entries_of change through found object at becomes =
-    subst (λ (one : Option Object). change (entries_in entries_of one) ≡ through (entries_in entries_of one)) at becomes
+-- a fact about the entries of a set that holds for those of the object that is found
+pub of_found : {Object : Type 0} (entries_of : Object → List Entry) (Fact : List Entry → Type 0) (found : Option Object) (object : Object) → found ≡ Some object
+    → Fact (entries_in entries_of found) → Fact (entries_of object)
+of_found {Object} entries_of Fact found object at holds = subst (λ (one : Option Object). Fact (entries_in entries_of one)) at holds
 
--- so it leaves those entries
-pub leaves_found : {Object : Type 0} (entries_of : Object → List Entry) (change : List Entry → List Entry) (found : Option Object) (object : Object) → found ≡ Some object
-    → change (entries_in entries_of found) ≡ entries_in entries_of found → change (entries_of object) ≡ entries_of object
-leaves_found entries_of change found object at leaves = becomes_found entries_of change (λ entries. entries) found object at leaves
-
--- a fact about each set of the object of a kind and number
+-- a fact about each set of the object of a kind and number; a port's sets are its channel's
 abbrev pub OnSets : ObjectKind → ℕ → (WaitingSet → Type 0) → Type 0
-OnSets kind.Buffer number Fact = Fact (set.BufferSenders number) × Fact (set.BufferReceivers number)
-OnSets kind.Blackboard number Fact = Fact (set.BlackboardReaders number)
-OnSets kind.Semaphore number Fact = Fact (set.SemaphoreWaiters number)
-OnSets kind.Event number Fact = Fact (set.EventWaiters number)
-OnSets kind.Mutex number Fact = Fact (set.MutexWaiters number)
-OnSets _ number Fact = Unit {0}
-
--- a weaker fact
-pub weaker_on : (kind : ObjectKind) (number : ℕ) (Fact Weaker : WaitingSet → Type 0) → ((wanted : WaitingSet) → Fact wanted → Weaker wanted) → OnSets kind number Fact → OnSets kind number Weaker
-weaker_on kind.Buffer number Fact Weaker by is = (by (set.BufferSenders number) is.0, by (set.BufferReceivers number) is.1)
-weaker_on kind.Blackboard number Fact Weaker by is = by (set.BlackboardReaders number) is
-weaker_on kind.Semaphore number Fact Weaker by is = by (set.SemaphoreWaiters number) is
-weaker_on kind.Event number Fact Weaker by is = by (set.EventWaiters number) is
-weaker_on kind.Mutex number Fact Weaker by is = by (set.MutexWaiters number) is
-weaker_on _ number Fact Weaker by is = tt
-
--- it holds if it holds for every set that is not a channel's
-pub on_sets : (kind : ObjectKind) (number : ℕ) (Fact : WaitingSet → Type 0) → ((wanted : WaitingSet) → is_of_channel wanted ≡ false → Fact wanted) → OnSets kind number Fact
-on_sets kind.Buffer number Fact all = (all (set.BufferSenders number) refl, all (set.BufferReceivers number) refl)
-on_sets kind.Blackboard number Fact all = all (set.BlackboardReaders number) refl
-on_sets kind.Semaphore number Fact all = all (set.SemaphoreWaiters number) refl
-on_sets kind.Event number Fact all = all (set.EventWaiters number) refl
-on_sets kind.Mutex number Fact all = all (set.MutexWaiters number) refl
-on_sets _ number Fact all = tt
+OnSets kind number Fact = (end : End) → is_of_channel (set_at kind number end) ≡ false → Fact (set_at kind number end)
 
 -- two changes that agree on the sets of an object agree on the object
 pub sets_agree : (kind : ObjectKind) (change through : WaitingSet → List Entry → List Entry) (partition : Partition) (number : ℕ) (found : ObjectOf kind)
     → item_at (objects_of partition kind) number ≡ Some found
     → OnSets kind number (λ wanted. change wanted (entries_at partition wanted) ≡ through wanted (entries_at partition wanted))
     → with_sets kind change number found ≡ with_sets kind through number found
-sets_agree kind.Buffer change through partition number found at agree =
-    let senders = becomes_found (λ (one : Buffer). one.senders) (change (set.BufferSenders number)) (through (set.BufferSenders number)) (item_at partition.buffers number) found at agree.0 in
-    let receivers = becomes_found (λ (one : Buffer). one.receivers) (change (set.BufferReceivers number)) (through (set.BufferReceivers number)) (item_at partition.buffers number) found at agree.1 in
-    λ i. record found { senders = senders i; receivers = receivers i }
-sets_agree kind.Blackboard change through partition number found at agree =
-    ap (λ readers. record found { readers = readers })
-    (becomes_found (λ (one : Blackboard). one.readers) (change (set.BlackboardReaders number)) (through (set.BlackboardReaders number)) (item_at partition.blackboards number) found at agree)
-sets_agree kind.Semaphore change through partition number found at agree =
-    ap (λ waiters. record found { waiters = waiters })
-    (becomes_found (λ (one : Semaphore). one.waiters) (change (set.SemaphoreWaiters number)) (through (set.SemaphoreWaiters number)) (item_at partition.semaphores number) found at agree)
-sets_agree kind.Event change through partition number found at agree =
-    ap (λ waiters. record found { waiters = waiters })
-    (becomes_found (λ (one : Event). one.waiters) (change (set.EventWaiters number)) (through (set.EventWaiters number)) (item_at partition.events number) found at agree)
-sets_agree kind.Mutex change through partition number found at agree =
-    ap (λ waiters. record found { waiters = waiters })
-    (becomes_found (λ (one : Mutex). one.waiters) (change (set.MutexWaiters number)) (through (set.MutexWaiters number)) (item_at partition.mutexes number) found at agree)
-sets_agree _ change through partition number found at agree = refl
-
--- an object with its sets as they are
-pub sets_kept : (kind : ObjectKind) (number : ℕ) (found : ObjectOf kind) → with_sets kind (λ wanted entries. entries) number found ≡ found
-sets_kept kind.Buffer number found = refl
-sets_kept _ number found = refl
+sets_agree kind change through partition number found at agree =
+    ends_agree kind (λ end. change (set_at kind number end)) (λ end. through (set_at kind number end)) found (λ off end.
+    of_found (entries_at_end kind end) (λ entries. change (set_at kind number end) entries ≡ through (set_at kind number end) entries) (item_at (objects_of partition kind) number) found at (agree end off))
 
 -- an object whose sets a change leaves
 pub object_stays : (kind : ObjectKind) (change : WaitingSet → List Entry → List Entry) (partition : Partition) (number : ℕ) (found : ObjectOf kind)
     → item_at (objects_of partition kind) number ≡ Some found → OnSets kind number (Leaves change partition) → with_sets kind change number found ≡ found
 object_stays kind change partition number found at leaves =
-    sets_agree kind change (λ wanted entries. entries) partition number found at leaves ∙ sets_kept kind number found
+    sets_agree kind change (λ wanted entries. entries) partition number found at leaves ∙ ends_kept kind found
 
 -- the objects of a kind whose sets a change leaves
 pub objects_stay : (kind : ObjectKind) (change : WaitingSet → List Entry → List Entry) (partition : Partition) → HasDistinctObjects partition
@@ -192,7 +145,7 @@ pub sets_stay : (change : WaitingSet → List Entry → List Entry) (partition :
     → ((wanted : WaitingSet) → is_of_channel wanted ≡ false → Leaves change partition wanted) → each_set change partition ≡ partition
 sets_stay change partition has leaves =
     let stay : (kind : ObjectKind) → each_item (with_sets kind change) (objects_of partition kind) ≡ objects_of partition kind =
-    λ kind. objects_stay kind change partition has (λ number. on_sets kind number (Leaves change partition) leaves) in
+    λ kind. objects_stay kind change partition has (λ number end off. leaves (set_at kind number end) off) in
     λ i. record partition { buffers = stay kind.Buffer i; blackboards = stay kind.Blackboard i; semaphores = stay kind.Semaphore i; events = stay kind.Event i; mutexes = stay kind.Mutex i }
 
 -- two changes that agree on every set of a partition agree on the partition
@@ -202,7 +155,7 @@ pub each_set_as : (change other : WaitingSet → List Entry → List Entry) (par
 each_set_as change other partition has same =
     let agree : (kind : ObjectKind) → each_item (with_sets kind change) (objects_of partition kind) ≡ each_item (with_sets kind other) (objects_of partition kind) =
     λ kind. each_as (with_sets kind change) (with_sets kind other) (objects_of partition kind) (has kind) (λ number found at. sets_agree kind change other partition number found at
-    (on_sets kind number (λ wanted. change wanted (entries_at partition wanted) ≡ other wanted (entries_at partition wanted)) same)) in
+    (λ end off. same (set_at kind number end) off)) in
     λ i. record partition { buffers = agree kind.Buffer i; blackboards = agree kind.Blackboard i; semaphores = agree kind.Semaphore i; events = agree kind.Event i; mutexes = agree kind.Mutex i }
 
 -- one change of each set after another
@@ -216,3 +169,10 @@ each_set_each first second partition =
       events = each_each (with_sets kind.Event first) (with_sets kind.Event second) partition.events i;
       mutexes = each_each (with_sets kind.Mutex first) (with_sets kind.Mutex second) partition.mutexes i;
     }
+
+-- the objects of a kind after a change of each set
+pub objects_changed_each : (change : WaitingSet → List Entry → List Entry) (partition : Partition) (kind : ObjectKind)
+    → objects_of (each_set change partition) kind ≡ each_item (with_sets kind change) (objects_of partition kind)
+objects_changed_each change partition kind.SamplingPort = sym (each_itself partition.sampling_ports)
+objects_changed_each change partition kind.QueuingPort = sym (each_itself partition.queuing_ports)
+objects_changed_each change partition _ = refl

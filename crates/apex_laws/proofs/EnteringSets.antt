@@ -8,6 +8,7 @@ use Rattle.apex_types.specs.declared.record.Out.TheVariants as out
 use Rattle.apex_types.specs.declared.record.Who.{Who}
 use Rattle.apex_types.specs.declared.operation.{BlackboardOperation.BlackboardOperation, BufferOperation.BufferOperation, CallerOperation.CallerOperation, EventOperation.EventOperation, MutexOperation.MutexOperation, ProcessOperation.ProcessOperation, SemaphoreOperation.SemaphoreOperation}
 use Rattle.apex_types.specs.declared.request.Request.{Request}
+use Rattle.apex_types.specs.declared.operation.ObjectOperation.TheVariants as on
 use Rattle.apex_types.specs.declared.request.Request.TheVariants as request
 use Rattle.apex_machine.specs.declared.condition.Condition.{Condition}
 use Rattle.apex_machine.specs.declared.state.Entry.{Entry}
@@ -84,36 +85,36 @@ quiet_resume who (Some process) = quiet_if (is_suspension process.wait) (waking 
 
 -- so it is with every service
 quiet_answer : (now : ℕ) (who : Who) (partition : Partition) (asked : Request) → IsQuiet (answer_of now who partition asked)
-quiet_answer now who partition (request.Buffer buffer (BufferOperation.Send length time_out message)) =
+quiet_answer now who partition (request.Object buffer (on.Buffer (BufferOperation.Send length time_out message))) =
     quiet_by (given_object partition.buffers buffer) (λ found. (buffer_sent message time_out found).answer)
     (λ found. quiet_sent found.capacity message time_out (first_waiter found.discipline found.receivers) found.messages)
-quiet_answer now who partition (request.Buffer buffer (BufferOperation.Receive time_out)) =
+quiet_answer now who partition (request.Object buffer (on.Buffer (BufferOperation.Receive time_out))) =
     quiet_by (given_object partition.buffers buffer) (λ found. (buffer_received time_out found).answer)
     (λ found. quiet_received time_out (first_waiter found.discipline found.senders) found.messages)
-quiet_answer now who partition (request.Blackboard blackboard (BlackboardOperation.Display length message)) =
+quiet_answer now who partition (request.Object blackboard (on.Blackboard (BlackboardOperation.Display length message))) =
     quiet_by (given_object partition.blackboards blackboard) (λ found. (displayed message found.readers).answer) (λ found off. absurd (true≢false off))
-quiet_answer now who partition (request.Blackboard blackboard (BlackboardOperation.Read time_out)) =
+quiet_answer now who partition (request.Object blackboard (on.Blackboard (BlackboardOperation.Read time_out))) =
     quiet_by (given_object partition.blackboards blackboard) (λ found. (board_read time_out found.message).answer) (λ found off. board_wakes time_out found.message)
-quiet_answer now who partition (request.Semaphore semaphore (SemaphoreOperation.Wait time_out)) =
+quiet_answer now who partition (request.Object semaphore (on.Semaphore (SemaphoreOperation.Wait time_out))) =
     quiet_by (given_object partition.semaphores semaphore) (λ found. (semaphore_waited time_out found.value).answer) (λ found off. wait_wakes time_out found.value)
-quiet_answer now who partition (request.Semaphore semaphore SemaphoreOperation.Signal) =
+quiet_answer now who partition (request.Object semaphore (on.Semaphore SemaphoreOperation.Signal)) =
     quiet_by (given_object partition.semaphores semaphore) (λ found. (signalled found.maximum (first_waiter found.discipline found.waiters) found.value).answer)
     (λ found. quiet_signal found.maximum (first_waiter found.discipline found.waiters) found.value)
-quiet_answer now who partition (request.Event event EventOperation.Set) =
+quiet_answer now who partition (request.Object event (on.Event EventOperation.Set)) =
     quiet_by (given_object partition.events event) (λ found. (event_set found.waiters).answer) (λ found off. absurd (true≢false off))
-quiet_answer now who partition (request.Event event (EventOperation.Wait time_out)) =
+quiet_answer now who partition (request.Object event (on.Event (EventOperation.Wait time_out))) =
     quiet_by (given_object partition.events event) (λ found. (event_waited time_out found.up).answer) (λ found off. event_wakes time_out found.up)
-quiet_answer now who partition (request.Mutex mutex (MutexOperation.Acquire time_out)) =
+quiet_answer now who partition (request.Object mutex (on.Mutex (MutexOperation.Acquire time_out))) =
     quiet_by (given_object partition.mutexes mutex) (λ found. (acquired who.proc time_out found).answer) (λ found off. acquire_wakes who.proc time_out found found.owner)
-quiet_answer now who partition (request.Mutex mutex MutexOperation.Release) =
+quiet_answer now who partition (request.Object mutex (on.Mutex MutexOperation.Release)) =
     quiet_by (given_object partition.mutexes mutex) (λ found. (mutex_released (first_waiter found.discipline found.waiters) found).answer)
     (λ found. quiet_release (first_waiter found.discipline found.waiters) found)
 quiet_answer now who partition (request.Process process ProcessOperation.Resume) = quiet_resume (peer who process) (created partition.table process)
 quiet_answer now who partition (request.Caller (CallerOperation.SuspendSelf time_out)) = λ off. done_or_waiting (is_over time_out)
 quiet_answer now who partition (request.Caller (CallerOperation.TimedWait delay)) = λ off. done_or_waiting (is_over delay)
 quiet_answer now who partition (request.Caller CallerOperation.PeriodicWait) = λ off. done_or_waiting (is_released now (item_at partition.table who.proc))
-quiet_answer now who partition (request.Blackboard blackboard BlackboardOperation.Clear) = quiet_by (given_object partition.blackboards blackboard) (λ found. done) (λ found off. refl)
-quiet_answer now who partition (request.Event event EventOperation.Reset) = quiet_by (given_object partition.events event) (λ found. done) (λ found off. refl)
+quiet_answer now who partition (request.Object blackboard (on.Blackboard BlackboardOperation.Clear)) = quiet_by (given_object partition.blackboards blackboard) (λ found. done) (λ found off. refl)
+quiet_answer now who partition (request.Object event (on.Event EventOperation.Reset)) = quiet_by (given_object partition.events event) (λ found. done) (λ found off. refl)
 quiet_answer now who partition _ = λ off. refl
 
 -- claims

@@ -10,28 +10,27 @@ use Rattle.apex_types.specs.declared.record.Out.TheVariants as out
 use Rattle.apex_types.specs.declared.record.Who.{Who}
 use Rattle.apex_types.specs.declared.operation.{BlackboardOperation.BlackboardOperation, BufferOperation.BufferOperation, EventOperation.EventOperation, MutexOperation.MutexOperation, SemaphoreOperation.SemaphoreOperation}
 use Rattle.apex_types.specs.declared.request.Request.{Request}
+use Rattle.apex_types.specs.declared.shape.End.TheVariants.{Senders, Receivers}
 use Rattle.apex_machine.specs.declared.state.CoreState.{CoreState}
 use Rattle.apex_machine.specs.declared.state.Entry.{Entry}
 use Rattle.apex_machine.specs.declared.state.Mode.{Mode}
 use Rattle.apex_machine.specs.declared.state.Mode.TheVariants as mode
 use Rattle.apex_machine.specs.declared.state.WaitingSet.{WaitingSet}
-use Rattle.apex_machine.specs.declared.state.WaitingSet.TheVariants as set
 use Rattle.apex_machine.specs.After.{after, each_set, is_done, objects_by, partition_by, returned, ticked}
 use Rattle.apex_machine.specs.Arguments.{natural_of}
 use Rattle.apex_machine.specs.Configuration.{Configuration, first_core}
 use Rattle.apex_machine.specs.Demands.{has_entry_in}
 use Rattle.apex_machine.specs.Objects.{blackboard_effect, buffer_effect, event_effect, mutex_effect, semaphore_effect}
 use Rattle.apex_machine.specs.ServiceConditions.{conditions_of}
-use Rattle.apex_machine.specs.State.{Buffer, Partition, State, change_at, cold_state, each_item, given_object, is_named, is_same, item_at}
+use Rattle.apex_machine.specs.State.{Buffer, Partition, State, change_at, cold_state, each_item, given_object, is_named, is_same, item_at, channel_set, is_of_channel, entries_at_end, objects_of}
 use Rattle.apex_machine.specs.Step.{IsLawfulBody, Run, Step}
 use Rattle.apex_machine.specs.Waiting.{ends_wait, enters, entry_of, is_the_set, is_waiting, set_after, set_of, waits_at, without}
-use Rattle.apex_laws.specs.PartLaws.{is_of_channel}
 use Rattle.apex_laws.specs.WaitLaws.{WaitsIn}
-use Rattle.apex_laws.specs.Laws.{AreTied, WaitersHaveEntries, WhoWaitsHasEntry, entries_at, entries_in, entries_of}
+use Rattle.apex_laws.specs.Laws.{AreTied, WaitersHaveEntries, WhoWaitsHasEntry, entries_at, entries_in, entries_of, entries_at_channel}
 use Rattle.apex_laws.proofs.Booleans.{first_holds, is_itself, later_holds, other_holds}
 use Rattle.apex_laws.proofs.Keeps.{CallsReady, IsReadyCall, calls_ready, leaves}
 use Rattle.apex_laws.proofs.ObjectCalls.{message_there, mutex_there, object_there}
-use Rattle.apex_laws.proofs.Objects.{each_set_holds, is_created_at}
+use Rattle.apex_laws.proofs.Objects.{each_set_holds, is_created_at, none_there}
 use Rattle.apex_laws.proofs.Tables.{at_each}
 use Rattle.apex_laws.proofs.Ends.{first_empty}
 use Rattle.apex_laws.proofs.Restarts.{call_case, not_restarted, return_case, start_waits_not, waiting_goes_on, woken_if_named_table}
@@ -41,6 +40,8 @@ use Rattle.apex_laws.proofs.Stays.{step_tied}
 use Rattle.apex_laws.proofs.Waits.{entering_is_the_sentence}
 use Rattle.apex_laws.proofs.WaitersOf.{same_is, same_itself}
 use Rattle.apex_laws.proofs.Woken.{found}
+use Rattle.apex_laws.proofs.SetNames.{has_end, channel_set_is}
+use Rattle.apex_types.specs.declared.shape.End.{End}
 
 -- which processes have an entry in a set after a record
 
@@ -102,9 +103,11 @@ there_if who entries_of (Some object) is_member = refl
 
 -- the object of a set in which a process has an entry is created
 waiting_there : (who : Who) (partition : Partition) (wanted : WaitingSet) → has_entry_in who (entries_at partition wanted) ≡ true → is_created_at partition wanted ≡ true
-waiting_there who partition (set.ChannelSenders channel) is_member = absurd (true≢false (sym is_member))
-waiting_there who partition (set.ChannelReceivers channel) is_member = absurd (true≢false (sym is_member))
-waiting_there who partition _ is_member = there_if who _ _ is_member
+waiting_there who partition wanted is_member =
+    elim (cases_Bool (has_end wanted.kind wanted.end)) [
+      | inl there ↦ rw there (there_if who (entries_at_end wanted.kind wanted.end) (item_at (objects_of partition wanted.kind) wanted.number) is_member)
+      | inr none ↦ absurd (true≢false (sym is_member ∙ ap (has_entry_in who) (none_there wanted.kind wanted.end (item_at (objects_of partition wanted.kind) wanted.number) none)))
+    ]
 
 each_has_entry : (who : Who) (change : WaitingSet → List Entry → List Entry) (partition : Partition) (wanted : WaitingSet) → is_created_at partition wanted ≡ true
     → has_entry_in who (change wanted (entries_at partition wanted)) ≡ true → has_entry_in who (entries_at (each_set change partition) wanted) ≡ true
@@ -224,13 +227,21 @@ channel_has_entry configuration state place core body tied law who wanted entrie
 
 next_has_entries : (configuration : Configuration) (state : State) (ordered : Ordered) → AreTied configuration state → WaitersHaveEntries state
     → IsLawfulBody configuration state ordered.core ordered.rec.body → WaitersHaveEntries (after configuration state ordered)
-next_has_entries configuration state ordered tied are_there law who (set.ChannelSenders channel) waits =
-    channel_has_entry configuration state ordered.pos ordered.core ordered.rec.body tied law who (set.ChannelSenders channel) (state.channels channel).senders (are_there who (set.ChannelSenders channel)) waits
-next_has_entries configuration state ordered tied are_there law who (set.ChannelReceivers channel) waits =
-    channel_has_entry configuration state ordered.pos ordered.core ordered.rec.body tied law who (set.ChannelReceivers channel) (state.channels channel).receivers (are_there who (set.ChannelReceivers channel)) waits
 next_has_entries configuration state ordered tied are_there law who wanted waits =
-    object_has_entry configuration state.cores ordered.pos ordered.core ordered.rec.body (state.partitions who.part) who wanted
-    (calls_ready configuration state ordered.core ordered.rec.body tied law who.part) refl (are_there who wanted) waits
+    elim (cases_Bool (is_of_channel wanted)) [
+      | inl is ↦ subst (λ one. has_entry_in who (entries_of (after configuration state ordered) who.part one) ≡ true) (sym (channel_set_is wanted is))
+          (at_channel wanted.number wanted.end (subst (λ one. waits_at one (found (after configuration state ordered).partitions who) ≡ true) (channel_set_is wanted is) waits))
+      | inr off ↦ rw off (object_has_entry configuration state.cores ordered.pos ordered.core ordered.rec.body (state.partitions who.part) who wanted
+          (calls_ready configuration state ordered.core ordered.rec.body tied law who.part) off
+          (λ before. subst (λ test. has_entry_in who (cond test (entries_at_channel wanted.end (state.channels wanted.number)) (entries_at (state.partitions who.part) wanted)) ≡ true) off (are_there who wanted before)) waits)
+    ]
+  where
+    at_channel : (channel : ℕ) (end : End) → waits_at (channel_set channel end) (found (after configuration state ordered).partitions who) ≡ true
+        → has_entry_in who (entries_of (after configuration state ordered) who.part (channel_set channel end)) ≡ true
+    at_channel channel Senders waits =
+        channel_has_entry configuration state ordered.pos ordered.core ordered.rec.body tied law who (channel_set channel Senders) (state.channels channel).senders (are_there who (channel_set channel Senders)) waits
+    at_channel channel Receivers waits =
+        channel_has_entry configuration state ordered.pos ordered.core ordered.rec.body tied law who (channel_set channel Receivers) (state.channels channel).receivers (are_there who (channel_set channel Receivers)) waits
 
 step_has_entries : (configuration : Configuration) (state : State) (ordered : Ordered) (next : State)
     → AreTied configuration state → WaitersHaveEntries state → Step configuration state ordered next → WaitersHaveEntries next

@@ -5,15 +5,15 @@ use Rattle.apex_types.specs.declared.record.Body.{Body}
 use Rattle.apex_types.specs.declared.record.Body.TheVariants.{Call, Ret, Disp, Tick}
 use Rattle.apex_types.specs.declared.record.Ordered.{Ordered}
 use Rattle.apex_types.specs.declared.record.Who.{Who}
+use Rattle.apex_types.specs.declared.shape.End.TheVariants.{Senders, Receivers}
 use Rattle.apex_machine.specs.declared.state.CoreState.{CoreState}
 use Rattle.apex_machine.specs.declared.state.Entry.{Entry}
 use Rattle.apex_machine.specs.declared.state.WaitingSet.{WaitingSet}
-use Rattle.apex_machine.specs.declared.state.WaitingSet.TheVariants as set
 use Rattle.apex_machine.specs.After.{partition_by}
 use Rattle.apex_machine.specs.Channels.{is_receiver, is_sender}
 use Rattle.apex_machine.specs.Configuration.{Configuration}
 use Rattle.apex_machine.specs.Demands.{has_entry_in}
-use Rattle.apex_machine.specs.State.{Partition, State, cold_state, is_named, is_same}
+use Rattle.apex_machine.specs.State.{Partition, State, cold_state, is_named, is_same, channel_set}
 use Rattle.apex_machine.specs.Step.{IsLawfulBody, Run, Step}
 use Rattle.apex_machine.specs.Waiting.{ends_wait, enters, entry_of, set_after, without}
 use Rattle.apex_laws.specs.Laws.{AllEntries, AllPairs, SetsAreInOrder, AreTied, IsEarlier, IsInOrder, IsTied, StaysInOrder, entries_at}
@@ -24,6 +24,8 @@ use Rattle.apex_laws.proofs.SetsAfter.{IsElsewhere, one_set_after}
 use Rattle.apex_laws.proofs.Stays.{step_tied}
 use Rattle.apex_laws.proofs.Waiters.{all_push, all_weaker, all_without}
 use Rattle.apex_laws.proofs.WaitersOf.{same_is, same_itself}
+use Rattle.apex_laws.proofs.Restarts.{start_set}
+use Rattle.apex_machine.specs.declared.state.Mode.TheVariants as mode
 
 -- one set
 
@@ -141,11 +143,11 @@ step_in_order configuration state ordered next tied order step =
       objects = λ number wanted. set_stays_in_order configuration state.cores state.count place core number body (state.partitions number) wanted at
           (λ own. new_here configuration state core body tied law (λ home. home ≡ number) wanted (entries_at (state.partitions number) wanted) (tied.objects number wanted))
           (order.objects number wanted);
-      senders = λ number. set_in_order state.count place body (set.ChannelSenders number) (state.channels number).senders at
-          (new_here configuration state core body tied law (λ home. IsTrue (is_sender configuration number home)) (set.ChannelSenders number) (state.channels number).senders (tied.senders number))
+      senders = λ number. set_in_order state.count place body (channel_set number Senders) (state.channels number).senders at
+          (new_here configuration state core body tied law (λ home. IsTrue (is_sender configuration number home)) (channel_set number Senders) (state.channels number).senders (tied.senders number))
           (order.senders number);
-      receivers = λ number. set_in_order state.count place body (set.ChannelReceivers number) (state.channels number).receivers at
-          (new_here configuration state core body tied law (λ home. IsTrue (is_receiver configuration number home)) (set.ChannelReceivers number) (state.channels number).receivers (tied.receivers number))
+      receivers = λ number. set_in_order state.count place body (channel_set number Receivers) (state.channels number).receivers at
+          (new_here configuration state core body tied law (λ home. IsTrue (is_receiver configuration number home)) (channel_set number Receivers) (state.channels number).receivers (tied.receivers number))
           (order.receivers number);
     })
 
@@ -157,8 +159,7 @@ run_in_order configuration (ordered ∷ others) state final tied order run =
     (step_in_order configuration state ordered run.0 tied order run.1) run.2
 
 cold_in_order : (configuration : Configuration) (number : ℕ) (wanted : WaitingSet) → IsInOrder 0 (entries_at ((cold_state configuration).partitions number) wanted)
-cold_in_order configuration number (set.BufferSenders object) = none_in_order 0
-cold_in_order configuration number _ = none_in_order 0
+cold_in_order configuration number wanted = subst (IsInOrder 0) (sym (start_set mode.ColdStart configuration number 0 wanted)) (none_in_order 0)
 
 pub stays_in_order : StaysInOrder
 stays_in_order = (

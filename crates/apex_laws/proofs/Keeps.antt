@@ -9,6 +9,7 @@ use Rattle.apex_types.specs.declared.record.Out.TheVariants as out
 use Rattle.apex_types.specs.declared.record.Who.{Who}
 use Rattle.apex_types.specs.declared.operation.{CallerOperation.CallerOperation, ProcessOperation.ProcessOperation}
 use Rattle.apex_types.specs.declared.request.Request.{Request}
+use Rattle.apex_types.specs.declared.operation.ObjectOperation.TheVariants as on
 use Rattle.apex_types.specs.declared.request.Request.TheVariants as request
 use Rattle.apex_machine.specs.declared.condition.Condition.TheVariants as condition
 use Rattle.apex_machine.specs.declared.state.CoreState.{CoreState}
@@ -116,7 +117,7 @@ set_by_alive : (place period : ℕ) (cores : List CoreState) (partition : Partit
 set_by_alive place period cores partition caller (request.Process process operation) number x alive =
     one_alive (is_number process number) (set_in place period (time_of cores x.affinity) partition.mode operation x) x alive (set_in_alive place period (time_of cores x.affinity) partition.mode operation x alive)
 set_by_alive place period cores partition caller (request.SetPartitionMode next) number x alive = normal_alive place period (time_of cores x.affinity) x ∙ alive
-set_by_alive place period cores partition caller (request.Mutex mutex operation) number x alive = mutex_alive (given_object partition.mutexes mutex) _ number x ∙ alive
+set_by_alive place period cores partition caller (request.Object mutex (on.Mutex operation)) number x alive = mutex_alive (given_object partition.mutexes mutex) _ number x ∙ alive
 set_by_alive place period cores partition caller _ number x alive = alive
 
 pub set_by_wait : (place period : ℕ) (cores : List CoreState) (partition : Partition) (caller : ℕ) (asked : Request) (number : ℕ) (x : Process) → IsNotStarted asked number
@@ -126,7 +127,7 @@ set_by_wait place period cores partition caller (request.Process process Process
 set_by_wait place period cores partition caller (request.Process process operation) number x starts normal =
     one_wait (is_number process number) (set_in place period (time_of cores x.affinity) partition.mode operation x) x refl
 set_by_wait place period cores partition caller (request.SetPartitionMode next) number x starts normal = rw normal refl
-set_by_wait place period cores partition caller (request.Mutex mutex operation) number x starts normal = mutex_wait (given_object partition.mutexes mutex) _ number x
+set_by_wait place period cores partition caller (request.Object mutex (on.Mutex operation)) number x starts normal = mutex_wait (given_object partition.mutexes mutex) _ number x
 set_by_wait place period cores partition caller _ number x starts normal = refl
 
 -- START starts no process that is alive

@@ -9,6 +9,7 @@ use Rattle.apex_machine.specs.declared.state.WaitingSet.{WaitingSet}
 use Rattle.apex_machine.specs.Waiting.{ends_wait, enters, entry_of, set_after, without}
 use Rattle.apex_laws.specs.RecordLaws.{SetIsTheSentence}
 use Rattle.apex_laws.specs.RecordSentences.{IsSetAfterCall, KeepsOnly}
+use Rattle.apex_laws.proofs.EachSet.{Leaves}
 
 -- the processes that stay are those that do not leave, if the test says which ones leave
 pub keeps_only : (Leaves : Who → Type 0) (leaves : Who → Bool) → ((who : Who) → leaves who ≡ true → Leaves who) → ((who : Who) → leaves who ≡ false → ¬ Leaves who)

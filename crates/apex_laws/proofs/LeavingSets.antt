@@ -1,13 +1,12 @@
 -- Which processes leave the waiting sets of a partition: the target of a STOP, those named at a tick, and none at another partition's
 -- record.
-use Rattle.std.proofs.Common.{◌≡◌, ℕ, List, [], ◌∷◌, true, false, cond, nat_eq, ℤ, pos, Some, None, refl, sym, ap, subst, ◌∙◌, true≢false, ◌&&◌, ◌||◌}
-use Rattle.std.proofs.lemmas.Bool.{and_parts, eqb-true}
+use Rattle.std.proofs.Common.{◌≡◌, ℕ, List, [], ◌∷◌, true, false, cond, nat_eq, ℤ, pos, Some, None, refl, sym, ap, subst, ◌∙◌, true≢false, ◌&&◌, ◌||◌, inl, inr}
+use Rattle.std.proofs.lemmas.Bool.{and_parts, eqb-true, cases_Bool}
 use Rattle.apex_types.specs.declared.record.Body.TheVariants.{Call, Ret}
 use Rattle.apex_types.specs.declared.record.Call.{Call as CallRecord}
 use Rattle.apex_types.specs.declared.record.Claim.{Claim}
 use Rattle.apex_types.specs.declared.record.Return.{Return}
 use Rattle.apex_types.specs.declared.record.Who.{Who}
-use Rattle.apex_types.specs.declared.object_kind.ObjectKind.TheVariants as kind
 use Rattle.apex_types.specs.declared.operation.{ProcessOperation.ProcessOperation}
 use Rattle.apex_types.specs.declared.request.Request.{Request}
 use Rattle.apex_types.specs.declared.request.Request.TheVariants as request
@@ -17,7 +16,6 @@ use Rattle.apex_machine.specs.declared.state.Process.{Process}
 use Rattle.apex_machine.specs.declared.state.Wait.{Wait}
 use Rattle.apex_machine.specs.declared.state.Wait.TheVariants as wait
 use Rattle.apex_machine.specs.declared.state.WaitingSet.{WaitingSet}
-use Rattle.apex_machine.specs.declared.state.WaitingSet.TheVariants as set
 use Rattle.apex_machine.specs.After.{each_set, is_done, objects_by, partition_by}
 use Rattle.apex_machine.specs.Answer.{done}
 use Rattle.apex_machine.specs.Arguments.{natural_of}
@@ -25,21 +23,23 @@ use Rattle.apex_machine.specs.Demands.{AllHold, outcome_demands}
 use Rattle.apex_machine.specs.Ports.{channel_of}
 use Rattle.apex_machine.specs.ServiceConditions.{conditions_of}
 use Rattle.apex_machine.specs.Services.{answer_of, peer}
-use Rattle.apex_machine.specs.State.{Blackboard, Buffer, Event, Mutex, Partition, Semaphore, is_named, is_same, item_at, time_of}
+use Rattle.apex_machine.specs.State.{Partition, is_named, is_same, item_at, time_of, set_at, is_of_object, is_same_end, entries_at_end, with_ends, objects_of}
 use Rattle.apex_machine.specs.Waiting.{ends_wait, is_in, is_no_error, is_same_set, is_target, restart_by, restart_of, set_after, stop_of, waits_at}
 use Rattle.apex_laws.specs.Laws.{AllEntries, entries_at}
-use Rattle.apex_laws.specs.PartLaws.{DueLeave, ForeignCallsLeaveSets, HasDistinctObjects, OnlyProcessesChange, is_of_channel, is_set_used}
-use Rattle.apex_laws.specs.PartObjects.{StoppedLeaves, left_by, with_set, without_one}
-use Rattle.apex_laws.proofs.Booleans.{cannot_hold, neither_first, neither_later, same_if}
+use Rattle.apex_laws.specs.PartLaws.{DueLeave, ForeignCallsLeaveSets, HasDistinctObjects, OnlyProcessesChange, is_set_used}
+use Rattle.apex_laws.specs.PartObjects.{StoppedLeaves, left_by, with_set, without_one, at_end}
+use Rattle.apex_laws.proofs.Booleans.{cannot_hold, same_if, not_second, not_first}
 use Rattle.apex_laws.proofs.Restarts.{restarts_none, return_case}
 use Rattle.apex_laws.proofs.OtherSets.{enters_no_other}
-use Rattle.apex_laws.proofs.EachSet.{Leaves, becomes_found, leaves_found, sets_stay}
+use Rattle.apex_laws.proofs.EachSet.{Leaves, sets_stay, of_found}
 use Rattle.apex_laws.proofs.PartObjects.{one_of_kind_changes}
 use Rattle.apex_laws.proofs.SoundParts.{WaitsInSet}
 use Rattle.apex_laws.proofs.Waiters.{none_leaves, without_same}
 use Rattle.apex_laws.proofs.WaitSets.{set_itself}
 use Rattle.apex_laws.proofs.WaitersOf.{same_is}
 use Rattle.apex_laws.proofs.Woken.{created_is}
+use Rattle.apex_laws.proofs.SetNames.{ends_agree, same_end_is}
+use Rattle.apex_types.specs.declared.shape.End.{End}
 
 -- ticks
 
@@ -69,48 +69,21 @@ foreign_calls_leave_sets configuration cores place core number partition = (call
 pub one_set_alone : (change : WaitingSet → List Entry → List Entry) (through : List Entry → List Entry) (partition : Partition) (wanted : WaitingSet) → HasDistinctObjects partition
     → change wanted (entries_at partition wanted) ≡ through (entries_at partition wanted) → ((other : WaitingSet) → is_same_set wanted other ≡ false → Leaves change partition other)
     → each_set change partition ≡ with_set wanted through partition
-one_set_alone change through partition (set.BufferSenders number) has becomes leaves =
-    one_of_kind_changes kind.Buffer change partition false number (λ found. found) _ has
-    (λ found at. (let senders : change (set.BufferSenders number) found.senders ≡ through found.senders =
-    becomes_found (λ (one : Buffer). one.senders) (change (set.BufferSenders number)) through (item_at partition.buffers number) found at becomes in
-    let receivers : change (set.BufferReceivers number) found.receivers ≡ found.receivers =
-    leaves_found (λ (one : Buffer). one.receivers) (change (set.BufferReceivers number)) (item_at partition.buffers number) found at (leaves (set.BufferReceivers number) refl) in
-    λ i. record found { senders = senders i; receivers = receivers i }))
-    (λ other off. leaves other (neither_first _ _ off))
-one_set_alone change through partition (set.BufferReceivers number) has becomes leaves =
-    one_of_kind_changes kind.Buffer change partition false number (λ found. found) _ has
-    (λ found at. (let senders : change (set.BufferSenders number) found.senders ≡ found.senders =
-    leaves_found (λ (one : Buffer). one.senders) (change (set.BufferSenders number)) (item_at partition.buffers number) found at (leaves (set.BufferSenders number) refl) in
-    let receivers : change (set.BufferReceivers number) found.receivers ≡ through found.receivers =
-    becomes_found (λ (one : Buffer). one.receivers) (change (set.BufferReceivers number)) through (item_at partition.buffers number) found at becomes in
-    λ i. record found { senders = senders i; receivers = receivers i }))
-    (λ other off. leaves other (neither_later _ _ off))
-one_set_alone change through partition (set.BlackboardReaders number) has becomes leaves =
-    one_of_kind_changes kind.Blackboard change partition false number (λ found. found) _ has
-    (λ found at. ap (λ readers. record found { readers = readers })
-    (becomes_found (λ (one : Blackboard). one.readers) (change (set.BlackboardReaders number)) through (item_at partition.blackboards number) found at becomes)) leaves
-one_set_alone change through partition (set.SemaphoreWaiters number) has becomes leaves =
-    one_of_kind_changes kind.Semaphore change partition false number (λ found. found) _ has
-    (λ found at. ap (λ waiters. record found { waiters = waiters })
-    (becomes_found (λ (one : Semaphore). one.waiters) (change (set.SemaphoreWaiters number)) through (item_at partition.semaphores number) found at becomes)) leaves
-one_set_alone change through partition (set.EventWaiters number) has becomes leaves =
-    one_of_kind_changes kind.Event change partition false number (λ found. found) _ has
-    (λ found at. ap (λ waiters. record found { waiters = waiters })
-    (becomes_found (λ (one : Event). one.waiters) (change (set.EventWaiters number)) through (item_at partition.events number) found at becomes)) leaves
-one_set_alone change through partition (set.MutexWaiters number) has becomes leaves =
-    one_of_kind_changes kind.Mutex change partition false number (λ found. found) _ has
-    (λ found at. ap (λ waiters. record found { waiters = waiters })
-    (becomes_found (λ (one : Mutex). one.waiters) (change (set.MutexWaiters number)) through (item_at partition.mutexes number) found at becomes)) leaves
-one_set_alone change through partition (set.ChannelSenders channel) has becomes leaves = sets_stay change partition has (λ other off. leaves other (off_channel channel other off))
+one_set_alone change through partition wanted has becomes leaves =
+    one_of_kind_changes wanted.kind change partition false wanted.number (λ found. found) (with_ends wanted.kind (at_end wanted.end through)) has
+    (λ found at. ends_agree wanted.kind (λ end. change (set_at wanted.kind wanted.number end)) (at_end wanted.end through) found (λ off end.
+    of_found (entries_at_end wanted.kind end) (λ entries. change (set_at wanted.kind wanted.number end) entries ≡ at_end wanted.end through end entries)
+    (item_at (objects_of partition wanted.kind) wanted.number) found at (at_each_end end)))
+    (λ other off. leaves other (not_first (is_of_object wanted.kind wanted.number other) (is_same_end wanted.end other.end) off))
   where
-    off_channel : (channel : ℕ) (other : WaitingSet) → is_of_channel other ≡ false → is_same_set (set.ChannelSenders channel) other ≡ false
-    off_channel channel (set.ChannelSenders another) off = absurd (true≢false off)
-    off_channel channel _ off = refl
-one_set_alone change through partition (set.ChannelReceivers channel) has becomes leaves = sets_stay change partition has (λ other off. leaves other (off_channel channel other off))
-  where
-    off_channel : (channel : ℕ) (other : WaitingSet) → is_of_channel other ≡ false → is_same_set (set.ChannelReceivers channel) other ≡ false
-    off_channel channel (set.ChannelReceivers another) off = absurd (true≢false off)
-    off_channel channel _ off = refl
+    at_each_end : (end : End) → change (set_at wanted.kind wanted.number end) (entries_at partition (set_at wanted.kind wanted.number end))
+        ≡ at_end wanted.end through end (entries_at partition (set_at wanted.kind wanted.number end))
+    at_each_end end =
+        elim (cases_Bool (is_same_end wanted.end end)) [
+          | inl same ↦ rw same (subst (λ one. change (set_at wanted.kind wanted.number one) (entries_at partition (set_at wanted.kind wanted.number one))
+              ≡ through (entries_at partition (set_at wanted.kind wanted.number one))) (same_end_is wanted.end end same) becomes)
+          | inr differs ↦ rw differs (leaves (set_at wanted.kind wanted.number end) (not_second (is_of_object wanted.kind wanted.number (set_at wanted.kind wanted.number end)) (is_same_end wanted.end end) differs))
+        ]
 
 -- a STOP that is done
 

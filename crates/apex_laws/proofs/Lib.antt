@@ -1,4 +1,5 @@
 pub mod Booleans
+pub mod SetNames
 pub mod Choices
 pub mod Order
 pub mod Ready

@@ -6,6 +6,7 @@ use Rattle.apex_types.specs.declared.limits.TheConstants.{GREATEST_MAXIMUM, LONG
 use Rattle.apex_types.specs.declared.record.Who.{Who}
 use Rattle.apex_types.specs.declared.operation.{BlackboardOperation.BlackboardOperation, BufferOperation.BufferOperation, CallerOperation.CallerOperation, EventOperation.EventOperation, MutexOperation.MutexOperation, NewObject.NewObject, ProcessOperation.ProcessOperation, QueuingOperation.QueuingOperation, SamplingOperation.SamplingOperation, SemaphoreOperation.SemaphoreOperation}
 use Rattle.apex_types.specs.declared.request.Request.{Request}
+use Rattle.apex_types.specs.declared.operation.ObjectOperation.TheVariants as on
 use Rattle.apex_types.specs.declared.request.Request.TheVariants as request
 use Rattle.apex_types.specs.Requested.{kind_of}
 use Rattle.apex_machine.specs.declared.condition.Condition.{Condition}
@@ -316,25 +317,25 @@ module _ (configuration : Configuration) (who : Who) (partition : Partition) whe
       (creation_says (request.Create name object) (is_taken (name_in of) name (objects_of partition of)) (is_full configuration who.part partition of) tt
       (named_tells (name_in of) name (objects_of partition of)).0 (full_tells configuration who.part partition of).0)
       (parameters_say name object)
-  says (request.Buffer buffer (BufferOperation.Send length time_out message)) =
-      let asked : Request = request.Buffer buffer (BufferOperation.Send length time_out message) in
+  says (request.Object buffer (on.Buffer (BufferOperation.Send length time_out message))) =
+      let asked : Request = request.Object buffer (on.Buffer (BufferOperation.Send length time_out message)) in
       each_of_both _ _ (Holds asked)
       (each_of_both _ _ (Holds asked)
       (message_says asked partition.buffers buffer length (λ found. found.size) (λ names. names) HasCondition.send_buffer_empty HasCondition.send_buffer_long)
       (time_out_says asked time_out refl))
       (waiting_says asked time_out refl)
-  says (request.Buffer buffer (BufferOperation.Receive time_out)) = object_says (request.Buffer buffer (BufferOperation.Receive time_out)) partition.buffers buffer time_out (λ names. names) refl refl
-  says (request.Blackboard blackboard (BlackboardOperation.Display length message)) =
-      message_says (request.Blackboard blackboard (BlackboardOperation.Display length message)) partition.blackboards blackboard length (λ found. found.size) (λ names. names) HasCondition.display_empty HasCondition.display_long
-  says (request.Blackboard blackboard (BlackboardOperation.Read time_out)) = object_says (request.Blackboard blackboard (BlackboardOperation.Read time_out)) partition.blackboards blackboard time_out (λ names. names) refl refl
-  says (request.Blackboard blackboard BlackboardOperation.Clear) = created_says (request.Blackboard blackboard BlackboardOperation.Clear) partition.blackboards blackboard (λ names. names)
-  says (request.Semaphore semaphore (SemaphoreOperation.Wait time_out)) = object_says (request.Semaphore semaphore (SemaphoreOperation.Wait time_out)) partition.semaphores semaphore time_out (λ names. names) refl refl
-  says (request.Semaphore semaphore SemaphoreOperation.Signal) = created_says (request.Semaphore semaphore SemaphoreOperation.Signal) partition.semaphores semaphore (λ names. names)
-  says (request.Event event EventOperation.Set) = created_says (request.Event event EventOperation.Set) partition.events event (λ names. names)
-  says (request.Event event EventOperation.Reset) = created_says (request.Event event EventOperation.Reset) partition.events event (λ names. names)
-  says (request.Event event (EventOperation.Wait time_out)) = object_says (request.Event event (EventOperation.Wait time_out)) partition.events event time_out (λ names. names) refl refl
-  says (request.Mutex mutex (MutexOperation.Acquire time_out)) =
-      let asked : Request = request.Mutex mutex (MutexOperation.Acquire time_out) in
+  says (request.Object buffer (on.Buffer (BufferOperation.Receive time_out))) = object_says (request.Object buffer (on.Buffer (BufferOperation.Receive time_out))) partition.buffers buffer time_out (λ names. names) refl refl
+  says (request.Object blackboard (on.Blackboard (BlackboardOperation.Display length message))) =
+      message_says (request.Object blackboard (on.Blackboard (BlackboardOperation.Display length message))) partition.blackboards blackboard length (λ found. found.size) (λ names. names) HasCondition.display_empty HasCondition.display_long
+  says (request.Object blackboard (on.Blackboard (BlackboardOperation.Read time_out))) = object_says (request.Object blackboard (on.Blackboard (BlackboardOperation.Read time_out))) partition.blackboards blackboard time_out (λ names. names) refl refl
+  says (request.Object blackboard (on.Blackboard BlackboardOperation.Clear)) = created_says (request.Object blackboard (on.Blackboard BlackboardOperation.Clear)) partition.blackboards blackboard (λ names. names)
+  says (request.Object semaphore (on.Semaphore (SemaphoreOperation.Wait time_out))) = object_says (request.Object semaphore (on.Semaphore (SemaphoreOperation.Wait time_out))) partition.semaphores semaphore time_out (λ names. names) refl refl
+  says (request.Object semaphore (on.Semaphore SemaphoreOperation.Signal)) = created_says (request.Object semaphore (on.Semaphore SemaphoreOperation.Signal)) partition.semaphores semaphore (λ names. names)
+  says (request.Object event (on.Event EventOperation.Set)) = created_says (request.Object event (on.Event EventOperation.Set)) partition.events event (λ names. names)
+  says (request.Object event (on.Event EventOperation.Reset)) = created_says (request.Object event (on.Event EventOperation.Reset)) partition.events event (λ names. names)
+  says (request.Object event (on.Event (EventOperation.Wait time_out))) = object_says (request.Object event (on.Event (EventOperation.Wait time_out))) partition.events event time_out (λ names. names) refl refl
+  says (request.Object mutex (on.Mutex (MutexOperation.Acquire time_out))) =
+      let asked : Request = request.Object mutex (on.Mutex (MutexOperation.Acquire time_out)) in
       each_of_both _ _ (Holds asked)
       (each_of_both _ _ (Holds asked)
       (each_of_both _ _ (Holds asked)
@@ -346,8 +347,8 @@ module _ (configuration : Configuration) (who : Who) (partition : Partition) whe
       (each_when (nat_eq who.proc 0) _ (Holds asked) (λ holds. HasCondition.acquire_initialising ((equal_tells who.proc 0).0 holds))))
       (each_when (owns_another partition.mutexes mutex who.proc) _ (Holds asked)
       (λ holds. let facts = (second_tells partition mutex who.proc).0 holds in HasCondition.acquire_second facts.0 facts.1 facts.2))
-  says (request.Mutex mutex MutexOperation.Release) =
-      let asked : Request = request.Mutex mutex MutexOperation.Release in
+  says (request.Object mutex (on.Mutex MutexOperation.Release)) =
+      let asked : Request = request.Object mutex (on.Mutex MutexOperation.Release) in
       each_created (given_object partition.mutexes mutex) _ (Holds asked)
       (λ nobody. HasCondition.names_nothing (no_object_is partition.mutexes mutex nobody))
       (λ found at. number_fails asked (is_owner found.owner who.proc) (found.owner ≡ Some who.proc) _ (owner_tells found.owner who.proc)

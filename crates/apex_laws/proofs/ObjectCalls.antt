@@ -1,14 +1,16 @@
 -- The services of objects use and change exactly the object that they name, by the sentences of its rule.
 use Rattle.std.proofs.Common.{◌≡◌, ℕ, List, [], ◌++◌, Bool, false, cond, not, nat_eq, nat_lt, ℤ, pos, negsuc, Option, Some, None, option_map, refl, sym, ap, subst, ◌∙◌}
 use Rattle.std.proofs.lemmas.Bool.{eqb-true}
+use Rattle.apex_types.specs.declared.object_kind.ObjectKind.TheVariants as kind
 use Rattle.apex_types.specs.declared.record.Who.{Who}
 use Rattle.apex_types.specs.declared.operation.{BlackboardOperation.BlackboardOperation, BufferOperation.BufferOperation, EventOperation.EventOperation, MutexOperation.MutexOperation, NewObject.NewObject, SamplingOperation.SamplingOperation, SemaphoreOperation.SemaphoreOperation}
+use Rattle.apex_types.specs.declared.operation.ObjectOperation.TheVariants as on
 use Rattle.apex_types.specs.declared.request.Request.TheVariants as request
+use Rattle.apex_types.specs.declared.shape.End.TheVariants.{Senders, Receivers}
 use Rattle.apex_machine.specs.declared.condition.Condition.{Condition}
 use Rattle.apex_machine.specs.declared.condition.Condition.TheVariants as condition
 use Rattle.apex_machine.specs.declared.state.Entry.{Entry}
-use Rattle.apex_machine.specs.declared.state.WaitingSet.TheVariants as set
-use Rattle.apex_machine.specs.After.{is_valid, new_blackboard, new_buffer, new_event, new_mutex, new_queuing_port, new_sampling_port, new_semaphore, numbered}
+use Rattle.apex_machine.specs.After.{is_valid, new_blackboard, new_buffer, new_event, new_mutex, new_queuing_port, new_sampling_port, new_semaphore, numbered, numbered_if}
 use Rattle.apex_machine.specs.Answer.{Answer, Effect, NewNumber, done_with}
 use Rattle.apex_machine.specs.Arguments.{is_length, is_longer, natural_of}
 use Rattle.apex_machine.specs.Channels.{QueuingPort, SamplingPort, queuing_port, sampling_port}
@@ -17,11 +19,11 @@ use Rattle.apex_machine.specs.PortConditions.{is_queuing_port, is_sampling_port}
 use Rattle.apex_machine.specs.Conditions.{conditions_for, of_caller, time_out_conditions, waiting_conditions, when}
 use Rattle.apex_machine.specs.Objects.{acquired, board_read, buffer_received, buffer_sent, cleared, displayed, event_reset, event_set, event_waited, is_owner, mutex_released, semaphore_waited, signalled}
 use Rattle.apex_machine.specs.Services.{answer_by}
-use Rattle.apex_machine.specs.State.{Blackboard, Buffer, Event, Mutex, Partition, Port, Semaphore, change_at, given_object, is_free, item_at}
+use Rattle.apex_machine.specs.State.{Blackboard, Buffer, Event, Mutex, Partition, Port, Semaphore, change_at, given_object, is_free, item_at, set_at}
 use Rattle.apex_machine.specs.Waiting.{first_waiter}
 use Rattle.apex_laws.specs.CallSentences.{Creates, OneBecomes, Operates}
 use Rattle.apex_laws.specs.ObjectSentences.{IsClearing, IsReleasing, IsResetting}
-use Rattle.apex_laws.specs.Laws.{entries_in}
+use Rattle.apex_laws.specs.Laws.{entries_in, entries_of}
 use Rattle.apex_laws.specs.ObjectLaws.{AreApart, ObjectCallIsTheSentence}
 use Rattle.apex_laws.proofs.Booleans.{cannot_hold, is_itself}
 use Rattle.apex_laws.proofs.Ends.{first_empty, is_created, second_empty}
@@ -132,7 +134,7 @@ queuing_there (Some port) size capacity way order none = (port, refl)
 pub object_call_is_the_sentence : ObjectCallIsTheSentence
 object_call_is_the_sentence configuration now who claimed (request.Create name (NewObject.Buffer size capacity discipline)) partition apart none =
     (refl, creates partition.buffers claimed (new_buffer name size capacity discipline))
-object_call_is_the_sentence configuration now who claimed (request.Buffer buffer (BufferOperation.Send length time_out message)) partition apart none =
+object_call_is_the_sentence configuration now who claimed (request.Object buffer (on.Buffer (BufferOperation.Send length time_out message))) partition apart none =
     let first = first_empty (message_conditions (option_map (λ (found : Buffer). found.size) (given_object partition.buffers buffer)) length) (time_out_conditions time_out)
     (first_empty (message_conditions (option_map (λ (found : Buffer). found.size) (given_object partition.buffers buffer)) length ++ time_out_conditions time_out) (waiting_conditions who partition time_out) none) in
     let there = message_there (λ (found : Buffer). found.size) (given_object partition.buffers buffer) length first in
@@ -140,56 +142,56 @@ object_call_is_the_sentence configuration now who claimed (request.Buffer buffer
       refl,
       operates partition.buffers buffer found there.1 _ (λ one messages. record one { messages = messages }) (buffer_sent message time_out)
           ((queue_is_the_sentence.0 found.capacity message time_out found.discipline found.receivers found.messages (buffer_sent message time_out found)
-          (given_entries (λ (one : Buffer). one.receivers) partition.buffers buffer found there.1 (apart (set.BufferReceivers (natural_of buffer))))).0 refl),
+          (given_entries (λ (one : Buffer). one.receivers) partition.buffers buffer found there.1 (apart (set_at kind.Buffer (natural_of buffer) Receivers)))).0 refl),
     )
-object_call_is_the_sentence configuration now who claimed (request.Buffer buffer (BufferOperation.Receive time_out)) partition apart none =
+object_call_is_the_sentence configuration now who claimed (request.Object buffer (on.Buffer (BufferOperation.Receive time_out))) partition apart none =
     let there = object_there who partition (given_object partition.buffers buffer) time_out none in
     let found : Buffer = there.0 in (
       refl,
       operates partition.buffers buffer found there.1 _ (λ one messages. record one { messages = messages }) (buffer_received time_out)
           ((queue_is_the_sentence.1 time_out found.discipline found.senders found.messages (buffer_received time_out found)
-          (given_entries (λ (one : Buffer). one.senders) partition.buffers buffer found there.1 (apart (set.BufferSenders (natural_of buffer))))).0 refl),
+          (given_entries (λ (one : Buffer). one.senders) partition.buffers buffer found there.1 (apart (set_at kind.Buffer (natural_of buffer) Senders)))).0 refl),
     )
 object_call_is_the_sentence configuration now who claimed (request.Create name (NewObject.Blackboard size)) partition apart none =
     (refl, creates partition.blackboards claimed (new_blackboard name size))
-object_call_is_the_sentence configuration now who claimed (request.Blackboard blackboard (BlackboardOperation.Display length message)) partition apart none =
+object_call_is_the_sentence configuration now who claimed (request.Object blackboard (on.Blackboard (BlackboardOperation.Display length message))) partition apart none =
     let there = message_there (λ (found : Blackboard). found.size) (given_object partition.blackboards blackboard) length none in
     (refl, operates partition.blackboards blackboard there.0 there.1 _ (λ one message. record one { message = message }) (λ found. displayed message found.readers) refl)
-object_call_is_the_sentence configuration now who claimed (request.Blackboard blackboard (BlackboardOperation.Read time_out)) partition apart none =
+object_call_is_the_sentence configuration now who claimed (request.Object blackboard (on.Blackboard (BlackboardOperation.Read time_out))) partition apart none =
     let there = object_there who partition (given_object partition.blackboards blackboard) time_out none in
     let found : Blackboard = there.0 in (
       refl,
       operates partition.blackboards blackboard found there.1 _ (λ one message. record one { message = message }) (λ found. board_read time_out found.message)
           ((blackboard_is_the_sentence.1 time_out found.message (board_read time_out found.message)).0 refl),
     )
-object_call_is_the_sentence configuration now who claimed (request.Blackboard blackboard BlackboardOperation.Clear) partition apart none =
+object_call_is_the_sentence configuration now who claimed (request.Object blackboard (on.Blackboard BlackboardOperation.Clear)) partition apart none =
     let there = lone_there (given_object partition.blackboards blackboard) none in
     (refl, operates partition.blackboards blackboard there.0 there.1 (λ found effect. IsClearing effect) (λ one message. record one { message = message }) (λ found. cleared) refl)
 object_call_is_the_sentence configuration now who claimed (request.Create name (NewObject.Semaphore value maximum discipline)) partition apart none =
     (refl, creates partition.semaphores claimed (new_semaphore name value maximum discipline))
-object_call_is_the_sentence configuration now who claimed (request.Semaphore semaphore (SemaphoreOperation.Wait time_out)) partition apart none =
+object_call_is_the_sentence configuration now who claimed (request.Object semaphore (on.Semaphore (SemaphoreOperation.Wait time_out))) partition apart none =
     let there = object_there who partition (given_object partition.semaphores semaphore) time_out none in
     let found : Semaphore = there.0 in (
       refl,
       operates partition.semaphores semaphore found there.1 _ (λ one value. record one { value = value }) (λ found. semaphore_waited time_out found.value)
           ((semaphore_is_the_sentence.0 time_out found.value (semaphore_waited time_out found.value)).0 refl),
     )
-object_call_is_the_sentence configuration now who claimed (request.Semaphore semaphore SemaphoreOperation.Signal) partition apart none =
+object_call_is_the_sentence configuration now who claimed (request.Object semaphore (on.Semaphore SemaphoreOperation.Signal)) partition apart none =
     let there = lone_there (given_object partition.semaphores semaphore) none in
     let found : Semaphore = there.0 in (
       refl,
       operates partition.semaphores semaphore found there.1 _ (λ one value. record one { value = value }) (λ found. signalled found.maximum (first_waiter found.discipline found.waiters) found.value)
           ((semaphore_is_the_sentence.1 found.maximum found.discipline found.waiters found.value (signalled found.maximum (first_waiter found.discipline found.waiters) found.value)
-          (given_entries (λ (one : Semaphore). one.waiters) partition.semaphores semaphore found there.1 (apart (set.SemaphoreWaiters (natural_of semaphore))))).0 refl),
+          (given_entries (λ (one : Semaphore). one.waiters) partition.semaphores semaphore found there.1 (apart (set_at kind.Semaphore (natural_of semaphore) Receivers)))).0 refl),
     )
 object_call_is_the_sentence configuration now who claimed (request.Create name NewObject.Event) partition apart none = (refl, creates partition.events claimed (new_event name))
-object_call_is_the_sentence configuration now who claimed (request.Event event EventOperation.Set) partition apart none =
+object_call_is_the_sentence configuration now who claimed (request.Object event (on.Event EventOperation.Set)) partition apart none =
     let there = lone_there (given_object partition.events event) none in
     (refl, operates partition.events event there.0 there.1 _ (λ one up. record one { up = up }) (λ found. event_set found.waiters) refl)
-object_call_is_the_sentence configuration now who claimed (request.Event event EventOperation.Reset) partition apart none =
+object_call_is_the_sentence configuration now who claimed (request.Object event (on.Event EventOperation.Reset)) partition apart none =
     let there = lone_there (given_object partition.events event) none in
     (refl, operates partition.events event there.0 there.1 (λ found effect. IsResetting effect) (λ one up. record one { up = up }) (λ found. event_reset) refl)
-object_call_is_the_sentence configuration now who claimed (request.Event event (EventOperation.Wait time_out)) partition apart none =
+object_call_is_the_sentence configuration now who claimed (request.Object event (on.Event (EventOperation.Wait time_out))) partition apart none =
     let there = object_there who partition (given_object partition.events event) time_out none in
     let found : Event = there.0 in (
       refl,
@@ -198,20 +200,20 @@ object_call_is_the_sentence configuration now who claimed (request.Event event (
     )
 object_call_is_the_sentence configuration now who claimed (request.Create name (NewObject.Mutex priority discipline)) partition apart none =
     (refl, creates partition.mutexes claimed (new_mutex name priority discipline))
-object_call_is_the_sentence configuration now who claimed (request.Mutex mutex (MutexOperation.Acquire time_out)) partition apart none =
+object_call_is_the_sentence configuration now who claimed (request.Object mutex (on.Mutex (MutexOperation.Acquire time_out))) partition apart none =
     let there = mutex_there who partition mutex time_out none in
     let found : Mutex = there.0 in (
       refl,
       operates partition.mutexes mutex found there.1 _ (λ one changed. changed) (acquired who.proc time_out)
           ((mutex_is_the_sentence.0 who.proc time_out found (acquired who.proc time_out found)).0 refl),
     )
-object_call_is_the_sentence configuration now who claimed (request.Mutex mutex MutexOperation.Release) partition apart none =
+object_call_is_the_sentence configuration now who claimed (request.Object mutex (on.Mutex MutexOperation.Release)) partition apart none =
     let there = is_created (given_object partition.mutexes mutex) (λ found. when (not (is_owner found.owner who.proc)) condition.NotOwner) none in
     let found : Mutex = there.0 in (
       refl,
       operates partition.mutexes mutex found there.1 (λ found effect. IsReleasing found effect) (λ one changed. changed) (λ found. mutex_released (first_waiter found.discipline found.waiters) found)
           ((mutex_is_the_sentence.1 found (mutex_released (first_waiter found.discipline found.waiters) found)
-          (given_entries (λ (one : Mutex). one.waiters) partition.mutexes mutex found there.1 (apart (set.MutexWaiters (natural_of mutex))))).0 refl),
+          (given_entries (λ (one : Mutex). one.waiters) partition.mutexes mutex found there.1 (apart (set_at kind.Mutex (natural_of mutex) Receivers)))).0 refl),
     )
 object_call_is_the_sentence configuration now who claimed (request.Create name (NewObject.SamplingPort size direction refresh)) partition apart none =
     let there = sampling_there (sampling_port configuration who.part name) size direction refresh (second_empty _ _ none) in
@@ -221,7 +223,7 @@ object_call_is_the_sentence configuration now who claimed (request.Create name (
       (
         port,
         there.1,
-        subst (λ found. Creates partition.sampling_ports (partition.sampling_ports ++ new_sampling_port name claimed found) claimed new (done_with (NewNumber (is_free partition.sampling_ports))))
+        subst (λ found. Creates partition.sampling_ports (partition.sampling_ports ++ numbered_if claimed (option_map (new_sampling_port name) found)) claimed new (done_with (NewNumber (is_free partition.sampling_ports))))
             (sym there.1) (creates partition.sampling_ports claimed new),
       ),
     )
@@ -233,7 +235,7 @@ object_call_is_the_sentence configuration now who claimed (request.Create name (
       (
         port,
         there.1,
-        subst (λ found. Creates partition.queuing_ports (partition.queuing_ports ++ new_queuing_port name claimed found) claimed new (done_with (NewNumber (is_free partition.queuing_ports))))
+        subst (λ found. Creates partition.queuing_ports (partition.queuing_ports ++ numbered_if claimed (option_map (new_queuing_port name) found)) claimed new (done_with (NewNumber (is_free partition.queuing_ports))))
             (sym there.1) (creates partition.queuing_ports claimed new),
       ),
     )

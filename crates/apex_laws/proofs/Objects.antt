@@ -1,22 +1,30 @@
 -- The waiting sets of a partition's objects, when its objects change.
-use Rattle.std.proofs.Common.{◌≡◌, ℕ, List, [], ◌∷◌, ◌++◌, Bool, true, false, cond, nat_eq, nat_lt, ℤ, pos, negsuc, Option, Some, None, is_some, option_map, refl, sym, subst}
+use Rattle.std.proofs.Common.{◌≡◌, append-nil, ℕ, List, [], ◌∷◌, ◌++◌, ◌∙◌, ◌&&◌, Bool, true, false, cond, nat_eq, nat_lt, ℤ, pos, negsuc, Option, Some, None, is_some, option_map, refl, sym, subst, inl, inr, ap}
 use Rattle.apex_types.specs.declared.object_kind.ObjectKind.TheVariants as kind
 use Rattle.apex_types.specs.declared.record.Who.{Who}
 use Rattle.apex_types.specs.declared.operation.{MutexOperation.MutexOperation, NewObject.NewObject, SamplingOperation.SamplingOperation}
 use Rattle.apex_types.specs.declared.request.Request.{Request}
+use Rattle.apex_types.specs.declared.operation.ObjectOperation.TheVariants as on
 use Rattle.apex_types.specs.declared.request.Request.TheVariants as request
+use Rattle.apex_types.specs.declared.shape.End.TheVariants.{Senders, Receivers}
 use Rattle.apex_machine.specs.declared.state.Entry.{Entry}
 use Rattle.apex_machine.specs.declared.state.WaitingSet.{WaitingSet}
-use Rattle.apex_machine.specs.declared.state.WaitingSet.TheVariants as set
-use Rattle.apex_machine.specs.After.{each_set, new_blackboard, new_buffer, new_event, new_mutex, new_semaphore, numbered, objects_by, with_sets}
+use Rattle.apex_machine.specs.After.{each_set, is_valid, numbered, objects_by, with_sets, new_object, numbered_if}
 use Rattle.apex_machine.specs.Arguments.{natural_of}
 use Rattle.apex_machine.specs.Configuration.{Configuration}
-use Rattle.apex_machine.specs.Objects.{acquired_again, acquired_from, blackboard_effect, buffer_effect, event_effect, handed_on, mutex_effect, mutex_released, not_acquired, released_once, semaphore_effect}
-use Rattle.apex_machine.specs.State.{Blackboard, Buffer, Event, Mutex, Partition, Semaphore, change_at, each_item, item_at}
+use Rattle.apex_machine.specs.Objects.{acquired_again, acquired_from, handed_on, mutex_effect, mutex_released, not_acquired, released_once, object_effect}
+use Rattle.apex_machine.specs.State.{Blackboard, Buffer, Event, Mutex, Partition, Port, Semaphore, change_at, each_item, item_at, set_at, is_of_channel, entries_at_end, objects_of, ObjectOf}
 use Rattle.apex_machine.specs.Waiting.{first_waiter}
-use Rattle.apex_laws.specs.Laws.{AllEntries, entries_at, entries_in}
-use Rattle.apex_laws.specs.PartLaws.{is_of_channel}
+use Rattle.apex_laws.specs.Laws.{AllEntries, entries_at, entries_in, entries_of}
 use Rattle.apex_laws.proofs.Tables.{at_each}
+use Rattle.apex_types.specs.Shapes.{kind_used}
+use Rattle.apex_types.specs.Requested.{kind_of}
+use Rattle.apex_laws.proofs.SetNames.{end_changes, has_end, no_entries, same_kind_is, put_holds, channel_set_is}
+use Rattle.apex_laws.proofs.EachSet.{objects_changed_each}
+use Rattle.std.proofs.lemmas.Bool.{cases_Bool}
+use Rattle.apex_types.specs.declared.shape.End.{End}
+use Rattle.apex_types.specs.declared.object_kind.ObjectKind.{ObjectKind}
+use Rattle.apex_types.specs.declared.operation.ObjectOperation.{ObjectOperation}
 
 -- a change of each object that changes its entries in one way
 changed_entries : {Object : Type 0} (Holds : List Entry → Type 0) (entries_of : Object → List Entry) (change : ℕ → Object → Object) (through : List Entry → List Entry) (number : ℕ)
@@ -35,49 +43,47 @@ entries_of_each Holds entries_of change through number is objects absent all =
 
 -- whether the object of a waiting set of a partition is created; a channel's set is no partition's
 abbrev pub is_created_at : Partition → WaitingSet → Bool
-is_created_at partition (set.BufferSenders number) = is_some (item_at partition.buffers number)
-is_created_at partition (set.BufferReceivers number) = is_some (item_at partition.buffers number)
-is_created_at partition (set.BlackboardReaders number) = is_some (item_at partition.blackboards number)
-is_created_at partition (set.SemaphoreWaiters number) = is_some (item_at partition.semaphores number)
-is_created_at partition (set.EventWaiters number) = is_some (item_at partition.events number)
-is_created_at partition (set.MutexWaiters number) = is_some (item_at partition.mutexes number)
-is_created_at partition (set.ChannelSenders channel) = false
-is_created_at partition (set.ChannelReceivers channel) = false
+is_created_at partition wanted = has_end wanted.kind wanted.end && is_some (item_at (objects_of partition wanted.kind) wanted.number)
+
+-- where there is no end, there are no entries
+pub none_there : (kind : ObjectKind) (end : End) (found : Option (ObjectOf kind)) → has_end kind end ≡ false → entries_in (entries_at_end kind end) found ≡ []
+none_there kind end None none = refl
+none_there kind end (Some object) none = no_entries kind end object none
 
 -- the entries of a set, if each set of the partition is changed
 pub each_set_holds : (Holds : List Entry → Type 0) (change : WaitingSet → List Entry → List Entry) (partition : Partition) (wanted : WaitingSet)
     → (is_created_at partition wanted ≡ false → entries_at partition wanted ≡ [] → Holds [])
     → Holds (change wanted (entries_at partition wanted)) → Holds (entries_at (each_set change partition) wanted)
-each_set_holds Holds change partition (set.BufferSenders number) absent all =
-    entries_of_each Holds (λ (one : Buffer). one.senders) (with_sets kind.Buffer change) (change (set.BufferSenders number)) number (λ one. refl) partition.buffers absent all
-each_set_holds Holds change partition (set.BufferReceivers number) absent all =
-    entries_of_each Holds (λ (one : Buffer). one.receivers) (with_sets kind.Buffer change) (change (set.BufferReceivers number)) number (λ one. refl) partition.buffers absent all
-each_set_holds Holds change partition (set.BlackboardReaders number) absent all =
-    entries_of_each Holds (λ (one : Blackboard). one.readers) (with_sets kind.Blackboard change)
-    (change (set.BlackboardReaders number)) number (λ one. refl) partition.blackboards absent all
-each_set_holds Holds change partition (set.SemaphoreWaiters number) absent all =
-    entries_of_each Holds (λ (one : Semaphore). one.waiters) (with_sets kind.Semaphore change)
-    (change (set.SemaphoreWaiters number)) number (λ one. refl) partition.semaphores absent all
-each_set_holds Holds change partition (set.EventWaiters number) absent all =
-    entries_of_each Holds (λ (one : Event). one.waiters) (with_sets kind.Event change)
-    (change (set.EventWaiters number)) number (λ one. refl) partition.events absent all
-each_set_holds Holds change partition (set.MutexWaiters number) absent all =
-    entries_of_each Holds (λ (one : Mutex). one.waiters) (with_sets kind.Mutex change)
-    (change (set.MutexWaiters number)) number (λ one. refl) partition.mutexes absent all
-each_set_holds Holds change partition (set.ChannelSenders channel) absent all = absent refl refl
-each_set_holds Holds change partition (set.ChannelReceivers channel) absent all = absent refl refl
+each_set_holds Holds change partition wanted absent all =
+    let entries_of : ObjectOf wanted.kind → List Entry = entries_at_end wanted.kind wanted.end in
+    elim (cases_Bool (has_end wanted.kind wanted.end)) [
+      | inl there ↦
+          subst (λ objects. Holds (entries_in entries_of (item_at objects wanted.number))) (sym (objects_changed_each change partition wanted.kind))
+          (entries_of_each Holds entries_of (with_sets wanted.kind change) (change wanted) wanted.number
+          (λ found. end_changes wanted.kind wanted.end (λ end. change (set_at wanted.kind wanted.number end)) found there) (objects_of partition wanted.kind)
+          (λ off empty. absent (rw there off) empty) all)
+      | inr none ↦
+          subst Holds (sym (none_there wanted.kind wanted.end (item_at (objects_of (each_set change partition) wanted.kind) wanted.number) none))
+          (absent (rw none refl) (none_there wanted.kind wanted.end (item_at (objects_of partition wanted.kind) wanted.number) none))
+    ]
 
 -- if it holds for the empty set
 pub each_set_has : (Holds : List Entry → Type 0) (nobody : Holds []) (change : WaitingSet → List Entry → List Entry) (partition : Partition) (wanted : WaitingSet)
     → Holds (change wanted (entries_at partition wanted)) → Holds (entries_at (each_set change partition) wanted)
 each_set_has Holds nobody change partition wanted all = each_set_holds Holds change partition wanted (λ absent empty. nobody) all
 
+-- a channel's set has no entries in a partition
+pub no_channel_entries : (partition : Partition) (wanted : WaitingSet) → is_of_channel wanted ≡ true → entries_at partition wanted ≡ []
+no_channel_entries partition wanted is = ap (entries_at partition) (channel_set_is wanted is) ∙ none_there kind.QueuingPort wanted.end (item_at partition.queuing_ports wanted.number) refl
+
 -- what holds for each entry if a set is not a channel's holds for each entry of a partition's set
 pub of_objects : (Fact : Entry → Type 0) (partition : Partition) (wanted : WaitingSet) → (is_of_channel wanted ≡ false → AllEntries Fact (entries_at partition wanted))
     → AllEntries Fact (entries_at partition wanted)
-of_objects Fact partition (set.ChannelSenders channel) all = tt
-of_objects Fact partition (set.ChannelReceivers channel) all = tt
-of_objects Fact partition _ all = all refl
+of_objects Fact partition wanted all =
+    elim (cases_Bool (is_of_channel wanted)) [
+      | inl is ↦ subst (AllEntries Fact) (sym (no_channel_entries partition wanted is)) tt
+      | inr off ↦ all off
+    ]
 
 -- an object's rule leaves its entries
 same_entries : {Object : Type 0} (Holds : List Entry → Type 0) (entries_of : Object → List Entry) (change : Object → Object) → ((object : Object) → entries_of (change object) ≡ entries_of object)
@@ -130,33 +136,55 @@ pub mutex_keeps : (caller : ℕ) (operation : MutexOperation) (mutex : Mutex) �
 mutex_keeps caller (MutexOperation.Acquire time_out) mutex = acquire_keeps caller time_out mutex.owner mutex
 mutex_keeps caller MutexOperation.Release mutex = release_keeps (first_waiter mutex.discipline mutex.waiters) mutex
 
+-- the rules of all objects leave their entries
+pub effect_keeps : (caller : ℕ) (operation : ObjectOperation) (end : End) (found : ObjectOf (kind_used operation))
+    → entries_at_end (kind_used operation) end (object_effect caller operation found).next ≡ entries_at_end (kind_used operation) end found
+effect_keeps caller (on.Buffer operation) Senders found = refl
+effect_keeps caller (on.Buffer operation) Receivers found = refl
+effect_keeps caller (on.Mutex operation) Receivers found = mutex_keeps caller operation found
+effect_keeps caller (on.Blackboard operation) Receivers found = refl
+effect_keeps caller (on.Semaphore operation) Receivers found = refl
+effect_keeps caller (on.Event operation) Receivers found = refl
+effect_keeps caller _ Senders found = refl
+
+-- what is created has no entries
+pub new_has_none : (configuration : Configuration) (part : ℕ) (name : List ℕ) (object : NewObject) (end : End) (made : ObjectOf (kind_of object)) → new_object configuration part name object ≡ Some made
+    → entries_at_end (kind_of object) end made ≡ []
+new_has_none configuration part name (NewObject.Buffer size capacity discipline) Senders made is = ap (λ (one : Option Buffer). entries_in (λ buffer. buffer.senders) one) (sym is)
+new_has_none configuration part name (NewObject.Buffer size capacity discipline) Receivers made is = ap (λ (one : Option Buffer). entries_in (λ buffer. buffer.receivers) one) (sym is)
+new_has_none configuration part name (NewObject.Blackboard size) Receivers made is = ap (λ (one : Option Blackboard). entries_in (λ blackboard. blackboard.readers) one) (sym is)
+new_has_none configuration part name (NewObject.Semaphore value maximum discipline) Receivers made is = ap (λ (one : Option Semaphore). entries_in (λ semaphore. semaphore.waiters) one) (sym is)
+new_has_none configuration part name NewObject.Event Receivers made is = ap (λ (one : Option Event). entries_in (λ event. event.waiters) one) (sym is)
+new_has_none configuration part name (NewObject.Mutex priority discipline) Receivers made is = ap (λ (one : Option Mutex). entries_in (λ mutex. mutex.waiters) one) (sym is)
+new_has_none configuration part name _ _ made is = refl
+
+one_created_if : {Object : Type 0} (Holds : List Entry → Type 0) (entries_of : Object → List Entry) (claimed : Option ℤ) (made : Option Object) (number : ℕ)
+    → ((object : Object) → made ≡ Some object → entries_of object ≡ []) → (objects : List (ℕ × Object)) → Holds (entries_in entries_of (item_at objects number))
+    → Holds (entries_in entries_of (item_at (objects ++ numbered_if claimed made) number))
+one_created_if {Object} Holds entries_of claimed None number none objects all = subst (λ (one : List (ℕ × Object)). Holds (entries_in entries_of (item_at one number))) (sym (append-nil objects)) all
+one_created_if Holds entries_of claimed (Some object) number none objects all = one_created Holds entries_of claimed object number (none object refl) objects all
+
 -- the rules of the objects leave the waiting sets, and what is created has none
 pub objects_have : (Holds : List Entry → Type 0) (configuration : Configuration) (who : Who) (claimed : Option ℤ) (asked : Request) (partition : Partition) (wanted : WaitingSet)
     → Holds (entries_at partition wanted) → Holds (entries_at (objects_by configuration who claimed asked partition) wanted)
-objects_have Holds configuration who claimed (request.Create name (NewObject.Buffer size capacity discipline)) partition (set.BufferSenders number) all =
-    one_created Holds (λ (one : Buffer). one.senders) claimed (new_buffer name size capacity discipline) number refl partition.buffers all
-objects_have Holds configuration who claimed (request.Create name (NewObject.Buffer size capacity discipline)) partition (set.BufferReceivers number) all =
-    one_created Holds (λ (one : Buffer). one.receivers) claimed (new_buffer name size capacity discipline) number refl partition.buffers all
-objects_have Holds configuration who claimed (request.Create name (NewObject.Blackboard size)) partition (set.BlackboardReaders number) all =
-    one_created Holds (λ (one : Blackboard). one.readers) claimed (new_blackboard name size) number refl partition.blackboards all
-objects_have Holds configuration who claimed (request.Create name (NewObject.Semaphore value maximum discipline)) partition (set.SemaphoreWaiters number) all =
-    one_created Holds (λ (one : Semaphore). one.waiters) claimed (new_semaphore name value maximum discipline) number refl partition.semaphores all
-objects_have Holds configuration who claimed (request.Create name NewObject.Event) partition (set.EventWaiters number) all =
-    one_created Holds (λ (one : Event). one.waiters) claimed (new_event name) number refl partition.events all
-objects_have Holds configuration who claimed (request.Create name (NewObject.Mutex priority discipline)) partition (set.MutexWaiters number) all =
-    one_created Holds (λ (one : Mutex). one.waiters) claimed (new_mutex name priority discipline) number refl partition.mutexes all
-objects_have Holds configuration who claimed (request.Create name _) partition _ all = all
-objects_have Holds configuration who claimed (request.Buffer buffer operation) partition (set.BufferSenders number) all =
-    one_changed Holds (λ (one : Buffer). one.senders) (natural_of buffer) (λ found. (buffer_effect operation found).next) number (λ one. refl) partition.buffers all
-objects_have Holds configuration who claimed (request.Buffer buffer operation) partition (set.BufferReceivers number) all =
-    one_changed Holds (λ (one : Buffer). one.receivers) (natural_of buffer) (λ found. (buffer_effect operation found).next) number (λ one. refl) partition.buffers all
-objects_have Holds configuration who claimed (request.Blackboard blackboard operation) partition (set.BlackboardReaders number) all =
-    one_changed Holds (λ (one : Blackboard). one.readers) (natural_of blackboard) (λ found. (blackboard_effect operation found).next) number (λ one. refl) partition.blackboards all
-objects_have Holds configuration who claimed (request.Semaphore semaphore operation) partition (set.SemaphoreWaiters number) all =
-    one_changed Holds (λ (one : Semaphore). one.waiters) (natural_of semaphore) (λ found. (semaphore_effect operation found).next) number (λ one. refl) partition.semaphores all
-objects_have Holds configuration who claimed (request.Event event operation) partition (set.EventWaiters number) all =
-    one_changed Holds (λ (one : Event). one.waiters) (natural_of event) (λ found. (event_effect operation found).next) number (λ one. refl) partition.events all
-objects_have Holds configuration who claimed (request.Mutex mutex operation) partition (set.MutexWaiters number) all =
-    one_changed Holds (λ (one : Mutex). one.waiters) (natural_of mutex) (λ found. (mutex_effect who.proc operation found).next) number (mutex_keeps who.proc operation) partition.mutexes all
-objects_have Holds configuration who claimed (request.SamplingPort port SamplingOperation.Read) partition _ all = all
-objects_have Holds configuration who claimed _ partition _ all = all
+objects_have Holds configuration who claimed (request.Create name object) partition wanted all =
+    let Fact : (kind : ObjectKind) → List (ℕ × ObjectOf kind) → Type 0 = λ kind objects. Holds (entries_in (entries_at_end kind wanted.end) (item_at objects wanted.number)) in
+    put_holds (kind_of object) _ partition wanted.kind Fact
+    (λ same. one_created_if Holds (entries_at_end (kind_of object) wanted.end) claimed (new_object configuration who.part name object) wanted.number
+    (λ made is. new_has_none configuration who.part name object wanted.end made is) (objects_of partition (kind_of object))
+    (subst (λ kind. Fact kind (objects_of partition kind)) (sym (same_kind_is _ _ same)) all))
+    (λ other. all)
+objects_have Holds configuration who claimed (request.Object number operation) partition wanted all =
+    let Fact : (kind : ObjectKind) → List (ℕ × ObjectOf kind) → Type 0 = λ kind objects. Holds (entries_in (entries_at_end kind wanted.end) (item_at objects wanted.number)) in
+    put_holds (kind_used operation) _ partition wanted.kind Fact
+    (λ same. one_changed Holds (entries_at_end (kind_used operation) wanted.end) (natural_of number) (λ found. (object_effect who.proc operation found).next) wanted.number
+    (effect_keeps who.proc operation wanted.end) (objects_of partition (kind_used operation))
+    (subst (λ kind. Fact kind (objects_of partition kind)) (sym (same_kind_is _ _ same)) all))
+    (λ other. all)
+objects_have Holds configuration who claimed (request.SamplingPort port SamplingOperation.Read) partition wanted all =
+    let Fact : (kind : ObjectKind) → List (ℕ × ObjectOf kind) → Type 0 = λ kind objects. Holds (entries_in (entries_at_end kind wanted.end) (item_at objects wanted.number)) in
+    put_holds kind.SamplingPort _ partition wanted.kind Fact
+    (λ same. one_changed Holds (entries_at_end kind.SamplingPort wanted.end) (natural_of port) (λ (found : Port). record found { valid = is_valid claimed }) wanted.number
+    (λ found. refl) partition.sampling_ports (subst (λ kind. Fact kind (objects_of partition kind)) (sym (same_kind_is kind.SamplingPort wanted.kind same)) all))
+    (λ other. all)
+objects_have Holds configuration who claimed _ partition wanted all = all

@@ -6,7 +6,6 @@ use Rattle.apex_types.specs.declared.record.Who.{Who}
 use Rattle.apex_types.specs.declared.request.Request.{Request}
 use Rattle.apex_machine.specs.declared.condition.Condition.{Condition}
 use Rattle.apex_machine.specs.declared.state.WaitingSet.{WaitingSet}
-use Rattle.apex_machine.specs.Arguments.{natural_of}
 use Rattle.apex_machine.specs.Demands.{AllHold, outcome_demands}
 use Rattle.apex_machine.specs.Ports.{channel_of}
 use Rattle.apex_machine.specs.ServiceConditions.{conditions_of}
@@ -17,7 +16,7 @@ use Rattle.apex_machine.specs.Waiting.{enters, is_no_error, is_target, restart_o
 use Rattle.apex_laws.specs.Laws.{entries_at}
 use Rattle.apex_laws.specs.PartLaws.{IsSoundPart, OtherSetsStay, is_set_used}
 use Rattle.apex_laws.specs.WaitLaws.{WaitsIn}
-use Rattle.apex_laws.proofs.Booleans.{cannot_hold, first_holds, is_itself, neither_first, neither_later, not_first, not_second}
+use Rattle.apex_laws.proofs.Booleans.{cannot_hold, is_itself, neither_first, neither_later, not_first, not_second}
 use Rattle.apex_laws.proofs.Restarts.{goes_on}
 use Rattle.apex_laws.proofs.SoundParts.{WaitsInSet}
 use Rattle.apex_laws.proofs.Untouched.{set_stays}
@@ -32,7 +31,6 @@ use Rattle.apex_laws.proofs.Woken.{suspended_elsewhere}
 
 -- a caller enters only a set that its request uses
 entered_is_used : {asked : Request} {chan : Option ℕ} {wanted : WaitingSet} → WaitsIn asked chan wanted → is_set_used asked wanted ≡ true
-entered_is_used (WaitsIn.sends_to_buffer {buffer = buffer}) = first_holds (nat_eq (natural_of buffer) (natural_of buffer)) false (is_itself (natural_of buffer))
 entered_is_used WaitsIn.sends_through = refl
 entered_is_used WaitsIn.receives_through = refl
 entered_is_used _ = is_itself _

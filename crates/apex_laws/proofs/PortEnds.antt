@@ -10,12 +10,13 @@ use Rattle.apex_types.specs.declared.request.Request.{Request}
 use Rattle.apex_types.specs.declared.request.Request.TheVariants as request
 use Rattle.apex_machine.specs.declared.state.Direction.{Direction}
 use Rattle.apex_machine.specs.declared.state.Direction.TheVariants as direction
-use Rattle.apex_machine.specs.After.{new_queuing_port, objects_by}
+use Rattle.apex_machine.specs.After.{new_queuing_port, objects_by, numbered_if}
 use Rattle.apex_machine.specs.Channels.{QueuingPort, end_among, is_port, queuing_end, queuing_port}
 use Rattle.apex_machine.specs.Configuration.{ChannelEnd, Configuration, QueuingChannel}
 use Rattle.apex_machine.specs.State.{Partition, Port}
 use Rattle.apex_laws.specs.Laws.{AllPorts, IsAtEnd}
 use Rattle.apex_laws.proofs.Booleans.{first_holds, is_itself, later_holds}
+use Rattle.apex_types.specs.declared.operation.ObjectOperation.TheVariants as on
 
 -- what a configured port says of its end, among these channels
 abbrev IsEndAmong : ℕ → List QueuingChannel → QueuingPort → Type 0
@@ -61,7 +62,7 @@ port_among partition name (channel ∷ others) port is =
 
 -- so is a created port
 created_at_end : (configuration : Configuration) (partition : ℕ) (name : List ℕ) (claimed : Option ℤ) (found : Option QueuingPort) → queuing_port configuration partition name ≡ found
-    → AllPorts (λ port. IsAtEnd configuration partition port.direction port.channel) (new_queuing_port name claimed found)
+    → AllPorts (λ port. IsAtEnd configuration partition port.direction port.channel) (numbered_if claimed (option_map (new_queuing_port name) found))
 created_at_end configuration partition name claimed None is = tt
 created_at_end configuration partition name None (Some port) is = tt
 created_at_end configuration partition name (Some (negsuc n)) (Some port) is = tt
@@ -84,7 +85,8 @@ pub ports_after : (configuration : Configuration) (who : Who) (claimed : Option 
     → AllPorts (λ port. IsAtEnd configuration who.part port.direction port.channel) partition.queuing_ports
     → AllPorts (λ port. IsAtEnd configuration who.part port.direction port.channel) (objects_by configuration who claimed asked partition).queuing_ports
 ports_after configuration who claimed (request.Create name (NewObject.QueuingPort size capacity way discipline)) partition all =
-    ports_joined (λ port. IsAtEnd configuration who.part port.direction port.channel) partition.queuing_ports (new_queuing_port name claimed (queuing_port configuration who.part name)) all
+    ports_joined (λ port. IsAtEnd configuration who.part port.direction port.channel) partition.queuing_ports (numbered_if claimed (option_map (new_queuing_port name) (queuing_port configuration who.part name))) all
     (created_at_end configuration who.part name claimed (queuing_port configuration who.part name) refl)
+ports_after configuration who claimed (request.Object number (on.Buffer operation)) partition all = all
 ports_after configuration who claimed (request.SamplingPort port SamplingOperation.Read) partition all = all
 ports_after configuration who claimed _ partition all = all

@@ -9,6 +9,7 @@ use Rattle.apex_types.specs.declared.record.Out.{Out}
 use Rattle.apex_types.specs.declared.record.Out.TheVariants as out
 use Rattle.apex_types.specs.declared.operation.{CallerOperation.CallerOperation, MutexOperation.MutexOperation, ProcessOperation.ProcessOperation}
 use Rattle.apex_types.specs.declared.request.Request.{Request}
+use Rattle.apex_types.specs.declared.operation.ObjectOperation.TheVariants as on
 use Rattle.apex_types.specs.declared.request.Request.TheVariants as request
 use Rattle.apex_machine.specs.declared.state.Mode.{Mode}
 use Rattle.apex_machine.specs.declared.state.Process.{Process}
@@ -176,9 +177,9 @@ setting_is_the_sentence place period cores partition caller (request.Process pro
     on_target process number (new ≡ record old { current_priority = natural_of priority; ready_position = place }) (record old { current_priority = natural_of priority; ready_position = place }) old new (λ is. is) (λ is. is)
 setting_is_the_sentence place period cores partition caller (request.SetPartitionMode next) number old new above =
     (normal_says place period (time_of cores old.affinity) old new above, normal_by place period (time_of cores old.affinity) old new above)
-setting_is_the_sentence place period cores partition caller (request.Mutex mutex (MutexOperation.Acquire time_out)) number old new above =
+setting_is_the_sentence place period cores partition caller (request.Object mutex (on.Mutex (MutexOperation.Acquire time_out))) number old new above =
     mutex_change (given_object partition.mutexes mutex) (λ found. (acquired caller time_out found).next) number old new
-setting_is_the_sentence place period cores partition caller (request.Mutex mutex MutexOperation.Release) number old new above =
+setting_is_the_sentence place period cores partition caller (request.Object mutex (on.Mutex MutexOperation.Release)) number old new above =
     mutex_change (given_object partition.mutexes mutex) (λ found. (mutex_released (first_waiter found.discipline found.waiters) found).next) number old new
 setting_is_the_sentence place period cores partition caller (request.Process process ProcessOperation.Stop) number old new above =
     (λ is. is ∙ same_if (is_number process number) old, λ is. is ∙ sym (same_if (is_number process number) old))

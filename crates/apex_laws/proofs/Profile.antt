@@ -1,19 +1,21 @@
 -- A call is outside the profile exactly if a sentence puts it there.
 use Rattle.std.proofs.Common.{◌≡◌, ◌⊎◌, ℕ, Option, Bool, true, false, not, ◌&&◌, nat_eq, refl, sym, ap, inl, inr, true≢false}
+use Rattle.apex_types.specs.declared.object_kind.ObjectKind.TheVariants as kind
 use Rattle.apex_types.specs.declared.record.Who.{Who}
 use Rattle.apex_types.specs.declared.operation.{CallerOperation.CallerOperation, ProcessOperation.ProcessOperation}
 use Rattle.apex_types.specs.declared.request.Request.{Request}
 use Rattle.apex_types.specs.declared.request.Request.TheVariants as request
 use Rattle.apex_machine.specs.declared.state.Wait.{Wait}
 use Rattle.apex_machine.specs.declared.state.Wait.TheVariants as wait
-use Rattle.apex_machine.specs.declared.state.WaitingSet.TheVariants as set
 use Rattle.apex_machine.specs.Arguments.{natural_of}
 use Rattle.apex_machine.specs.Conditions.{owns_mutex}
 use Rattle.apex_machine.specs.DueTimes.{is_for_mutex}
 use Rattle.apex_machine.specs.Services.{in_profile, waits_for_mutex}
-use Rattle.apex_machine.specs.State.{Partition, item_at}
+use Rattle.apex_machine.specs.State.{Partition, item_at, set_at}
 use Rattle.apex_laws.specs.ProfileLaws.{AwaitsMutex, IsOutsideProfile, ProfileIsTheSentence}
 use Rattle.apex_laws.proofs.ConditionTests.{Tells, caller_tells, equal_tells, owns_tells}
+use Rattle.apex_laws.proofs.SetNames.{same_kind_is}
+use Rattle.apex_types.specs.declared.shape.End.{End}
 
 -- one of two tests that don't both hold
 one_fails : (one other : Bool) → (not one && not other) ≡ false → (one ≡ true) ⊎ (other ≡ true)
@@ -36,16 +38,17 @@ not_fails true is = refl
 not_fails false is = absurd (true≢false is)
 
 -- a wait for a mutex
-for_mutex_tells : (one : Wait) → Tells (is_for_mutex one) ((mutex : ℕ) × (due : Option ℕ) × (one ≡ wait.At (set.MutexWaiters mutex) due))
-for_mutex_tells (wait.At (set.MutexWaiters mutex) due) = (λ holds. (mutex, due, refl), λ fact. refl)
-for_mutex_tells one = (λ holds. absurd (true≢false (sym holds)), λ fact. ap is_for_mutex fact.2)
+for_mutex_tells : (one : Wait) → Tells (is_for_mutex one) ((mutex : ℕ) × (end : End) × (due : Option ℕ) × (one ≡ wait.At (set_at kind.Mutex mutex end) due))
+for_mutex_tells (wait.At wanted due) =
+    (λ holds. (wanted.number, wanted.end, due, λ i. wait.At (record { kind = same_kind_is wanted.kind kind.Mutex holds i; number = wanted.number; end = wanted.end }) due), λ fact. ap is_for_mutex fact.3)
+for_mutex_tells one = (λ holds. absurd (true≢false (sym holds)), λ fact. ap is_for_mutex fact.3)
 
 awaits_tells : (partition : Partition) (number : ℕ) → Tells (waits_for_mutex partition.table number) (AwaitsMutex partition number)
 awaits_tells partition number =
-    let found = caller_tells (λ process. is_for_mutex process.wait) (λ process. (mutex : ℕ) × (due : Option ℕ) × (process.wait ≡ wait.At (set.MutexWaiters mutex) due))
+    let found = caller_tells (λ process. is_for_mutex process.wait) (λ process. (mutex : ℕ) × (end : End) × (due : Option ℕ) × (process.wait ≡ wait.At (set_at kind.Mutex mutex end) due))
     (λ process. for_mutex_tells process.wait) (item_at partition.table number) in (
-      λ holds. let is = found.0 holds in record { process = is.0; is_member = is.1; mutex = is.2.0; due = is.2.1; waits = is.2.2 },
-      λ fact. found.1 (fact.process, fact.is_member, (fact.mutex, fact.due, fact.waits)),
+      λ holds. let is = found.0 holds in record { process = is.0; is_member = is.1; mutex = is.2.0; end = is.2.1; due = is.2.2; waits = is.2.3 },
+      λ fact. found.1 (fact.process, fact.is_member, (fact.mutex, fact.end, fact.due, fact.waits)),
     )
 
 module _ (who : Who) (partition : Partition) where

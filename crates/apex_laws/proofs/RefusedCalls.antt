@@ -12,19 +12,19 @@ use Rattle.apex_types.specs.declared.record.Who.{Who}
 use Rattle.apex_types.specs.declared.request.Request.{Request}
 use Rattle.apex_types.specs.declared.request.Request.TheVariants as request
 use Rattle.apex_types.specs.Requested.{service_of}
+use Rattle.apex_types.specs.declared.shape.End.TheVariants.{Senders, Receivers}
 use Rattle.apex_machine.specs.declared.condition.Condition.{Condition}
 use Rattle.apex_machine.specs.declared.state.CoreState.{CoreState}
 use Rattle.apex_machine.specs.declared.state.Entry.{Entry}
 use Rattle.apex_machine.specs.declared.state.Process.{Process}
 use Rattle.apex_machine.specs.declared.state.WaitingSet.{WaitingSet}
-use Rattle.apex_machine.specs.declared.state.WaitingSet.TheVariants as set
 use Rattle.apex_machine.specs.After.{called, created_by, each_set, is_channel, is_done, mode_by, objects_by, objects_called, own_partition, partition_called, woken_if_named}
 use Rattle.apex_machine.specs.Configuration.{Configuration, first_core, period_of}
 use Rattle.apex_machine.specs.Ports.{channel_effect, use_of}
 use Rattle.apex_machine.specs.Processes.{caller_after, caller_with, outcome_of, release_taken, renews}
 use Rattle.apex_machine.specs.ServiceConditions.{conditions_of}
 use Rattle.apex_machine.specs.Services.{Answer, HasNoValues}
-use Rattle.apex_machine.specs.State.{Partition, State, each_item, is_named, item_at, time_of}
+use Rattle.apex_machine.specs.State.{Partition, State, each_item, is_named, item_at, time_of, channel_set}
 use Rattle.apex_machine.specs.Step.{HasCode, HasOutcome, IsCodeOf, IsRefused}
 use Rattle.apex_machine.specs.Waiting.{ends_wait, is_no_error, is_waiting, restart_of, set_after, stops, without}
 use Rattle.apex_laws.specs.RecordLaws.{RefusalIsTheSentence}
@@ -206,8 +206,8 @@ refusal_is_the_sentence configuration state ordered call next step is some =
         ];
         channels = λ number. next_channel configuration state ordered next (Call call) step is number ∙ (λ i. record {
           content = ap (λ chan. cond (is_channel number chan) (channel_effect configuration now number call.who.part (use_of call.request) (state.channels number)).next (state.channels number).content) refusal.chan i;
-          senders = set_left place call not_so refusal.woken (set.ChannelSenders number) (state.channels number).senders i;
-          receivers = set_left place call not_so refusal.woken (set.ChannelReceivers number) (state.channels number).receivers i;
+          senders = set_left place call not_so refusal.woken (channel_set number Senders) (state.channels number).senders i;
+          receivers = set_left place call not_so refusal.woken (channel_set number Receivers) (state.channels number).receivers i;
         });
         cores = next_cores configuration state ordered next (Call call) step is;
       };

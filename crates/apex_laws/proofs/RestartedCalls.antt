@@ -10,20 +10,20 @@ use Rattle.apex_types.specs.declared.record.Out.TheVariants as out
 use Rattle.apex_types.specs.declared.record.Who.{Who}
 use Rattle.apex_types.specs.declared.request.Request.{Request}
 use Rattle.apex_types.specs.declared.request.Request.TheVariants as request
+use Rattle.apex_types.specs.declared.shape.End.TheVariants.{Senders, Receivers}
 use Rattle.apex_machine.specs.declared.condition.Condition.{Condition}
 use Rattle.apex_machine.specs.declared.state.Entry.{Entry}
 use Rattle.apex_machine.specs.declared.state.Mode.{Mode}
 use Rattle.apex_machine.specs.declared.state.Mode.TheVariants as mode
 use Rattle.apex_machine.specs.declared.state.Process.{Process}
 use Rattle.apex_machine.specs.declared.state.WaitingSet.{WaitingSet}
-use Rattle.apex_machine.specs.declared.state.WaitingSet.TheVariants as set
 use Rattle.apex_machine.specs.After.{is_channel, own_partition, woken_if_named}
 use Rattle.apex_machine.specs.Arguments.{restart_given}
 use Rattle.apex_machine.specs.Configuration.{Configuration, first_core}
 use Rattle.apex_machine.specs.Ports.{channel_effect, channel_of, use_of}
 use Rattle.apex_machine.specs.ServiceConditions.{conditions_of}
 use Rattle.apex_machine.specs.Services.{Answer, answer_of, never}
-use Rattle.apex_machine.specs.State.{Channel, Partition, State, Table, first_processes, initialising_process, is_named, item_at, started_partition, time_of}
+use Rattle.apex_machine.specs.State.{Channel, Partition, State, Table, first_processes, initialising_process, is_named, item_at, started_partition, time_of, channel_set}
 use Rattle.apex_machine.specs.Step.{HasOutcome, Step}
 use Rattle.apex_machine.specs.Waiting.{ends_wait, enters, is_no_error, is_waiting, restart_by, restart_of, set_after}
 use Rattle.apex_laws.specs.RecordLaws.{RestartIsTheSentence}
@@ -159,9 +159,9 @@ says configuration state ordered call mode next step is restarted =
           ∙ ap (λ test. cond test (channel_effect configuration (time_of state.cores core) number call.who.part (use_of call.request) (state.channels number)).next (state.channels number).content)
           (ap (is_channel number) quiet.no_channel);
       senders = λ number. subst (KeepsOnly (λ who. who.part ≡ part) (state.channels number).senders) (sym (ap (λ (one : Channel). one.senders) (channels number)))
-          (restarted_set place call mode (set.ChannelSenders number) (state.channels number).senders restarted restart.never quiet.nobody);
+          (restarted_set place call mode (channel_set number Senders) (state.channels number).senders restarted restart.never quiet.nobody);
       receivers = λ number. subst (KeepsOnly (λ who. who.part ≡ part) (state.channels number).receivers) (sym (ap (λ (one : Channel). one.receivers) (channels number)))
-          (restarted_set place call mode (set.ChannelReceivers number) (state.channels number).receivers restarted restart.never quiet.nobody);
+          (restarted_set place call mode (channel_set number Receivers) (state.channels number).receivers restarted restart.never quiet.nobody);
       cores = next_cores configuration state ordered next (Call call) step is;
     }
 

@@ -1,6 +1,7 @@
 -- Calls that restart their caller's partition, and calls that don't.
 use Rattle.std.proofs.Common.{◌≡◌, ℕ, List, [], ◌∷◌, true, false, cond, nat_eq, Option, Some, None, is_some, refl, sym, ap, ◌∙◌, true≢false, ◌||◌}
 use Rattle.std.proofs.lemmas.Bool.{eq-eqb}
+use Rattle.apex_types.specs.declared.object_kind.ObjectKind.TheVariants as kind
 use Rattle.apex_types.specs.declared.record.Body.TheVariants.{Call, Ret}
 use Rattle.apex_types.specs.declared.record.Call.{Call as CallRecord}
 use Rattle.apex_types.specs.declared.record.Return.{Return}
@@ -13,13 +14,13 @@ use Rattle.apex_machine.specs.declared.state.CoreState.{CoreState}
 use Rattle.apex_machine.specs.declared.state.Mode.{Mode}
 use Rattle.apex_machine.specs.declared.state.Mode.TheVariants as mode
 use Rattle.apex_machine.specs.declared.state.WaitingSet.{WaitingSet}
-use Rattle.apex_machine.specs.declared.state.WaitingSet.TheVariants as set
 use Rattle.apex_machine.specs.After.{is_done, objects_by, own_partition, partition_by, partition_called, returned, woken_if_named}
 use Rattle.apex_machine.specs.Configuration.{Configuration}
-use Rattle.apex_machine.specs.State.{Partition, Table, each_item, first_processes, initialising_process, is_named, item_at, started_partition}
+use Rattle.apex_machine.specs.State.{Partition, Table, each_item, first_processes, initialising_process, is_named, item_at, started_partition, entries_at_end, objects_of}
 use Rattle.apex_machine.specs.Waiting.{ends_wait, is_no_error, is_waiting, restart_by, restart_of, restarts, stops, waits_at}
-use Rattle.apex_laws.specs.Laws.{are_distinct, entries_at}
+use Rattle.apex_laws.specs.Laws.{are_distinct, entries_at, entries_in}
 use Rattle.apex_laws.proofs.Booleans.{neither, neither_first, neither_later, not_first, not_second}
+use Rattle.apex_types.specs.declared.object_kind.ObjectKind.{ObjectKind}
 
 -- the caller's partition
 
@@ -145,8 +146,11 @@ start_distinct _ core place = refl
 
 -- its sets are empty
 pub start_set : (mode : Mode) (configuration : Configuration) (number place : ℕ) (wanted : WaitingSet) → entries_at (started_partition mode configuration number place) wanted ≡ []
-start_set mode configuration number place (set.BufferSenders object) = refl
-start_set mode configuration number place _ = refl
+start_set mode configuration number place wanted = none_of wanted.kind
+  where
+    none_of : (one : ObjectKind) → entries_in (entries_at_end one wanted.end) (item_at (objects_of (started_partition mode configuration number place) one) wanted.number) ≡ []
+    none_of kind.Buffer = refl
+    none_of _ = refl
 
 -- no process waits in it
 first_waits_not : (core place process : ℕ) (wanted : WaitingSet) → waits_at wanted (item_at ((0, initialising_process core place) ∷ []) process) ≡ true → ⊥

@@ -1,21 +1,22 @@
 -- The waiting sets of a partition after a record: what holds of each set before it, and what then holds of each set.
-use Rattle.std.proofs.Common.{◌≡◌, ℕ, List, [], ◌∷◌, ◌++◌, true, false, cond, nat_eq, refl, sym, subst, ◌∙◌, true≢false}
+use Rattle.std.proofs.Common.{◌≡◌, ℕ, List, [], ◌∷◌, ◌++◌, true, false, cond, nat_eq, refl, sym, subst, ◌∙◌, true≢false, ap}
+use Rattle.apex_types.specs.declared.object_kind.ObjectKind.TheVariants as kind
 use Rattle.apex_types.specs.declared.record.Body.{Body}
 use Rattle.apex_types.specs.declared.record.Body.TheVariants.{Call, Ret, Disp, Tick}
 use Rattle.apex_types.specs.declared.record.Call.{Call as CallRecord}
 use Rattle.apex_machine.specs.declared.state.CoreState.{CoreState}
 use Rattle.apex_machine.specs.declared.state.Entry.{Entry}
 use Rattle.apex_machine.specs.declared.state.WaitingSet.{WaitingSet}
-use Rattle.apex_machine.specs.declared.state.WaitingSet.TheVariants as set
 use Rattle.apex_machine.specs.After.{each_set, is_done, objects_by, objects_called, partition_by, partition_called, returned, ticked}
 use Rattle.apex_machine.specs.Configuration.{Configuration}
-use Rattle.apex_machine.specs.State.{Partition, Table, each_item, is_named}
+use Rattle.apex_machine.specs.State.{Partition, Table, each_item, is_named, entries_at_end, objects_of, item_at}
 use Rattle.apex_machine.specs.Waiting.{ends_wait, enters, entry_of, set_after, without}
-use Rattle.apex_laws.specs.Laws.{AllEntries, entries_at}
+use Rattle.apex_laws.specs.Laws.{AllEntries, entries_at, entries_in}
 use Rattle.apex_laws.proofs.Keeps.{leaves}
 use Rattle.apex_laws.proofs.Objects.{each_set_has, objects_have}
 use Rattle.apex_laws.proofs.Restarts.{call_case, done_case, return_case, start_set, woken_if_named_table}
 use Rattle.apex_laws.proofs.Waiters.{all_push, all_weaker, all_without}
+use Rattle.apex_types.specs.declared.object_kind.ObjectKind.{ObjectKind}
 
 -- one set
 
@@ -41,13 +42,19 @@ each_entry Fact Then place (Call call) wanted stays entering entries all =
 
 -- a partition's table and mode say nothing of its sets
 pub same_sets : (partition : Partition) (table : Table) (wanted : WaitingSet) → entries_at (record partition { table = table }) wanted ≡ entries_at partition wanted
-same_sets partition table (set.BufferSenders number) = refl
-same_sets partition table _ = refl
+same_sets partition table wanted = ap (λ objects. entries_in (entries_at_end wanted.kind wanted.end) (item_at objects wanted.number)) (same wanted.kind)
+  where
+    same : (one : ObjectKind) → objects_of (record partition { table = table }) one ≡ objects_of partition one
+    same kind.Buffer = refl
+    same _ = refl
 
 pub called_sets : (configuration : Configuration) (cores : List CoreState) (place core : ℕ) (call : CallRecord) (partition : Partition) (wanted : WaitingSet)
     → entries_at (partition_called configuration cores place core call partition) wanted ≡ entries_at (objects_called configuration place call partition) wanted
-called_sets configuration cores place core call partition (set.BufferSenders number) = refl
-called_sets configuration cores place core call partition _ = refl
+called_sets configuration cores place core call partition wanted = ap (λ objects. entries_in (entries_at_end wanted.kind wanted.end) (item_at objects wanted.number)) (same wanted.kind)
+  where
+    same : (one : ObjectKind) → objects_of (partition_called configuration cores place core call partition) one ≡ objects_of (objects_called configuration place call partition) one
+    same kind.Buffer = refl
+    same _ = refl
 
 -- the objects of the caller's partition that a call uses or creates, before their sets change
 pub used_sets : (Holds : List Entry → Type 0) (configuration : Configuration) (call : CallRecord) (partition : Partition) (wanted : WaitingSet) → Holds (entries_at partition wanted)

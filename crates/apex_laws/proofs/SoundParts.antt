@@ -8,28 +8,27 @@ use Rattle.apex_types.specs.declared.record.Body.TheVariants.{Call, Ret, Disp, T
 use Rattle.apex_types.specs.declared.record.Call.{Call as CallRecord}
 use Rattle.apex_types.specs.declared.record.Claim.{Claim}
 use Rattle.apex_types.specs.declared.record.Who.{Who}
-use Rattle.apex_types.specs.declared.operation.{NewObject.NewObject, QueuingOperation.QueuingOperation, SamplingOperation.SamplingOperation}
+use Rattle.apex_types.specs.declared.operation.{QueuingOperation.QueuingOperation, SamplingOperation.SamplingOperation}
 use Rattle.apex_types.specs.declared.request.Request.{Request}
 use Rattle.apex_types.specs.declared.request.Request.TheVariants as request
+use Rattle.apex_types.specs.declared.shape.End.TheVariants.{Senders, Receivers}
 use Rattle.apex_machine.specs.declared.condition.Condition.{Condition}
 use Rattle.apex_machine.specs.declared.state.CoreState.{CoreState}
 use Rattle.apex_machine.specs.declared.state.Entry.{Entry}
 use Rattle.apex_machine.specs.declared.state.Mode.{Mode}
 use Rattle.apex_machine.specs.declared.state.Mode.TheVariants as mode
 use Rattle.apex_machine.specs.declared.state.WaitingSet.{WaitingSet}
-use Rattle.apex_machine.specs.declared.state.WaitingSet.TheVariants as set
-use Rattle.apex_machine.specs.After.{each_set, is_done, new_blackboard, new_buffer, new_event, new_mutex, new_queuing_port, new_sampling_port, new_semaphore, numbered, objects_by, objects_called, partition_called, partition_by, returned, ticked}
+use Rattle.apex_machine.specs.After.{each_set, is_done, objects_by, objects_called, partition_called, partition_by, returned, ticked, new_object, numbered_if}
 use Rattle.apex_machine.specs.Answer.{Answer, HasValue, is_new}
-use Rattle.apex_machine.specs.Channels.{queuing_port, sampling_port}
 use Rattle.apex_machine.specs.Configuration.{Configuration, first_core}
 use Rattle.apex_machine.specs.Demands.{AllHold, AllWaitAt, WakesHere, call_demands, outcome_demands, own_call_demands, partition_demands, has_entry_in}
 use Rattle.apex_machine.specs.Ports.{channel_of}
 use Rattle.apex_machine.specs.ServiceConditions.{conditions_of}
 use Rattle.apex_machine.specs.Services.{answer_of}
-use Rattle.apex_machine.specs.State.{Partition, Port, Table, cold_partition, each_item, is_free, is_named, is_same, item_at, objects_of, started_partition, time_of}
+use Rattle.apex_machine.specs.State.{Partition, Table, cold_partition, each_item, is_free, is_named, is_same, item_at, objects_of, started_partition, time_of, channel_set, is_of_channel}
 use Rattle.apex_machine.specs.Waiting.{ends_wait, set_after, waits_at}
 use Rattle.apex_laws.specs.Laws.{AllEntries, IsInOrder, are_distinct, entries_at}
-use Rattle.apex_laws.specs.PartLaws.{HasDistinctObjects, IsSoundPart, PartStaysSound, RunningIsInNoSet, is_of_channel}
+use Rattle.apex_laws.specs.PartLaws.{HasDistinctObjects, IsSoundPart, PartStaysSound, RunningIsInNoSet}
 use Rattle.apex_laws.proofs.Booleans.{cannot_hold, differs_back, holds_if, other_holds}
 use Rattle.apex_laws.proofs.Callers.{FoundReady, choice_exists, ready_waits_not}
 use Rattle.apex_laws.proofs.Codes.{not_done}
@@ -45,6 +44,9 @@ use Rattle.apex_laws.proofs.Tables.{distinct_each}
 use Rattle.apex_laws.proofs.Waiters.{all_weaker, member_not}
 use Rattle.apex_laws.proofs.WaitSets.{off_channel}
 use Rattle.apex_laws.proofs.WaitersOf.{same_is}
+use Rattle.apex_types.specs.Shapes.{kind_used}
+use Rattle.apex_types.specs.Requested.{kind_of}
+use Rattle.apex_laws.proofs.SetNames.{put_holds}
 
 -- own calls, by their demands
 
@@ -111,9 +113,9 @@ named_wait wanted number table (other ∷ others) all who here named =
 pub named_across : (asked : Request) (chan : Option ℕ) (number : ℕ) (table : Table) (others : List Who) → WakesHere asked chan number table others → (who : Who) → who.part ≡ number
     → is_named who others ≡ true → (wanted : WaitingSet) × (is_of_channel wanted ≡ true) × (waits_at wanted (item_at table who.proc) ≡ true)
 named_across (request.QueuingPort port (QueuingOperation.Send length time_out message)) (Some channel) number table others wakes who here named =
-    (set.ChannelReceivers channel, refl, named_wait (set.ChannelReceivers channel) number table others wakes who here named)
+    (channel_set channel Receivers, refl, named_wait (channel_set channel Receivers) number table others wakes who here named)
 named_across (request.QueuingPort port (QueuingOperation.Receive time_out)) (Some channel) number table others wakes who here named =
-    (set.ChannelSenders channel, refl, named_wait (set.ChannelSenders channel) number table others wakes who here named)
+    (channel_set channel Senders, refl, named_wait (channel_set channel Senders) number table others wakes who here named)
 named_across _ chan number table others wakes who here named = absurd wakes
 
 -- so a call of another partition ends none of their waits
@@ -136,36 +138,24 @@ with_table : (partition : Partition) (mode : Mode) (table : Table) → HasDistin
 with_table partition mode table has kind.Buffer = has kind.Buffer
 with_table partition mode table has other = has other
 
--- a created port has a new number
-port_new : {Found : Type 0} (ports : List (ℕ × Port)) (claimed : Option ℤ) (found : Option Found) (new : Option Found → List (ℕ × Port)) → are_distinct ports ≡ true → is_new (is_free ports) claimed ≡ true
-    → new None ≡ [] → ((one : Found) → (port : Port) × (new (Some one) ≡ numbered claimed port)) → are_distinct (ports ++ new found) ≡ true
-port_new ports claimed None new distinct fresh none some = ap (λ more. are_distinct (ports ++ more)) none ∙ ap are_distinct (append-nil ports) ∙ distinct
-port_new ports claimed (Some one) new distinct fresh none some = ap (λ more. are_distinct (ports ++ more)) (some one).1 ∙ distinct_new ports claimed (some one).0 distinct fresh
+-- what is created has a new number
+new_distinct : {Object : Type 0} (objects : List (ℕ × Object)) (claimed : Option ℤ) (made : Option Object) → are_distinct objects ≡ true → is_new (is_free objects) claimed ≡ true
+    → are_distinct (objects ++ numbered_if claimed made) ≡ true
+new_distinct objects claimed None distinct fresh = ap are_distinct (append-nil objects) ∙ distinct
+new_distinct objects claimed (Some new) distinct fresh = distinct_new objects claimed new distinct fresh
 
--- what is created has a new number, and what is used keeps its own
+-- so it is with the objects of all kinds, and what is used keeps its number
 used_distinct : (configuration : Configuration) (now : ℕ) (who : Who) (claimed : Option ℤ) (asked : Request) (partition : Partition) → HasDistinctObjects partition
     → (channel_of partition asked ≡ None → HasValue (answer_of now who partition asked).val claimed) → HasDistinctObjects (objects_by configuration who claimed asked partition)
-used_distinct configuration now who claimed (request.Create name (NewObject.Buffer size capacity discipline)) partition has value kind.Buffer =
-    distinct_new partition.buffers claimed (new_buffer name size capacity discipline) (has kind.Buffer) (value refl)
-used_distinct configuration now who claimed (request.Create name (NewObject.Blackboard size)) partition has value kind.Blackboard =
-    distinct_new partition.blackboards claimed (new_blackboard name size) (has kind.Blackboard) (value refl)
-used_distinct configuration now who claimed (request.Create name (NewObject.Semaphore initial maximum discipline)) partition has value kind.Semaphore =
-    distinct_new partition.semaphores claimed (new_semaphore name initial maximum discipline) (has kind.Semaphore) (value refl)
-used_distinct configuration now who claimed (request.Create name NewObject.Event) partition has value kind.Event =
-    distinct_new partition.events claimed (new_event name) (has kind.Event) (value refl)
-used_distinct configuration now who claimed (request.Create name (NewObject.Mutex priority discipline)) partition has value kind.Mutex =
-    distinct_new partition.mutexes claimed (new_mutex name priority discipline) (has kind.Mutex) (value refl)
-used_distinct configuration now who claimed (request.Create name (NewObject.SamplingPort size direction refresh)) partition has value kind.SamplingPort =
-    port_new partition.sampling_ports claimed (sampling_port configuration who.part name) (new_sampling_port name claimed) (has kind.SamplingPort) (value refl) refl (λ one. (_, refl))
-used_distinct configuration now who claimed (request.Create name (NewObject.QueuingPort size capacity direction discipline)) partition has value kind.QueuingPort =
-    port_new partition.queuing_ports claimed (queuing_port configuration who.part name) (new_queuing_port name claimed) (has kind.QueuingPort) (value refl) refl (λ one. (_, refl))
-used_distinct configuration now who claimed (request.Buffer buffer operation) partition has value kind.Buffer = distinct_each _ partition.buffers ∙ has kind.Buffer
-used_distinct configuration now who claimed (request.Blackboard blackboard operation) partition has value kind.Blackboard = distinct_each _ partition.blackboards ∙ has kind.Blackboard
-used_distinct configuration now who claimed (request.Semaphore semaphore operation) partition has value kind.Semaphore = distinct_each _ partition.semaphores ∙ has kind.Semaphore
-used_distinct configuration now who claimed (request.Event event operation) partition has value kind.Event = distinct_each _ partition.events ∙ has kind.Event
-used_distinct configuration now who claimed (request.Mutex mutex operation) partition has value kind.Mutex = distinct_each _ partition.mutexes ∙ has kind.Mutex
-used_distinct configuration now who claimed (request.SamplingPort port SamplingOperation.Read) partition has value kind.SamplingPort =
-    distinct_each _ partition.sampling_ports ∙ has kind.SamplingPort
+used_distinct configuration now who claimed (request.Create name object) partition has value other =
+    put_holds (kind_of object) _ partition other (λ kind objects. are_distinct objects ≡ true)
+    (λ same. new_distinct (objects_of partition (kind_of object)) claimed (new_object configuration who.part name object) (has (kind_of object)) (value refl)) (λ differs. has other)
+used_distinct configuration now who claimed (request.Object number operation) partition has value other =
+    put_holds (kind_used operation) _ partition other (λ kind objects. are_distinct objects ≡ true)
+    (λ same. distinct_each _ (objects_of partition (kind_used operation)) ∙ has (kind_used operation)) (λ differs. has other)
+used_distinct configuration now who claimed (request.SamplingPort port SamplingOperation.Read) partition has value other =
+    put_holds kind.SamplingPort _ partition other (λ kind objects. are_distinct objects ≡ true)
+    (λ same. distinct_each _ partition.sampling_ports ∙ has kind.SamplingPort) (λ differs. has other)
 used_distinct configuration now who claimed _ partition has value other = has other
 
 -- a change of each set leaves the numbers

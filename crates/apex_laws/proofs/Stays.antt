@@ -1,6 +1,7 @@
 -- A step keeps a state tied, and so does a run.
 use Rattle.std.proofs.Common.{◌≡◌, ℕ, List, [], ◌∷◌, true, false, nat_eq, Option, Some, None, IsTrue, refl, sym, subst, ◌∙◌, true≢false, ◌&&◌}
 use Rattle.std.proofs.lemmas.Bool.{eqb-true, eq-eqb}
+use Rattle.apex_types.specs.declared.object_kind.ObjectKind.TheVariants as kind
 use Rattle.apex_types.specs.declared.record.Body.{Body}
 use Rattle.apex_types.specs.declared.record.Body.TheVariants.{Call, Ret, Disp, Tick}
 use Rattle.apex_types.specs.declared.record.Call.{Call as CallRecord}
@@ -9,21 +10,20 @@ use Rattle.apex_types.specs.declared.record.Who.{Who}
 use Rattle.apex_types.specs.declared.operation.{QueuingOperation.QueuingOperation}
 use Rattle.apex_types.specs.declared.request.Request.{Request}
 use Rattle.apex_types.specs.declared.request.Request.TheVariants as request
+use Rattle.apex_types.specs.declared.shape.End.TheVariants.{Senders, Receivers}
 use Rattle.apex_machine.specs.declared.condition.Condition.{Condition}
 use Rattle.apex_machine.specs.declared.state.Entry.{Entry}
 use Rattle.apex_machine.specs.declared.state.WaitingSet.{WaitingSet}
-use Rattle.apex_machine.specs.declared.state.WaitingSet.TheVariants as set
 use Rattle.apex_machine.specs.After.{objects_by, partition_by, partition_called}
 use Rattle.apex_machine.specs.Channels.{is_receiver, is_sender}
 use Rattle.apex_machine.specs.Configuration.{Configuration}
 use Rattle.apex_machine.specs.Ports.{channel_of, suits_use, use_of}
 use Rattle.apex_machine.specs.ServiceConditions.{conditions_of}
 use Rattle.apex_machine.specs.Services.{answer_of}
-use Rattle.apex_machine.specs.State.{Partition, State, cold_state, is_named, time_of}
+use Rattle.apex_machine.specs.State.{Partition, State, cold_state, is_named, time_of, channel_set, is_of_channel}
 use Rattle.apex_machine.specs.Step.{HasOutcome, IsLawfulBody, IsLawfulCall, Run, Step, channel_answer}
 use Rattle.apex_machine.specs.Waiting.{ends_wait, enters, is_no_error, is_target, set_after, stop_of, waits_at}
 use Rattle.apex_laws.specs.Laws.{AllEntries, AllPorts, AreTied, IsAtEnd, IsTied, StaysTied, entries_at}
-use Rattle.apex_laws.specs.PartLaws.{is_of_channel}
 use Rattle.apex_laws.specs.WaitLaws.{WaitsIn}
 use Rattle.apex_laws.proofs.Booleans.{cannot_hold, holds_if, not_first, not_second}
 use Rattle.apex_laws.proofs.Demanded.{WaitsAcross, across}
@@ -31,7 +31,7 @@ use Rattle.apex_laws.proofs.Distinct.{distinct_by, lawful_values}
 use Rattle.apex_laws.proofs.Ends.{WaitsAtEnd, port_is_at_end}
 use Rattle.apex_laws.proofs.Keeps.{calls_ready, entered_waits, keeps_waiting, leaves, ready_call}
 use Rattle.apex_laws.proofs.PortEnds.{ports_after}
-use Rattle.apex_laws.proofs.Restarts.{call_case, done_case, goes_on, restarts_other, return_case}
+use Rattle.apex_laws.proofs.Restarts.{call_case, done_case, goes_on, restarts_other, return_case, start_set}
 use Rattle.apex_laws.proofs.Objects.{of_objects}
 use Rattle.apex_laws.proofs.SetsAfter.{EntersWith, IsElsewhere, each_entry, one_set_after}
 use Rattle.apex_laws.proofs.Waiters.{all_weaker}
@@ -39,6 +39,9 @@ use Rattle.apex_laws.proofs.WaitSets.{off_channel}
 use Rattle.apex_laws.proofs.Waits.{entering_is_the_sentence}
 use Rattle.apex_laws.proofs.Wakes.{nobody}
 use Rattle.apex_laws.proofs.Woken.{found, woken}
+use Rattle.apex_types.specs.declared.shape.End.{End}
+use Rattle.apex_types.specs.declared.object_kind.ObjectKind.{ObjectKind}
+use Rattle.apex_machine.specs.declared.state.Mode.TheVariants as mode
 
 -- one law for every waiting set
 
@@ -84,9 +87,9 @@ set_tied configuration state place core body tied law Home wanted home entries a
 not_across : (asked : Request) (partitions : ℕ → Partition) (configuration : Configuration) (channel : ℕ) (wanted : WaitingSet) (who : Who) → is_of_channel wanted ≡ false
     → waits_at wanted (found partitions who) ≡ true → WaitsAcross asked partitions configuration channel who → ⊥
 not_across (request.QueuingPort port (QueuingOperation.Send length time_out message)) partitions configuration channel wanted who off waits across =
-    true≢false (off_channel wanted (set.ChannelReceivers channel) (found partitions who) off waits across.1)
+    true≢false (off_channel wanted (channel_set channel Receivers) (found partitions who) off waits across.1)
 not_across (request.QueuingPort port (QueuingOperation.Receive time_out)) partitions configuration channel wanted who off waits across =
-    true≢false (off_channel wanted (set.ChannelSenders channel) (found partitions who) off waits across.1)
+    true≢false (off_channel wanted (channel_set channel Senders) (found partitions who) off waits across.1)
 not_across _ partitions configuration channel wanted who off waits across = across
 
 -- so who waits in a set of this partition isn't named
@@ -164,11 +167,15 @@ home_of configuration state core call tied law channel is =
     by [] none (Some other) at has =
         port_is_at_end configuration call.who (state.partitions call.who.part) call.request channel (tied.ports call.who.part) (at ∙ sym has.chan ∙ is) none
 
--- the partition of a caller that enters a set: that at the channel's end, if it is a channel's
+-- the partition of a caller that enters a set of this kind at this end: that at the channel's end, if it is a channel's
+abbrev IsHomeAt : ObjectKind → End → Configuration → ℕ → ℕ → Type 0
+IsHomeAt kind.QueuingPort Senders configuration number partition = IsTrue (is_sender configuration number partition)
+IsHomeAt kind.QueuingPort Receivers configuration number partition = IsTrue (is_receiver configuration number partition)
+IsHomeAt _ _ configuration number partition = Unit {0}
+
+-- the partition of a caller that enters a set
 abbrev IsHomeOf : Configuration → WaitingSet → ℕ → Type 0
-IsHomeOf configuration (set.ChannelSenders number) partition = IsTrue (is_sender configuration number partition)
-IsHomeOf configuration (set.ChannelReceivers number) partition = IsTrue (is_receiver configuration number partition)
-IsHomeOf configuration _ partition = Unit {0}
+IsHomeOf configuration wanted partition = IsHomeAt wanted.kind wanted.end configuration wanted.number partition
 
 -- who enters a channel's set does so by its service, through that channel
 home_by : {asked : Request} {chan : Option ℕ} {wanted : WaitingSet} → WaitsIn asked chan wanted → (configuration : Configuration) (partition : ℕ)
@@ -218,10 +225,10 @@ step_tied configuration state ordered next tied step =
     subst (AreTied configuration) (sym step.1) (record {
       distinct = λ number. distinct_by configuration state.cores place core number body (state.partitions number) (lawful_values configuration state core body law number) (tied.distinct number);
       objects = λ number wanted. own_set configuration state place core body tied law number wanted;
-      senders = λ number. set_tied configuration state place core body tied law (λ home. IsTrue (is_sender configuration number home)) (set.ChannelSenders number)
-          (enters_at_end configuration state core body tied law (set.ChannelSenders number)) (state.channels number).senders (tied.senders number);
-      receivers = λ number. set_tied configuration state place core body tied law (λ home. IsTrue (is_receiver configuration number home)) (set.ChannelReceivers number)
-          (enters_at_end configuration state core body tied law (set.ChannelReceivers number)) (state.channels number).receivers (tied.receivers number);
+      senders = λ number. set_tied configuration state place core body tied law (λ home. IsTrue (is_sender configuration number home)) (channel_set number Senders)
+          (enters_at_end configuration state core body tied law (channel_set number Senders)) (state.channels number).senders (tied.senders number);
+      receivers = λ number. set_tied configuration state place core body tied law (λ home. IsTrue (is_receiver configuration number home)) (channel_set number Receivers)
+          (enters_at_end configuration state core body tied law (channel_set number Receivers)) (state.channels number).receivers (tied.receivers number);
       ports = λ number. ports_by configuration state place core body number (tied.ports number);
     })
 
@@ -234,8 +241,7 @@ run_tied configuration (ordered ∷ others) state final tied run =
 
 -- no entry is in a set of a cold partition
 cold_sets : (configuration : Configuration) (number : ℕ) (wanted : WaitingSet) (Fact : Entry → Type 0) → AllEntries Fact (entries_at ((cold_state configuration).partitions number) wanted)
-cold_sets configuration number (set.BufferSenders object) Fact = tt
-cold_sets configuration number _ Fact = tt
+cold_sets configuration number wanted Fact = subst (AllEntries Fact) (sym (start_set mode.ColdStart configuration number 0 wanted)) tt
 
 -- the cold state is tied
 pub cold_tied : (configuration : Configuration) → AreTied configuration (cold_state configuration)

@@ -2,10 +2,10 @@
 use Rattle.std.proofs.Common.{◌≡◌, ℕ, ap, subst, ◌∙◌}
 use Rattle.apex_types.specs.declared.record.Body.{Body}
 use Rattle.apex_types.specs.declared.record.Ordered.{Ordered}
-use Rattle.apex_machine.specs.declared.state.WaitingSet.TheVariants as set
+use Rattle.apex_types.specs.declared.shape.End.TheVariants.{Senders, Receivers}
 use Rattle.apex_machine.specs.After.{content_by, cores_by, partition_by}
 use Rattle.apex_machine.specs.Configuration.{Configuration}
-use Rattle.apex_machine.specs.State.{Channel, State, time_of}
+use Rattle.apex_machine.specs.State.{Channel, State, time_of, channel_set}
 use Rattle.apex_machine.specs.Step.{IsLawfulBody, Step}
 use Rattle.apex_machine.specs.Waiting.{set_after}
 
@@ -26,8 +26,8 @@ next_partition configuration state ordered next body step is number =
 abbrev pub channel_by : Configuration → State → ℕ → ℕ → ℕ → Body → Channel
 channel_by configuration state place core number body = record {
   content = content_by configuration (time_of state.cores core) number body (state.channels number);
-  senders = set_after place body (set.ChannelSenders number) (state.channels number).senders;
-  receivers = set_after place body (set.ChannelReceivers number) (state.channels number).receivers;
+  senders = set_after place body (channel_set number Senders) (state.channels number).senders;
+  receivers = set_after place body (channel_set number Receivers) (state.channels number).receivers;
 }
 
 -- the channels of the next state

@@ -7,18 +7,18 @@ use Rattle.apex_types.specs.declared.record.Call.{Call as CallRecord}
 use Rattle.apex_types.specs.declared.record.Ordered.{Ordered}
 use Rattle.apex_types.specs.declared.record.Who.{Who}
 use Rattle.apex_types.specs.declared.request.Request.{Request}
+use Rattle.apex_types.specs.declared.shape.End.TheVariants.{Senders, Receivers}
 use Rattle.apex_machine.specs.declared.state.CoreState.{CoreState}
 use Rattle.apex_machine.specs.declared.state.Entry.{Entry}
 use Rattle.apex_machine.specs.declared.state.Process.{Process}
 use Rattle.apex_machine.specs.declared.state.WaitingSet.{WaitingSet}
-use Rattle.apex_machine.specs.declared.state.WaitingSet.TheVariants as set
 use Rattle.apex_machine.specs.After.{after, content_by, cores_by, is_channel, partition_by, woken_if_named}
 use Rattle.apex_machine.specs.Channels.{is_at_end, is_receiver, is_sender, samples}
 use Rattle.apex_machine.specs.Configuration.{Configuration}
 use Rattle.apex_machine.specs.Pieces.{ChannelPart, Module, OfChannel, OfPartition, PartitionPart, Piece, part, stops_at_end, times_of, touched_by, touches}
 use Rattle.apex_machine.specs.ServiceConditions.{conditions_of}
 use Rattle.apex_machine.specs.Ports.{channel_of}
-use Rattle.apex_machine.specs.State.{Partition, State, Table, each_item, is_named, time_of}
+use Rattle.apex_machine.specs.State.{Partition, State, Table, each_item, is_named, time_of, channel_set}
 use Rattle.apex_machine.specs.Step.{IsLawful, IsLawfulBody, IsLawfulCall}
 use Rattle.apex_machine.specs.Waiting.{ends_wait, enters, is_no_error, is_target, restart_of, set_after, stop_of}
 use Rattle.apex_laws.specs.Laws.{AllEntries, AreTied, IsTied}
@@ -30,6 +30,8 @@ use Rattle.apex_laws.proofs.Waiters.{none_leaves}
 use Rattle.apex_laws.proofs.WaitersOf.{not_named}
 use Rattle.apex_laws.proofs.Waits.{entering_is_the_sentence}
 use Rattle.apex_laws.proofs.Woken.{IsWokenBy, woken}
+use Rattle.apex_types.specs.declared.object_kind.ObjectKind.{ObjectKind}
+use Rattle.apex_types.specs.declared.object_kind.ObjectKind.TheVariants as kind
 
 -- partitions
 
@@ -58,10 +60,12 @@ partition_untouched configuration cores place core number (Call call) partition 
 -- channels
 
 -- a caller enters a set of a channel only by a call through it
+abbrev GoesBy : ObjectKind → ℕ → Option ℕ → Type 0
+GoesBy kind.QueuingPort number chan = is_channel number chan ≡ true
+GoesBy _ number chan = Unit {0}
+
 abbrev GoesThrough : WaitingSet → Option ℕ → Type 0
-GoesThrough (set.ChannelSenders number) chan = is_channel number chan ≡ true
-GoesThrough (set.ChannelReceivers number) chan = is_channel number chan ≡ true
-GoesThrough _ chan = Unit {0}
+GoesThrough wanted chan = GoesBy wanted.kind wanted.number chan
 
 goes_through : {asked : Request} {chan : Option ℕ} {wanted : WaitingSet} → WaitsIn asked chan wanted → GoesThrough wanted chan
 goes_through (WaitsIn.sends_through {channel = channel}) = is_itself channel
@@ -128,20 +132,20 @@ set_stays Fact place call wanted entries all off stays = rw off (none_leaves Fac
 channel_untouched : (configuration : Configuration) (state : State) (place core : ℕ) (call : CallRecord) → AreTied configuration state
     → IsLawfulCall configuration state core call → (number : ℕ) → (is_channel number call.claim.chan || stops_at_end configuration number call) ≡ false
     → (content_by configuration (time_of state.cores core) number (Call call) (state.channels number) ≡ (state.channels number).content)
-    × (set_after place (Call call) (set.ChannelSenders number) (state.channels number).senders ≡ (state.channels number).senders)
-    × (set_after place (Call call) (set.ChannelReceivers number) (state.channels number).receivers ≡ (state.channels number).receivers)
+    × (set_after place (Call call) (channel_set number Senders) (state.channels number).senders ≡ (state.channels number).senders)
+    × (set_after place (Call call) (channel_set number Receivers) (state.channels number).receivers ≡ (state.channels number).receivers)
 channel_untouched configuration state place core call tied law number off =
     let away : is_channel number call.claim.chan ≡ false = neither_first _ _ off in
     let unstopped : stops_at_end configuration number call ≡ false = neither_later _ _ off in (
       rw away refl,
-      set_stays (IsTied (λ home. IsTrue (is_sender configuration number home)) (set.ChannelSenders number) state.partitions) place call (set.ChannelSenders number)
+      set_stays (IsTied (λ home. IsTrue (is_sender configuration number home)) (channel_set number Senders) state.partitions) place call (channel_set number Senders)
           (state.channels number).senders (tied.senders number)
-          (cannot_hold (enters call (set.ChannelSenders number)) (λ here. true≢false (sym (goes_through ((entering_is_the_sentence call (set.ChannelSenders number)).0 here).1) ∙ away)))
+          (cannot_hold (enters call (channel_set number Senders)) (λ here. true≢false (sym (goes_through ((entering_is_the_sentence call (channel_set number Senders)).0 here).1) ∙ away)))
           (λ entry there. stays_there configuration call number entry.who (sender_at_end configuration number entry.who.part there.0) unstopped
           (not_woken configuration state core call tied law number away entry.who (λ by. by.sending number there.1))),
-      set_stays (IsTied (λ home. IsTrue (is_receiver configuration number home)) (set.ChannelReceivers number) state.partitions) place call (set.ChannelReceivers number)
+      set_stays (IsTied (λ home. IsTrue (is_receiver configuration number home)) (channel_set number Receivers) state.partitions) place call (channel_set number Receivers)
           (state.channels number).receivers (tied.receivers number)
-          (cannot_hold (enters call (set.ChannelReceivers number)) (λ here. true≢false (sym (goes_through ((entering_is_the_sentence call (set.ChannelReceivers number)).0 here).1) ∙ away)))
+          (cannot_hold (enters call (channel_set number Receivers)) (λ here. true≢false (sym (goes_through ((entering_is_the_sentence call (channel_set number Receivers)).0 here).1) ∙ away)))
           (λ entry there. stays_there configuration call number entry.who (receiver_at_end configuration number entry.who.part there.0) unstopped
           (not_woken configuration state core call tied law number away entry.who (λ by. by.receiving number there.1))),
     )
@@ -151,8 +155,8 @@ channel_part : (configuration : Configuration) (state : State) (place core : ℕ
     → IsLawfulBody configuration state core body → (number : ℕ) → IsFalse (touched_by configuration body (OfChannel number))
     → (times_of (cores_by core body state.cores) ≡ times_of state.cores)
     × (content_by configuration (time_of state.cores core) number body (state.channels number) ≡ (state.channels number).content)
-    × (set_after place body (set.ChannelSenders number) (state.channels number).senders ≡ (state.channels number).senders)
-    × (set_after place body (set.ChannelReceivers number) (state.channels number).receivers ≡ (state.channels number).receivers)
+    × (set_after place body (channel_set number Senders) (state.channels number).senders ≡ (state.channels number).senders)
+    × (set_after place body (channel_set number Receivers) (state.channels number).receivers ≡ (state.channels number).receivers)
 channel_part configuration state place core (Disp who) tied law number off = (times_after core (Disp who) state.cores, refl, refl, refl)
 channel_part configuration state place core (Ret ret) tied law number off = (refl, refl, refl, refl)
 channel_part configuration state place core (Tick woken) tied law number off = absurd (true≢false off)

@@ -1,32 +1,14 @@
 -- Waiting sets by their names: a process waits in one at most.
 use Rattle.std.proofs.Common.{◌≡◌, true, false, Option, Some, None, refl, sym, ap, ◌∙◌, true≢false}
-use Rattle.std.proofs.lemmas.Bool.{and_parts, eqb-true}
+use Rattle.std.proofs.lemmas.Bool.{and_parts}
 use Rattle.apex_machine.specs.declared.state.Process.{Process}
 use Rattle.apex_machine.specs.declared.state.Wait.{Wait}
 use Rattle.apex_machine.specs.declared.state.Wait.TheVariants as wait
 use Rattle.apex_machine.specs.declared.state.WaitingSet.{WaitingSet}
-use Rattle.apex_machine.specs.declared.state.WaitingSet.TheVariants as set
 use Rattle.apex_machine.specs.Choice.{waits_for_nothing}
-use Rattle.apex_machine.specs.Waiting.{is_in, is_same_set, is_the_set, waits_at}
-use Rattle.apex_laws.specs.PartLaws.{is_of_channel}
-use Rattle.apex_laws.proofs.Booleans.{is_itself}
-
--- the test says that these are one set
-pub same_set_is : (one other : WaitingSet) → is_same_set one other ≡ true → one ≡ other
-same_set_is (set.BufferSenders a) (set.BufferSenders b) same = ap set.BufferSenders (eqb-true a b same)
-same_set_is (set.BufferReceivers a) (set.BufferReceivers b) same = ap set.BufferReceivers (eqb-true a b same)
-same_set_is (set.BlackboardReaders a) (set.BlackboardReaders b) same = ap set.BlackboardReaders (eqb-true a b same)
-same_set_is (set.SemaphoreWaiters a) (set.SemaphoreWaiters b) same = ap set.SemaphoreWaiters (eqb-true a b same)
-same_set_is (set.EventWaiters a) (set.EventWaiters b) same = ap set.EventWaiters (eqb-true a b same)
-same_set_is (set.MutexWaiters a) (set.MutexWaiters b) same = ap set.MutexWaiters (eqb-true a b same)
-same_set_is (set.ChannelSenders a) (set.ChannelSenders b) same = ap set.ChannelSenders (eqb-true a b same)
-same_set_is (set.ChannelReceivers a) (set.ChannelReceivers b) same = ap set.ChannelReceivers (eqb-true a b same)
-same_set_is _ _ same = absurd (true≢false (sym same))
-
--- a set is the same as itself
-pub set_itself : (wanted : WaitingSet) → is_same_set wanted wanted ≡ true
-set_itself (set.BufferSenders number) = is_itself number
-set_itself _ = is_itself _
+use Rattle.apex_machine.specs.Waiting.{is_in, is_the_set, waits_at}
+use Rattle.apex_machine.specs.State.{is_of_channel}
+pub use Rattle.apex_laws.proofs.SetNames.{same_set_is, set_itself}
 
 -- the set that is found is the one that is wanted
 pub found_set : (wanted : WaitingSet) (found : Option WaitingSet) → is_the_set wanted found ≡ true → found ≡ Some wanted

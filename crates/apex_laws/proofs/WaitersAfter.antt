@@ -9,6 +9,7 @@ use Rattle.apex_types.specs.declared.record.Out.TheVariants as out
 use Rattle.apex_types.specs.declared.record.Who.{Who}
 use Rattle.apex_types.specs.declared.operation.{ProcessOperation.ProcessOperation}
 use Rattle.apex_types.specs.declared.request.Request.{Request}
+use Rattle.apex_types.specs.declared.operation.ObjectOperation.TheVariants as on
 use Rattle.apex_types.specs.declared.request.Request.TheVariants as request
 use Rattle.apex_machine.specs.declared.state.CoreState.{CoreState}
 use Rattle.apex_machine.specs.declared.state.Process.{Process}
@@ -19,9 +20,9 @@ use Rattle.apex_machine.specs.Arguments.{is_number}
 use Rattle.apex_machine.specs.Conditions.{is_normal}
 use Rattle.apex_machine.specs.Configuration.{Configuration, first_core, period_of}
 use Rattle.apex_machine.specs.DueTimes.{entry_wait, wait_of, waits_for_normal}
-use Rattle.apex_machine.specs.Processes.{by_mutex, caller_with, message_handed_over, new_process, released, set_by, started, stopped, woken_by, set_in}
+use Rattle.apex_machine.specs.Processes.{by_mutex, caller_with, new_process, released, set_by, started, stopped, woken_by, set_in}
 use Rattle.apex_machine.specs.State.{Mutex, Partition, Table, each_item, given_object, is_named, item_at, time_of}
-use Rattle.apex_machine.specs.Waiting.{ends_wait, enters, is_in, is_no_error, is_target, is_the_set, is_waiting, restart_of, set_of, stop_of, stops, waits_at}
+use Rattle.apex_machine.specs.Waiting.{ends_wait, enters, is_in, is_no_error, is_target, is_the_set, is_waiting, restart_of, set_of, stop_of, stops, waits_at, message_of}
 use Rattle.apex_laws.proofs.Booleans.{differs_back, not_first, not_second}
 use Rattle.apex_laws.proofs.Callers.{ready_waits_not}
 use Rattle.apex_laws.proofs.Keeps.{CallsReady, begun_in, found_changed, leaves, mutex_alive, mutex_wait}
@@ -61,7 +62,7 @@ set_back place period cores partition caller (request.Process process operation)
 set_back place period cores partition caller (request.SetPartitionMode next) number x wanted waits =
     one_back wanted (waits_for_normal x.wait) (record x { wait = entry_wait period (time_of cores x.affinity) x.period; ready_position = place }) x
     (λ waits. absurd (entry_not wanted period (time_of cores x.affinity) x.period (and_parts x.alive (is_in wanted (entry_wait period (time_of cores x.affinity) x.period)) waits).1)) waits
-set_back place period cores partition caller (request.Mutex mutex operation) number x wanted waits = mutex_back wanted (given_object partition.mutexes mutex) _ number x waits
+set_back place period cores partition caller (request.Object mutex (on.Mutex operation)) number x wanted waits = mutex_back wanted (given_object partition.mutexes mutex) _ number x waits
 set_back place period cores partition caller _ number x wanted waits = waits
 
 adjusted_back : (place period : ℕ) (cores : List CoreState) (partition : Partition) (call : CallRecord) (number : ℕ) (x : Process) (wanted : WaitingSet)
@@ -79,7 +80,7 @@ ended_not alive waits = true≢false (sym (and_parts alive false waits).1)
 woken_if_named_back : (place : ℕ) (call : CallRecord) (who : Who) (x : Process) (wanted : WaitingSet) → waits_at wanted (Some (woken_if_named place call who x)) ≡ true
     → (is_named who call.claim.woken ≡ false) × (waits_at wanted (Some x) ≡ true)
 woken_if_named_back place call who x wanted waits =
-    elim (is_named who call.claim.woken) as (λ named. waits_at wanted (Some (cond named (woken_by place (message_handed_over call.request) x) x)) ≡ true → (named ≡ false) × (waits_at wanted (Some x) ≡ true)) [
+    elim (is_named who call.claim.woken) as (λ named. waits_at wanted (Some (cond named (woken_by place (message_of call.request) x) x)) ≡ true → (named ≡ false) × (waits_at wanted (Some x) ≡ true)) [
       | true ↦ λ waits. absurd (ended_not x.alive waits)
       | false ↦ λ waits. (refl, waits)
     ] waits

@@ -1,11 +1,12 @@
 -- At which waiting set a call waits, and how a wait with a time-out ends.
-use Rattle.std.proofs.Common.{◌≡◌, ℕ, ◌+◌, ◌≤◌, ℤ, pos, negsuc, [], Option, Some, None, Bool, false, ◌&&◌, nat_eq, nat_le, refl, sym, ap, subst, ◌∙◌, true≢false}
+use Rattle.std.proofs.Common.{◌≡◌, ℕ, ◌+◌, ◌≤◌, ℤ, pos, negsuc, [], Option, Some, Bool, false, ◌&&◌, nat_eq, nat_le, refl, sym, ap, subst, ◌∙◌, true≢false}
 use Rattle.apex_types.specs.declared.code.Code.TheVariants as code
 use Rattle.apex_types.specs.declared.record.Call.{Call as CallRecord}
 use Rattle.apex_types.specs.declared.record.Out.{Out}
 use Rattle.apex_types.specs.declared.record.Out.TheVariants as out
 use Rattle.apex_types.specs.declared.operation.{BlackboardOperation.BlackboardOperation, BufferOperation.BufferOperation, EventOperation.EventOperation, MutexOperation.MutexOperation, QueuingOperation.QueuingOperation, SemaphoreOperation.SemaphoreOperation}
 use Rattle.apex_types.specs.declared.request.Request.{Request}
+use Rattle.apex_types.specs.declared.operation.ObjectOperation.TheVariants as on
 use Rattle.apex_types.specs.declared.request.Request.TheVariants as request
 use Rattle.apex_types.specs.Requested.{service_of}
 use Rattle.apex_machine.specs.declared.state.Outcome.{Outcome}
@@ -33,12 +34,12 @@ one_is : (one other : WaitingSet) → ◌≡◌ {A = Option WaitingSet} (Some on
 one_is one other same = cc
 
 set_is : (asked : Request) (chan : Option ℕ) (wanted : WaitingSet) → set_of asked chan ≡ Some wanted → WaitsIn asked chan wanted
-set_is (request.Buffer buffer (BufferOperation.Send length time_out message)) chan wanted is = subst (WaitsIn (request.Buffer buffer (BufferOperation.Send length time_out message)) chan) (one_is _ _ is) WaitsIn.sends_to_buffer
-set_is (request.Buffer buffer (BufferOperation.Receive time_out)) chan wanted is = subst (WaitsIn (request.Buffer buffer (BufferOperation.Receive time_out)) chan) (one_is _ _ is) WaitsIn.receives_from_buffer
-set_is (request.Blackboard blackboard (BlackboardOperation.Read time_out)) chan wanted is = subst (WaitsIn (request.Blackboard blackboard (BlackboardOperation.Read time_out)) chan) (one_is _ _ is) WaitsIn.reads_blackboard
-set_is (request.Semaphore semaphore (SemaphoreOperation.Wait time_out)) chan wanted is = subst (WaitsIn (request.Semaphore semaphore (SemaphoreOperation.Wait time_out)) chan) (one_is _ _ is) WaitsIn.waits_for_semaphore
-set_is (request.Event event (EventOperation.Wait time_out)) chan wanted is = subst (WaitsIn (request.Event event (EventOperation.Wait time_out)) chan) (one_is _ _ is) WaitsIn.waits_for_event
-set_is (request.Mutex mutex (MutexOperation.Acquire time_out)) chan wanted is = subst (WaitsIn (request.Mutex mutex (MutexOperation.Acquire time_out)) chan) (one_is _ _ is) WaitsIn.acquires_mutex
+set_is (request.Object buffer (on.Buffer (BufferOperation.Send length time_out message))) chan wanted is = subst (WaitsIn (request.Object buffer (on.Buffer (BufferOperation.Send length time_out message))) chan) (one_is _ _ is) WaitsIn.sends_to_buffer
+set_is (request.Object buffer (on.Buffer (BufferOperation.Receive time_out))) chan wanted is = subst (WaitsIn (request.Object buffer (on.Buffer (BufferOperation.Receive time_out))) chan) (one_is _ _ is) WaitsIn.receives_from_buffer
+set_is (request.Object blackboard (on.Blackboard (BlackboardOperation.Read time_out))) chan wanted is = subst (WaitsIn (request.Object blackboard (on.Blackboard (BlackboardOperation.Read time_out))) chan) (one_is _ _ is) WaitsIn.reads_blackboard
+set_is (request.Object semaphore (on.Semaphore (SemaphoreOperation.Wait time_out))) chan wanted is = subst (WaitsIn (request.Object semaphore (on.Semaphore (SemaphoreOperation.Wait time_out))) chan) (one_is _ _ is) WaitsIn.waits_for_semaphore
+set_is (request.Object event (on.Event (EventOperation.Wait time_out))) chan wanted is = subst (WaitsIn (request.Object event (on.Event (EventOperation.Wait time_out))) chan) (one_is _ _ is) WaitsIn.waits_for_event
+set_is (request.Object mutex (on.Mutex (MutexOperation.Acquire time_out))) chan wanted is = subst (WaitsIn (request.Object mutex (on.Mutex (MutexOperation.Acquire time_out))) chan) (one_is _ _ is) WaitsIn.acquires_mutex
 set_is (request.QueuingPort port (QueuingOperation.Send length time_out message)) (Some channel) wanted is =
     subst (WaitsIn (request.QueuingPort port (QueuingOperation.Send length time_out message)) (Some channel)) (one_is _ _ is) WaitsIn.sends_through
 set_is (request.QueuingPort port (QueuingOperation.Receive time_out)) (Some channel) wanted is = subst (WaitsIn (request.QueuingPort port (QueuingOperation.Receive time_out)) (Some channel)) (one_is _ _ is) WaitsIn.receives_through
@@ -70,7 +71,7 @@ due_by_call : {asked : Request} {chan : Option ℕ} {wanted : WaitingSet} → (n
 due_by_call now given WaitsIn.sends_to_buffer same = ap (λ one. due_time one now) (sym same)
 due_by_call now given _ same = ap (λ one. due_time one now) (sym same)
 
-service_by : {asked : Request} {chan : Option ℕ} {wanted : WaitingSet} → WaitsIn asked chan wanted → service_at wanted ≡ service_of asked
+service_by : {asked : Request} {chan : Option ℕ} {wanted : WaitingSet} → WaitsIn asked chan wanted → service_at wanted ≡ Some (service_of asked)
 service_by WaitsIn.sends_to_buffer = refl
 service_by _ = refl
 
@@ -96,5 +97,5 @@ time_out_is_the_sentence place now call wanted old waits in_set =
       λ later.
           let outcome : Wait → Option Outcome = λ one. owed (service_of_wait one) (code_when_due one) [] in
           ap (λ one. outcome (caller_with place now call one old).wait) waits ∙ ap outcome (wait_by now old in_set)
-          ∙ ap (λ one. Some (record { service = one; code = code.TimedOut; val = None; val2 = None; val3 = None; bytes = [] })) (service_by in_set),
+          ∙ ap (λ one. owed one code.TimedOut []) (service_by in_set),
     )

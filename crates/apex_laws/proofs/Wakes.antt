@@ -1,14 +1,16 @@
 -- Which processes a call wakes: those in a waiting set, or those that suspended themselves.
 use Rattle.std.proofs.Common.{◌≡◌, ℕ, zero, suc, List, [], ◌∷◌, length, Bool, true, false, cond, nat_eq, nat_lt, ℤ, pos, negsuc, Option, Some, None, refl, sym, ap, subst, ◌∙◌, true≢false}
+use Rattle.apex_types.specs.declared.object_kind.ObjectKind.TheVariants as kind
 use Rattle.apex_types.specs.declared.code.Code.TheVariants as code
 use Rattle.apex_types.specs.declared.record.Who.{Who}
 use Rattle.apex_types.specs.declared.operation.{BlackboardOperation.BlackboardOperation, BufferOperation.BufferOperation, CallerOperation.CallerOperation, EventOperation.EventOperation, MutexOperation.MutexOperation, ProcessOperation.ProcessOperation, SemaphoreOperation.SemaphoreOperation}
 use Rattle.apex_types.specs.declared.request.Request.{Request}
+use Rattle.apex_types.specs.declared.operation.ObjectOperation.TheVariants as on
 use Rattle.apex_types.specs.declared.request.Request.TheVariants as request
+use Rattle.apex_types.specs.declared.shape.End.TheVariants.{Senders, Receivers}
 use Rattle.apex_machine.specs.declared.state.Entry.{Entry}
 use Rattle.apex_machine.specs.declared.state.Process.{Process}
 use Rattle.apex_machine.specs.declared.state.WaitingSet.{WaitingSet}
-use Rattle.apex_machine.specs.declared.state.WaitingSet.TheVariants as set
 use Rattle.apex_machine.specs.Answer.{Answer, answering, done, unmet, waiting, waking}
 use Rattle.apex_machine.specs.Arguments.{is_over}
 use Rattle.apex_machine.specs.Channels.{capacity_of, receiving_discipline, refresh_of, sending_discipline}
@@ -18,11 +20,11 @@ use Rattle.apex_machine.specs.Objects.{acquired, acquired_again, acquired_from, 
 use Rattle.apex_machine.specs.Ports.{Ask, Receive, Read, Send, Use, Write, channel_effect, used, reading_of}
 use Rattle.apex_machine.specs.Queue.{Messages, appended, not_yet, received, sent}
 use Rattle.apex_machine.specs.Services.{answer_by, answer_of, peer, resuming}
-use Rattle.apex_machine.specs.State.{Blackboard, Buffer, Channel, Content, Event, Mutex, Partition, Queued, Sampled, Semaphore, Stamped, created, given_object, is_named, item_at}
+use Rattle.apex_machine.specs.State.{Blackboard, Buffer, Channel, Content, Event, Mutex, Partition, Queued, Sampled, Semaphore, Stamped, created, given_object, is_named, item_at, set_at}
 use Rattle.apex_machine.specs.Waiting.{first_waiter}
-use Rattle.apex_laws.specs.Laws.{AllEntries, entries_at, entries_in}
+use Rattle.apex_laws.specs.Laws.{AllEntries, entries_at, entries_in, entries_of}
 use Rattle.apex_laws.specs.PartLaws.{is_set_used}
-use Rattle.apex_laws.proofs.Booleans.{first_holds, is_itself}
+use Rattle.apex_laws.proofs.Booleans.{is_itself}
 use Rattle.apex_laws.proofs.Waiters.{all_named, first_has, only_named}
 
 -- the empty list names no process
@@ -126,62 +128,62 @@ pub answer_wakes : (Fact : Who → Type 0) (now : ℕ) (who : Who) (partition : 
     → ((wanted : WaitingSet) → is_set_used asked wanted ≡ true → AllEntries (λ entry. Fact entry.who) (entries_at partition wanted))
     → ((process : ℤ) (target : Process) → created partition.table process ≡ Some target → is_suspension target.wait ≡ true → Fact (peer who process))
     → (one : Who) → is_named one (answer_of now who partition asked).woken ≡ true → Fact one
-answer_wakes Fact now who partition (request.Buffer (pos buffer) (BufferOperation.Send length time_out message)) all suspended one named =
+answer_wakes Fact now who partition (request.Object (pos buffer) (on.Buffer (BufferOperation.Send length time_out message))) all suspended one named =
     by_object (Fact one) one (item_at partition.buffers buffer) (λ found. (buffer_sent message time_out found).answer)
     (λ found is named. sent_wakes Fact found.capacity message time_out (first_waiter found.discipline found.receivers) found.messages
     (λ entry first. first_has (λ entry. Fact entry.who) found.discipline found.receivers entry
-    (entries_found (λ entry. Fact entry.who) (λ (found : Buffer). found.receivers) (item_at partition.buffers buffer) found is (all (set.BufferReceivers buffer) (is_itself buffer))) first) one named) named
-answer_wakes Fact now who partition (request.Buffer (negsuc buffer) (BufferOperation.Send length time_out message)) all suspended one named = nobody one [] refl named
-answer_wakes Fact now who partition (request.Buffer (pos buffer) (BufferOperation.Receive time_out)) all suspended one named =
+    (entries_found (λ entry. Fact entry.who) (λ (found : Buffer). found.receivers) (item_at partition.buffers buffer) found is (all (set_at kind.Buffer buffer Receivers) (is_itself buffer))) first) one named) named
+answer_wakes Fact now who partition (request.Object (negsuc buffer) (on.Buffer (BufferOperation.Send length time_out message))) all suspended one named = nobody one [] refl named
+answer_wakes Fact now who partition (request.Object (pos buffer) (on.Buffer (BufferOperation.Receive time_out))) all suspended one named =
     by_object (Fact one) one (item_at partition.buffers buffer) (λ found. (buffer_received time_out found).answer)
     (λ found is named. received_wakes Fact time_out (first_waiter found.discipline found.senders) found.messages
     (λ entry first. first_has (λ entry. Fact entry.who) found.discipline found.senders entry
-    (entries_found (λ entry. Fact entry.who) (λ (found : Buffer). found.senders) (item_at partition.buffers buffer) found is (all (set.BufferSenders buffer) (first_holds _ _ (is_itself buffer)))) first) one named) named
-answer_wakes Fact now who partition (request.Buffer (negsuc buffer) (BufferOperation.Receive time_out)) all suspended one named = nobody one [] refl named
-answer_wakes Fact now who partition (request.Blackboard (pos blackboard) (BlackboardOperation.Display length message)) all suspended one named =
+    (entries_found (λ entry. Fact entry.who) (λ (found : Buffer). found.senders) (item_at partition.buffers buffer) found is (all (set_at kind.Buffer buffer Senders) (is_itself buffer))) first) one named) named
+answer_wakes Fact now who partition (request.Object (negsuc buffer) (on.Buffer (BufferOperation.Receive time_out))) all suspended one named = nobody one [] refl named
+answer_wakes Fact now who partition (request.Object (pos blackboard) (on.Blackboard (BlackboardOperation.Display length message))) all suspended one named =
     by_object (Fact one) one (item_at partition.blackboards blackboard) (λ found. (displayed message found.readers).answer)
     (λ found is named. all_named Fact found.readers
-    (entries_found (λ entry. Fact entry.who) (λ (found : Blackboard). found.readers) (item_at partition.blackboards blackboard) found is (all (set.BlackboardReaders blackboard) (is_itself blackboard))) one named) named
-answer_wakes Fact now who partition (request.Blackboard (negsuc blackboard) (BlackboardOperation.Display length message)) all suspended one named = nobody one [] refl named
-answer_wakes Fact now who partition (request.Blackboard blackboard (BlackboardOperation.Read time_out)) all suspended one named =
+    (entries_found (λ entry. Fact entry.who) (λ (found : Blackboard). found.readers) (item_at partition.blackboards blackboard) found is (all (set_at kind.Blackboard blackboard Receivers) (is_itself blackboard))) one named) named
+answer_wakes Fact now who partition (request.Object (negsuc blackboard) (on.Blackboard (BlackboardOperation.Display length message))) all suspended one named = nobody one [] refl named
+answer_wakes Fact now who partition (request.Object blackboard (on.Blackboard (BlackboardOperation.Read time_out))) all suspended one named =
     by_object (Fact one) one (given_object partition.blackboards blackboard) (λ found. (board_read time_out found.message).answer)
     (λ found is named. nobody one (board_read time_out found.message).answer.woken (board_wakes time_out found.message) named) named
-answer_wakes Fact now who partition (request.Semaphore semaphore (SemaphoreOperation.Wait time_out)) all suspended one named =
+answer_wakes Fact now who partition (request.Object semaphore (on.Semaphore (SemaphoreOperation.Wait time_out))) all suspended one named =
     by_object (Fact one) one (given_object partition.semaphores semaphore) (λ found. (semaphore_waited time_out found.value).answer)
     (λ found is named. nobody one (semaphore_waited time_out found.value).answer.woken (wait_wakes time_out found.value) named) named
-answer_wakes Fact now who partition (request.Semaphore (pos semaphore) SemaphoreOperation.Signal) all suspended one named =
+answer_wakes Fact now who partition (request.Object (pos semaphore) (on.Semaphore SemaphoreOperation.Signal)) all suspended one named =
     by_object (Fact one) one (item_at partition.semaphores semaphore)
     (λ found. (signalled found.maximum (first_waiter found.discipline found.waiters) found.value).answer)
     (λ found is named. signal_wakes Fact found.maximum (first_waiter found.discipline found.waiters) found.value
     (λ entry first. first_has (λ entry. Fact entry.who) found.discipline found.waiters entry
-    (entries_found (λ entry. Fact entry.who) (λ (found : Semaphore). found.waiters) (item_at partition.semaphores semaphore) found is (all (set.SemaphoreWaiters semaphore) (is_itself semaphore))) first) one named) named
-answer_wakes Fact now who partition (request.Semaphore (negsuc semaphore) SemaphoreOperation.Signal) all suspended one named = nobody one [] refl named
-answer_wakes Fact now who partition (request.Event (pos event) EventOperation.Set) all suspended one named =
+    (entries_found (λ entry. Fact entry.who) (λ (found : Semaphore). found.waiters) (item_at partition.semaphores semaphore) found is (all (set_at kind.Semaphore semaphore Receivers) (is_itself semaphore))) first) one named) named
+answer_wakes Fact now who partition (request.Object (negsuc semaphore) (on.Semaphore SemaphoreOperation.Signal)) all suspended one named = nobody one [] refl named
+answer_wakes Fact now who partition (request.Object (pos event) (on.Event EventOperation.Set)) all suspended one named =
     by_object (Fact one) one (item_at partition.events event) (λ found. (event_set found.waiters).answer)
     (λ found is named. all_named Fact found.waiters
-    (entries_found (λ entry. Fact entry.who) (λ (found : Event). found.waiters) (item_at partition.events event) found is (all (set.EventWaiters event) (is_itself event))) one named) named
-answer_wakes Fact now who partition (request.Event (negsuc event) EventOperation.Set) all suspended one named = nobody one [] refl named
-answer_wakes Fact now who partition (request.Event event (EventOperation.Wait time_out)) all suspended one named =
+    (entries_found (λ entry. Fact entry.who) (λ (found : Event). found.waiters) (item_at partition.events event) found is (all (set_at kind.Event event Receivers) (is_itself event))) one named) named
+answer_wakes Fact now who partition (request.Object (negsuc event) (on.Event EventOperation.Set)) all suspended one named = nobody one [] refl named
+answer_wakes Fact now who partition (request.Object event (on.Event (EventOperation.Wait time_out))) all suspended one named =
     by_object (Fact one) one (given_object partition.events event) (λ found. (event_waited time_out found.up).answer)
     (λ found is named. nobody one (event_waited time_out found.up).answer.woken (event_wakes time_out found.up) named) named
-answer_wakes Fact now who partition (request.Mutex mutex (MutexOperation.Acquire time_out)) all suspended one named =
+answer_wakes Fact now who partition (request.Object mutex (on.Mutex (MutexOperation.Acquire time_out))) all suspended one named =
     by_object (Fact one) one (given_object partition.mutexes mutex) (λ found. (acquired who.proc time_out found).answer)
     (λ found is named. nobody one (acquired who.proc time_out found).answer.woken (acquire_wakes who.proc time_out found found.owner) named) named
-answer_wakes Fact now who partition (request.Mutex (pos mutex) MutexOperation.Release) all suspended one named =
+answer_wakes Fact now who partition (request.Object (pos mutex) (on.Mutex MutexOperation.Release)) all suspended one named =
     by_object (Fact one) one (item_at partition.mutexes mutex) (λ found. (mutex_released (first_waiter found.discipline found.waiters) found).answer)
     (λ found is named. release_wakes Fact (first_waiter found.discipline found.waiters) found
     (λ entry first. first_has (λ entry. Fact entry.who) found.discipline found.waiters entry
-    (entries_found (λ entry. Fact entry.who) (λ (found : Mutex). found.waiters) (item_at partition.mutexes mutex) found is (all (set.MutexWaiters mutex) (is_itself mutex))) first) one named) named
-answer_wakes Fact now who partition (request.Mutex (negsuc mutex) MutexOperation.Release) all suspended one named = nobody one [] refl named
+    (entries_found (λ entry. Fact entry.who) (λ (found : Mutex). found.waiters) (item_at partition.mutexes mutex) found is (all (set_at kind.Mutex mutex Receivers) (is_itself mutex))) first) one named) named
+answer_wakes Fact now who partition (request.Object (negsuc mutex) (on.Mutex MutexOperation.Release)) all suspended one named = nobody one [] refl named
 answer_wakes Fact now who partition (request.Process process ProcessOperation.Resume) all suspended one named =
     resume_wakes Fact (peer who process) (created partition.table process) (λ target found suspends. suspended process target found suspends) one named
 answer_wakes Fact now who partition (request.Caller (CallerOperation.SuspendSelf time_out)) all suspended one named = nobody one (cond (is_over time_out) done waiting).woken (done_or_waiting (is_over time_out)) named
 answer_wakes Fact now who partition (request.Caller (CallerOperation.TimedWait delay)) all suspended one named = nobody one (cond (is_over delay) done waiting).woken (done_or_waiting (is_over delay)) named
 answer_wakes Fact now who partition (request.Caller CallerOperation.PeriodicWait) all suspended one named =
     nobody one (cond (is_released now (item_at partition.table who.proc)) done waiting).woken (done_or_waiting (is_released now (item_at partition.table who.proc))) named
-answer_wakes Fact now who partition (request.Blackboard blackboard BlackboardOperation.Clear) all suspended one named =
+answer_wakes Fact now who partition (request.Object blackboard (on.Blackboard BlackboardOperation.Clear)) all suspended one named =
     by_object (Fact one) one (given_object partition.blackboards blackboard) (λ found. done) (λ found is named. nobody one [] refl named) named
-answer_wakes Fact now who partition (request.Event event EventOperation.Reset) all suspended one named =
+answer_wakes Fact now who partition (request.Object event (on.Event EventOperation.Reset)) all suspended one named =
     by_object (Fact one) one (given_object partition.events event) (λ found. done) (λ found is named. nobody one [] refl named) named
 answer_wakes Fact now who partition _ all suspended one named = nobody one [] refl named
 

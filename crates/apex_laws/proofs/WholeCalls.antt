@@ -10,7 +10,9 @@ use Rattle.apex_types.specs.declared.record.Out.TheVariants as out
 use Rattle.apex_types.specs.declared.record.Who.{Who}
 use Rattle.apex_types.specs.declared.operation.{BlackboardOperation.BlackboardOperation, BufferOperation.BufferOperation, CallerOperation.CallerOperation, EventOperation.EventOperation, MutexOperation.MutexOperation, ProcessOperation.ProcessOperation, QueuingOperation.QueuingOperation, SamplingOperation.SamplingOperation, SemaphoreOperation.SemaphoreOperation}
 use Rattle.apex_types.specs.declared.request.Request.{Request}
+use Rattle.apex_types.specs.declared.operation.ObjectOperation.TheVariants as on
 use Rattle.apex_types.specs.declared.request.Request.TheVariants as request
+use Rattle.apex_types.specs.declared.shape.End.TheVariants.{Senders, Receivers}
 use Rattle.apex_machine.specs.declared.condition.Condition.{Condition}
 use Rattle.apex_machine.specs.declared.state.CoreState.{CoreState}
 use Rattle.apex_machine.specs.declared.state.Entry.{Entry}
@@ -18,7 +20,6 @@ use Rattle.apex_machine.specs.declared.state.Process.{Process}
 use Rattle.apex_machine.specs.declared.state.Wait.{Wait}
 use Rattle.apex_machine.specs.declared.state.Wait.TheVariants as wait
 use Rattle.apex_machine.specs.declared.state.WaitingSet.{WaitingSet}
-use Rattle.apex_machine.specs.declared.state.WaitingSet.TheVariants as set
 use Rattle.apex_machine.specs.After.{adjusted, called, created_by, each_set, is_channel, is_done, numbered, objects_by, objects_called, own_partition, partition_called, woken_if_named}
 use Rattle.apex_machine.specs.Answer.{Answer, Effect, HasValues, NamesExactly, done, waking}
 use Rattle.apex_machine.specs.Arguments.{natural_of}
@@ -28,12 +29,12 @@ use Rattle.apex_machine.specs.Configuration.{Configuration, first_core, period_o
 use Rattle.apex_machine.specs.Demands.{CanHave}
 use Rattle.apex_machine.specs.Objects.{at_maximum, displayed, event_set, handed_on, mutex_released, raised, released_once, signalled}
 use Rattle.apex_machine.specs.Ports.{Use, channel_effect, channel_of, suits, suits_use, use_of, used}
-use Rattle.apex_machine.specs.Processes.{caller_after, message_handed_over, new_process, set_by, stopped, woken_by}
+use Rattle.apex_machine.specs.Processes.{caller_after, new_process, set_by, stopped, woken_by}
 use Rattle.apex_machine.specs.ServiceConditions.{conditions_of}
 use Rattle.apex_machine.specs.Services.{answer_by, answer_of, peer, resuming}
-use Rattle.apex_machine.specs.State.{Channel, Content, Mutex, Partition, State, Table, created, each_item, given_object, is_named, item_at, time_of}
+use Rattle.apex_machine.specs.State.{Channel, Content, Mutex, Partition, State, Table, created, each_item, given_object, is_named, item_at, time_of, channel_set, set_at}
 use Rattle.apex_machine.specs.Step.{HasCode, HasOutcome, IsLawfulCall, channel_answer}
-use Rattle.apex_machine.specs.Waiting.{first_waiter, is_in, is_waiting, restart_of, set_after, stops, waits_at}
+use Rattle.apex_machine.specs.Waiting.{first_waiter, is_in, is_waiting, restart_of, set_after, stops, waits_at, message_of}
 use Rattle.apex_laws.specs.Laws.{AllEntries, SetsAreInOrder, AreTied, IsTied, entries_at}
 use Rattle.apex_laws.specs.ProcessSentences.{IsBegun, WaitsForOther}
 use Rattle.apex_laws.specs.RecordLaws.{CallIsTheSentence}
@@ -103,36 +104,36 @@ own_begun configuration now who partition (request.Caller (CallerOperation.Timed
 own_begun configuration now who partition (request.Caller (CallerOperation.TimedWait (negsuc n))) process none waits = cc
 own_begun configuration now who partition (request.Caller CallerOperation.PeriodicWait) process none waits = IsBegun.release refl refl
 own_begun configuration now who partition (request.Caller (CallerOperation.SuspendSelf time_out)) process none waits = IsBegun.suspension time_out refl refl
-own_begun configuration now who partition (request.Buffer buffer (BufferOperation.Send length time_out message)) process none waits = IsBegun.object (set.BufferSenders (natural_of buffer)) refl refl
-own_begun configuration now who partition (request.Buffer buffer (BufferOperation.Receive time_out)) process none waits = IsBegun.object (set.BufferReceivers (natural_of buffer)) refl refl
-own_begun configuration now who partition (request.Blackboard blackboard (BlackboardOperation.Read time_out)) process none waits = IsBegun.object (set.BlackboardReaders (natural_of blackboard)) refl refl
-own_begun configuration now who partition (request.Semaphore semaphore (SemaphoreOperation.Wait time_out)) process none waits = IsBegun.object (set.SemaphoreWaiters (natural_of semaphore)) refl refl
-own_begun configuration now who partition (request.Event event (EventOperation.Wait time_out)) process none waits = IsBegun.object (set.EventWaiters (natural_of event)) refl refl
-own_begun configuration now who partition (request.Mutex mutex (MutexOperation.Acquire time_out)) process none waits = IsBegun.object (set.MutexWaiters (natural_of mutex)) refl refl
-own_begun configuration now who partition (request.Blackboard blackboard (BlackboardOperation.Display length message)) process none waits =
+own_begun configuration now who partition (request.Object buffer (on.Buffer (BufferOperation.Send length time_out message))) process none waits = IsBegun.object (set_at kind.Buffer (natural_of buffer) Senders) refl refl
+own_begun configuration now who partition (request.Object buffer (on.Buffer (BufferOperation.Receive time_out))) process none waits = IsBegun.object (set_at kind.Buffer (natural_of buffer) Receivers) refl refl
+own_begun configuration now who partition (request.Object blackboard (on.Blackboard (BlackboardOperation.Read time_out))) process none waits = IsBegun.object (set_at kind.Blackboard (natural_of blackboard) Receivers) refl refl
+own_begun configuration now who partition (request.Object semaphore (on.Semaphore (SemaphoreOperation.Wait time_out))) process none waits = IsBegun.object (set_at kind.Semaphore (natural_of semaphore) Receivers) refl refl
+own_begun configuration now who partition (request.Object event (on.Event (EventOperation.Wait time_out))) process none waits = IsBegun.object (set_at kind.Event (natural_of event) Receivers) refl refl
+own_begun configuration now who partition (request.Object mutex (on.Mutex (MutexOperation.Acquire time_out))) process none waits = IsBegun.object (set_at kind.Mutex (natural_of mutex) Receivers) refl refl
+own_begun configuration now who partition (request.Object blackboard (on.Blackboard (BlackboardOperation.Display length message))) process none waits =
     absurd (by_object_no_wait (given_object partition.blackboards blackboard) (λ found. (displayed message found.readers).answer) (λ found waits. let no : out.Answer code.NoError ≡ out.Waits = waits in cc) waits)
-own_begun configuration now who partition (request.Semaphore semaphore SemaphoreOperation.Signal) process none waits =
+own_begun configuration now who partition (request.Object semaphore (on.Semaphore SemaphoreOperation.Signal)) process none waits =
     absurd (by_object_no_wait (given_object partition.semaphores semaphore) (λ found. (signalled found.maximum (first_waiter found.discipline found.waiters) found.value).answer)
     (λ found waits. signal_no_wait found.maximum (first_waiter found.discipline found.waiters) found.value waits) waits)
-own_begun configuration now who partition (request.Event event EventOperation.Set) process none waits =
+own_begun configuration now who partition (request.Object event (on.Event EventOperation.Set)) process none waits =
     absurd (by_object_no_wait (given_object partition.events event) (λ found. (event_set found.waiters).answer) (λ found waits. let no : out.Answer code.NoError ≡ out.Waits = waits in cc) waits)
-own_begun configuration now who partition (request.Mutex mutex MutexOperation.Release) process none waits =
+own_begun configuration now who partition (request.Object mutex (on.Mutex MutexOperation.Release)) process none waits =
     absurd (by_object_no_wait (given_object partition.mutexes mutex) (λ found. (mutex_released (first_waiter found.discipline found.waiters) found).answer)
     (λ found waits. release_no_wait (first_waiter found.discipline found.waiters) found waits) waits)
 own_begun configuration now who partition (request.Process process_number ProcessOperation.Resume) process none waits = absurd (resume_no_wait (peer who process_number) (created partition.table process_number) waits)
 own_begun configuration now who partition (request.Caller CallerOperation.StopSelf) process none waits = let no : out.Never ≡ out.Waits = waits in cc
 own_begun configuration now who partition (request.SetPartitionMode mode) process none waits = let no : out.Never ≡ out.Waits = waits in cc
-own_begun configuration now who partition (request.Blackboard blackboard BlackboardOperation.Clear) process none waits =
+own_begun configuration now who partition (request.Object blackboard (on.Blackboard BlackboardOperation.Clear)) process none waits =
     absurd (by_object_no_wait (given_object partition.blackboards blackboard) (λ found. done) (λ found waits. let no : out.Answer code.NoError ≡ out.Waits = waits in cc) waits)
-own_begun configuration now who partition (request.Event event EventOperation.Reset) process none waits =
+own_begun configuration now who partition (request.Object event (on.Event EventOperation.Reset)) process none waits =
     absurd (by_object_no_wait (given_object partition.events event) (λ found. done) (λ found waits. let no : out.Answer code.NoError ≡ out.Waits = waits in cc) waits)
 own_begun configuration now who partition _ process none waits = let no : out.Answer code.NoError ≡ out.Waits = waits in cc
 
 -- a call through a channel that waits
 through_begun : (configuration : Configuration) (now channel partition : ℕ) (asked : Request) (process : Process) (held : Channel) → IsTrue (suits_use configuration channel partition (use_of asked) held)
     → CanHave asked out.Waits → IsBegun now asked (Some channel) process (wait_of asked (Some channel) now process)
-through_begun configuration now channel partition (request.QueuingPort port (QueuingOperation.Send length time_out message)) process held suited can = IsBegun.object (set.ChannelSenders channel) refl refl
-through_begun configuration now channel partition (request.QueuingPort port (QueuingOperation.Receive time_out)) process held suited can = IsBegun.object (set.ChannelReceivers channel) refl refl
+through_begun configuration now channel partition (request.QueuingPort port (QueuingOperation.Send length time_out message)) process held suited can = IsBegun.object (channel_set channel Senders) refl refl
+through_begun configuration now channel partition (request.QueuingPort port (QueuingOperation.Receive time_out)) process held suited can = IsBegun.object (channel_set channel Receivers) refl refl
 through_begun configuration now channel partition (request.SamplingPort port (SamplingOperation.Write length message)) process held suited can = absurd can
 through_begun configuration now channel partition (request.SamplingPort port SamplingOperation.Read) process held suited can = absurd can
 through_begun configuration now channel partition (request.GetStatus kind.QueuingPort port) process held suited can = absurd can
@@ -200,8 +201,8 @@ named_waits configuration state now who asked claim tied [] None has one named =
     one (sym (has.woken one) ∙ named)
 named_waits configuration state now who asked claim tied [] (Some channel) has one named =
     channel_wakes (OtherAwaited state.partitions) configuration now channel who.part (use_of asked) (state.channels channel)
-    (tied_waits (λ home. IsTrue (is_receiver configuration channel home)) (set.ChannelReceivers channel) state.partitions (state.channels channel).receivers (tied.receivers channel))
-    (tied_waits (λ home. IsTrue (is_sender configuration channel home)) (set.ChannelSenders channel) state.partitions (state.channels channel).senders (tied.senders channel))
+    (tied_waits (λ home. IsTrue (is_receiver configuration channel home)) (channel_set channel Receivers) state.partitions (state.channels channel).receivers (tied.receivers channel))
+    (tied_waits (λ home. IsTrue (is_sender configuration channel home)) (channel_set channel Senders) state.partitions (state.channels channel).senders (tied.senders channel))
     one (sym (has.woken one) ∙ named)
 
 -- processes after a call
@@ -390,9 +391,9 @@ call_is_the_sentence configuration state ordered call next above tied order step
       };
       woken = λ who old here differs at not_stopping named. record {
         old = old;
-        new = woken_by place (message_handed_over call.request) (sets who.proc old);
+        new = woken_by place (message_of call.request) (sets who.proc old);
         before = at;
-        after = new_at who (woken_by place (message_handed_over call.request) (sets who.proc old)) here (arrives who.proc old (old_at who old here at)
+        after = new_at who (woken_by place (message_of call.request) (sets who.proc old)) here (arrives who.proc old (old_at who old here at)
             ∙ (let other = apart who here differs in
             let stops_not : stops call (record { part = part; proc = who.proc }) ≡ false = subst (λ one. stops call one ≡ false) (peer_at who here) not_stopping in
             let named_here : is_named (record { part = part; proc = who.proc }) call.claim.woken ≡ true = subst (λ one. is_named one call.claim.woken ≡ true) (peer_at who here) named in
@@ -400,7 +401,7 @@ call_is_the_sentence configuration state ordered call next above tied order step
         change = record {
           set = sets who.proc old;
           first = set_first configuration state place call who.proc old (above part);
-          second = (waking_is_the_sentence place (message_handed_over call.request) (sets who.proc old) (woken_by place (message_handed_over call.request) (sets who.proc old))
+          second = (waking_is_the_sentence place (message_of call.request) (sets who.proc old) (woken_by place (message_of call.request) (sets who.proc old))
               (named_keeps configuration state place core call law who named who.proc old
               (named_waits configuration state now call.who call.request call.claim tied (conditions_of configuration call.who partition call.request) (channel_of partition call.request) law.outcome who named old at))).0 refl;
         };
@@ -421,13 +422,13 @@ call_is_the_sentence configuration state ordered call next above tied order step
           let wake_named : ℕ → Process → Process = λ number process. woken_if_named place call (record { part = who.part; proc = number }) process in
           record {
             old = old;
-            new = woken_by place (message_handed_over call.request) old;
+            new = woken_by place (message_of call.request) old;
             before = at;
             after = ap (λ (one : Partition). item_at one.table who.proc) (partitions who.part)
                 ∙ ap (λ test. item_at (cond test (own_partition (restart_of call) configuration state.cores place core call (state.partitions who.part)) (record (state.partitions who.part) { table = woken_if_named_table place call who.part (state.partitions who.part).table })).table who.proc) foreign
                 ∙ turns_each wake_named (state.partitions who.part).table who.proc old at
-                ∙ ap (λ test. Some (cond test (woken_by place (message_handed_over call.request) old) old)) named;
-            change = (waking_is_the_sentence place (message_handed_over call.request) old (woken_by place (message_handed_over call.request) old)
+                ∙ ap (λ test. Some (cond test (woken_by place (message_of call.request) old) old)) named;
+            change = (waking_is_the_sentence place (message_of call.request) old (woken_by place (message_of call.request) old)
                 (named_waits configuration state now call.who call.request call.claim tied (conditions_of configuration call.who partition call.request) (channel_of partition call.request) law.outcome who named old at)).0 refl;
           };
       added = λ number none.
@@ -439,7 +440,7 @@ call_is_the_sentence configuration state ordered call next above tied order step
           ap (λ (one : Partition). item_at one.table who.proc) (partitions who.part)
           ∙ ap (λ test. item_at (cond test (own_partition (restart_of call) configuration state.cores place core call (state.partitions who.part)) (record (state.partitions who.part) { table = woken_if_named_table place call who.part (state.partitions who.part).table })).table who.proc) foreign
           ∙ stays_each (λ number process. woken_if_named place call (record { part = who.part; proc = number }) process) (state.partitions who.part).table who.proc
-          (λ one at. ap (λ test. cond test (woken_by place (message_handed_over call.request) one) one) not_named);
+          (λ one at. ap (λ test. cond test (woken_by place (message_of call.request) one) one) not_named);
       mode = ap (λ (one : Partition). one.mode) own;
       objects = (
         λ done. subst (λ one. ObjectsAre one (objects_by configuration call.who call.claim.val call.request partition)) (sym own)
@@ -448,8 +449,8 @@ call_is_the_sentence configuration state ordered call next above tied order step
       );
       other_partitions = λ number there. foreign_rest configuration place core call state next number (partitions number)
           (cannot_hold (nat_eq part number) (λ same. there (sym (eqb-true part number same))));
-      senders = λ number. set_says place call (set.ChannelSenders number) (state.channels number).senders (next.channels number).senders (ap (λ one. one.senders) (channels number));
-      receivers = λ number. set_says place call (set.ChannelReceivers number) (state.channels number).receivers (next.channels number).receivers (ap (λ one. one.receivers) (channels number));
+      senders = λ number. set_says place call (channel_set number Senders) (state.channels number).senders (next.channels number).senders (ap (λ one. one.senders) (channels number));
+      receivers = λ number. set_says place call (channel_set number Receivers) (state.channels number).receivers (next.channels number).receivers (ap (λ one. one.receivers) (channels number));
       through = λ number goes. goes_through configuration state now call (answer_of now call.who partition call.request) (conditions_of configuration call.who partition call.request)
           (channel_of partition call.request) number (next.channels number) order law.outcome goes
           (ap (λ one. one.content) (channels number)

@@ -5,20 +5,20 @@ use Rattle.std.proofs.lemmas.Bool.{and_parts}
 use Rattle.apex_types.specs.declared.record.Claim.{Claim}
 use Rattle.apex_types.specs.declared.record.Who.{Who}
 use Rattle.apex_types.specs.declared.request.Request.{Request}
+use Rattle.apex_types.specs.declared.shape.End.TheVariants.{Senders, Receivers}
 use Rattle.apex_machine.specs.declared.condition.Condition.{Condition}
 use Rattle.apex_machine.specs.declared.state.Entry.{Entry}
 use Rattle.apex_machine.specs.declared.state.Process.{Process}
 use Rattle.apex_machine.specs.declared.state.Wait.{Wait}
 use Rattle.apex_machine.specs.declared.state.Wait.TheVariants as wait
 use Rattle.apex_machine.specs.declared.state.WaitingSet.{WaitingSet}
-use Rattle.apex_machine.specs.declared.state.WaitingSet.TheVariants as set
 use Rattle.apex_machine.specs.Channels.{is_receiver, is_sender}
 use Rattle.apex_machine.specs.DueTimes.{is_suspension}
 use Rattle.apex_machine.specs.Arguments.{natural_of}
 use Rattle.apex_machine.specs.Configuration.{Configuration}
 use Rattle.apex_machine.specs.Ports.{suits_use, use_of}
 use Rattle.apex_machine.specs.Services.{answer_of, peer}
-use Rattle.apex_machine.specs.State.{Partition, State, Table, created, is_named, item_at}
+use Rattle.apex_machine.specs.State.{Partition, State, Table, created, is_named, item_at, channel_set}
 use Rattle.apex_machine.specs.Step.{HasOutcome, channel_answer}
 use Rattle.apex_machine.specs.Waiting.{is_in, waits_at}
 use Rattle.apex_laws.specs.Laws.{AllEntries, AreTied, IsTied, entries_at}
@@ -34,8 +34,8 @@ found partitions who = item_at (partitions who.part).table who.proc
 -- a channel's waiting set isn't one of this partition, and who waits there is woken through that channel alone
 pub record IsWokenBy (partitions : ℕ → Partition) (number : ℕ) (chan : Option ℕ) (who : Who) : Type 0 where
   pub own : chan ≡ None → who.part ≡ number
-  pub sending : (channel : ℕ) → waits_at (set.ChannelSenders channel) (found partitions who) ≡ true → chan ≡ Some channel
-  pub receiving : (channel : ℕ) → waits_at (set.ChannelReceivers channel) (found partitions who) ≡ true → chan ≡ Some channel
+  pub sending : (channel : ℕ) → waits_at (channel_set channel Senders) (found partitions who) ≡ true → chan ≡ Some channel
+  pub receiving : (channel : ℕ) → waits_at (channel_set channel Receivers) (found partitions who) ≡ true → chan ≡ Some channel
 
 -- a process in a waiting set of a partition waits at no channel
 own_waiter : (partitions : ℕ → Partition) (number : ℕ) (wanted : WaitingSet) (chan : Option ℕ) → AllEntries (IsTied (λ home. home ≡ number) wanted partitions) (entries_at (partitions number) wanted)
@@ -43,8 +43,8 @@ own_waiter : (partitions : ℕ → Partition) (number : ℕ) (wanted : WaitingSe
 own_waiter partitions number wanted chan all =
     of_objects (λ entry. IsWokenBy partitions number chan entry.who) (partitions number) wanted (λ off. all_weaker (IsTied (λ home. home ≡ number) wanted partitions) _ (λ entry tied. record {
       own = λ none. tied.0;
-      sending = λ channel also. absurd (true≢false (off_channel wanted (set.ChannelSenders channel) (found partitions entry.who) off tied.1 also));
-      receiving = λ channel also. absurd (true≢false (off_channel wanted (set.ChannelReceivers channel) (found partitions entry.who) off tied.1 also));
+      sending = λ channel also. absurd (true≢false (off_channel wanted (channel_set channel Senders) (found partitions entry.who) off tied.1 also));
+      receiving = λ channel also. absurd (true≢false (off_channel wanted (channel_set channel Receivers) (found partitions entry.who) off tied.1 also));
     }) (entries_at (partitions number) wanted) all)
 
 -- a created process is found under its number
@@ -73,19 +73,19 @@ suspended_peer : (partitions : ℕ → Partition) (who : Who) (chan : Option ℕ
 suspended_peer partitions who chan process target is suspends =
     record {
       own = λ none. refl;
-      sending = λ channel waits. absurd (suspended_elsewhere (partitions who.part) process target (set.ChannelSenders channel) is suspends waits);
-      receiving = λ channel waits. absurd (suspended_elsewhere (partitions who.part) process target (set.ChannelReceivers channel) is suspends waits);
+      sending = λ channel waits. absurd (suspended_elsewhere (partitions who.part) process target (channel_set channel Senders) is suspends waits);
+      receiving = λ channel waits. absurd (suspended_elsewhere (partitions who.part) process target (channel_set channel Receivers) is suspends waits);
     }
 
 -- a process in a waiting set of a channel is woken through that channel
 channel_waiter : (partitions : ℕ → Partition) (Home : ℕ → Type 0) (wanted : WaitingSet) (number channel : ℕ) (chan : Option ℕ) → chan ≡ Some channel
-    → ((other : ℕ) → wanted ≡ set.ChannelSenders other → other ≡ channel) → ((other : ℕ) → wanted ≡ set.ChannelReceivers other → other ≡ channel)
+    → ((other : ℕ) → wanted ≡ channel_set other Senders → other ≡ channel) → ((other : ℕ) → wanted ≡ channel_set other Receivers → other ≡ channel)
     → (entries : List Entry) → AllEntries (IsTied Home wanted partitions) entries → AllEntries (λ entry. IsWokenBy partitions number chan entry.who) entries
 channel_waiter partitions Home wanted number channel chan is sending receiving entries all =
     all_weaker (IsTied Home wanted partitions) (λ entry. IsWokenBy partitions number chan entry.who) (λ entry tied. record {
       own = λ none. (let some : ◌≡◌ {A = Option ℕ} (Some channel) None = sym is ∙ none in cc);
-      sending = λ other also. is ∙ ap Some (sym (sending other (one_set wanted (set.ChannelSenders other) (found partitions entry.who) tied.1 also)));
-      receiving = λ other also. is ∙ ap Some (sym (receiving other (one_set wanted (set.ChannelReceivers other) (found partitions entry.who) tied.1 also)));
+      sending = λ other also. is ∙ ap Some (sym (sending other (one_set wanted (channel_set other Senders) (found partitions entry.who) tied.1 also)));
+      receiving = λ other also. is ∙ ap Some (sym (receiving other (one_set wanted (channel_set other Receivers) (found partitions entry.who) tied.1 also)));
     }) entries all
 
 -- the processes that a call with a lawful outcome names
@@ -102,8 +102,8 @@ woken configuration state now who asked claim tied [] None has one named =
     one (sym (has.woken one) ∙ named)
 woken configuration state now who asked claim tied [] (Some channel) has one named =
     channel_wakes (IsWokenBy state.partitions who.part claim.chan) configuration now channel who.part (use_of asked) (state.channels channel)
-    (channel_waiter state.partitions (λ home. IsTrue (is_receiver configuration channel home)) (set.ChannelReceivers channel) who.part channel claim.chan has.chan
-    (λ other e. cc) (λ other e. cc) (state.channels channel).receivers (tied.receivers channel))
-    (channel_waiter state.partitions (λ home. IsTrue (is_sender configuration channel home)) (set.ChannelSenders channel) who.part channel claim.chan has.chan
-    (λ other e. cc) (λ other e. cc) (state.channels channel).senders (tied.senders channel))
+    (channel_waiter state.partitions (λ home. IsTrue (is_receiver configuration channel home)) (channel_set channel Receivers) who.part channel claim.chan has.chan
+    (λ other same. ap (λ one. one.number) (sym same)) (λ other same. ap (λ one. one.number) (sym same)) (state.channels channel).receivers (tied.receivers channel))
+    (channel_waiter state.partitions (λ home. IsTrue (is_sender configuration channel home)) (channel_set channel Senders) who.part channel claim.chan has.chan
+    (λ other same. ap (λ one. one.number) (sym same)) (λ other same. ap (λ one. one.number) (sym same)) (state.channels channel).senders (tied.senders channel))
     one (sym (has.woken one) ∙ named)

@@ -4,6 +4,7 @@ use Rattle.std.specs.Prelude.{◌≡◌, ℕ, ℤ, pos, List, [], Option, Some, 
 use Rattle.apex_types.specs.declared.record.Who.{Who}
 use Rattle.apex_types.specs.declared.operation.{BlackboardOperation.BlackboardOperation, BufferOperation.BufferOperation, EventOperation.EventOperation, MutexOperation.MutexOperation, NewObject.NewObject, SamplingOperation.SamplingOperation, SemaphoreOperation.SemaphoreOperation}
 use Rattle.apex_types.specs.declared.request.Request.{Request}
+use Rattle.apex_types.specs.declared.operation.ObjectOperation.TheVariants as on
 use Rattle.apex_types.specs.declared.request.Request.TheVariants as request
 use Rattle.apex_machine.specs.After.{is_valid}
 use Rattle.apex_machine.specs.Answer.{Answer, Effect, NewNumber, done_with}
@@ -38,40 +39,40 @@ pub record Creates {Object : Type 0} (before after : List (ℕ × Object)) (clai
 abbrev pub IsObjectCall : Configuration → Who → Option ℤ → Request → Partition → Answer → Partition → Type 0
 IsObjectCall configuration who claimed (request.Create name (NewObject.Buffer size capacity discipline)) partition answer next =
     (next ≡ record partition { buffers = next.buffers }) × Creates partition.buffers next.buffers claimed (record { name = name; size = natural_of size; capacity = natural_of capacity; discipline = discipline_given discipline; messages = []; senders = []; receivers = [] }) answer
-IsObjectCall configuration who claimed (request.Buffer buffer (BufferOperation.Send length time_out message)) partition answer next =
+IsObjectCall configuration who claimed (request.Object buffer (on.Buffer (BufferOperation.Send length time_out message))) partition answer next =
     (next ≡ record partition { buffers = next.buffers }) × Operates partition.buffers next.buffers buffer (λ found. IsSending found.capacity message time_out found.discipline found.receivers found.messages)
     (λ found messages. record found { messages = messages }) answer
-IsObjectCall configuration who claimed (request.Buffer buffer (BufferOperation.Receive time_out)) partition answer next =
+IsObjectCall configuration who claimed (request.Object buffer (on.Buffer (BufferOperation.Receive time_out))) partition answer next =
     (next ≡ record partition { buffers = next.buffers }) × Operates partition.buffers next.buffers buffer (λ found. IsReceiving time_out found.discipline found.senders found.messages)
     (λ found messages. record found { messages = messages }) answer
 IsObjectCall configuration who claimed (request.Create name (NewObject.Blackboard size)) partition answer next =
     (next ≡ record partition { blackboards = next.blackboards }) × Creates partition.blackboards next.blackboards claimed (record { name = name; size = natural_of size; message = None; readers = [] }) answer
-IsObjectCall configuration who claimed (request.Blackboard blackboard (BlackboardOperation.Display length message)) partition answer next =
+IsObjectCall configuration who claimed (request.Object blackboard (on.Blackboard (BlackboardOperation.Display length message))) partition answer next =
     (next ≡ record partition { blackboards = next.blackboards }) × Operates partition.blackboards next.blackboards blackboard (λ found. IsDisplay message found.readers) (λ found message. record found { message = message }) answer
-IsObjectCall configuration who claimed (request.Blackboard blackboard (BlackboardOperation.Read time_out)) partition answer next =
+IsObjectCall configuration who claimed (request.Object blackboard (on.Blackboard (BlackboardOperation.Read time_out))) partition answer next =
     (next ≡ record partition { blackboards = next.blackboards }) × Operates partition.blackboards next.blackboards blackboard (λ found. IsReading time_out found.message) (λ found message. record found { message = message }) answer
-IsObjectCall configuration who claimed (request.Blackboard blackboard BlackboardOperation.Clear) partition answer next =
+IsObjectCall configuration who claimed (request.Object blackboard (on.Blackboard BlackboardOperation.Clear)) partition answer next =
     (next ≡ record partition { blackboards = next.blackboards }) × Operates partition.blackboards next.blackboards blackboard (λ found effect. IsClearing effect) (λ found message. record found { message = message }) answer
 IsObjectCall configuration who claimed (request.Create name (NewObject.Semaphore value maximum discipline)) partition answer next =
     (next ≡ record partition { semaphores = next.semaphores }) × Creates partition.semaphores next.semaphores claimed (record { name = name; maximum = natural_of maximum; discipline = discipline_given discipline; value = natural_of value; waiters = [] }) answer
-IsObjectCall configuration who claimed (request.Semaphore semaphore (SemaphoreOperation.Wait time_out)) partition answer next =
+IsObjectCall configuration who claimed (request.Object semaphore (on.Semaphore (SemaphoreOperation.Wait time_out))) partition answer next =
     (next ≡ record partition { semaphores = next.semaphores }) × Operates partition.semaphores next.semaphores semaphore (λ found. IsSemaphoreWait time_out found.value) (λ found value. record found { value = value }) answer
-IsObjectCall configuration who claimed (request.Semaphore semaphore SemaphoreOperation.Signal) partition answer next =
+IsObjectCall configuration who claimed (request.Object semaphore (on.Semaphore SemaphoreOperation.Signal)) partition answer next =
     (next ≡ record partition { semaphores = next.semaphores }) × Operates partition.semaphores next.semaphores semaphore (λ found. IsSignal found.maximum found.discipline found.waiters found.value)
     (λ found value. record found { value = value }) answer
 IsObjectCall configuration who claimed (request.Create name NewObject.Event) partition answer next =
     (next ≡ record partition { events = next.events }) × Creates partition.events next.events claimed (record { name = name; up = false; waiters = [] }) answer
-IsObjectCall configuration who claimed (request.Event event EventOperation.Set) partition answer next =
+IsObjectCall configuration who claimed (request.Object event (on.Event EventOperation.Set)) partition answer next =
     (next ≡ record partition { events = next.events }) × Operates partition.events next.events event (λ found. IsSetting found.waiters) (λ found up. record found { up = up }) answer
-IsObjectCall configuration who claimed (request.Event event EventOperation.Reset) partition answer next =
+IsObjectCall configuration who claimed (request.Object event (on.Event EventOperation.Reset)) partition answer next =
     (next ≡ record partition { events = next.events }) × Operates partition.events next.events event (λ found effect. IsResetting effect) (λ found up. record found { up = up }) answer
-IsObjectCall configuration who claimed (request.Event event (EventOperation.Wait time_out)) partition answer next =
+IsObjectCall configuration who claimed (request.Object event (on.Event (EventOperation.Wait time_out))) partition answer next =
     (next ≡ record partition { events = next.events }) × Operates partition.events next.events event (λ found. IsEventWait time_out found.up) (λ found up. record found { up = up }) answer
 IsObjectCall configuration who claimed (request.Create name (NewObject.Mutex priority discipline)) partition answer next =
     (next ≡ record partition { mutexes = next.mutexes }) × Creates partition.mutexes next.mutexes claimed (record { name = name; priority = natural_of priority; discipline = discipline_given discipline; owner = None; count = 0; waiters = [] }) answer
-IsObjectCall configuration who claimed (request.Mutex mutex (MutexOperation.Acquire time_out)) partition answer next =
+IsObjectCall configuration who claimed (request.Object mutex (on.Mutex (MutexOperation.Acquire time_out))) partition answer next =
     (next ≡ record partition { mutexes = next.mutexes }) × Operates partition.mutexes next.mutexes mutex (λ found. IsAcquiring who.proc time_out found) (λ found changed. changed) answer
-IsObjectCall configuration who claimed (request.Mutex mutex MutexOperation.Release) partition answer next =
+IsObjectCall configuration who claimed (request.Object mutex (on.Mutex MutexOperation.Release)) partition answer next =
     (next ≡ record partition { mutexes = next.mutexes }) × Operates partition.mutexes next.mutexes mutex (λ found effect. IsReleasing found effect) (λ found changed. changed) answer
 -- a created port is as it is configured
 IsObjectCall configuration who claimed (request.Create name (NewObject.SamplingPort size direction refresh)) partition answer next =

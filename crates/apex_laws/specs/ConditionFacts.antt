@@ -4,6 +4,7 @@ use Rattle.apex_types.specs.declared.discipline.Discipline.TheVariants as discip
 use Rattle.apex_types.specs.declared.record.Who.{Who}
 use Rattle.apex_types.specs.declared.operation.{BlackboardOperation.BlackboardOperation, BufferOperation.BufferOperation, CallerOperation.CallerOperation, EventOperation.EventOperation, MutexOperation.MutexOperation, NewObject.NewObject, ProcessOperation.ProcessOperation, QueuingOperation.QueuingOperation, SamplingOperation.SamplingOperation, SemaphoreOperation.SemaphoreOperation}
 use Rattle.apex_types.specs.declared.request.Request.{Request}
+use Rattle.apex_types.specs.declared.operation.ObjectOperation.TheVariants as on
 use Rattle.apex_types.specs.declared.request.Request.TheVariants as request
 use Rattle.apex_machine.specs.declared.condition.Condition.{Condition}
 use Rattle.apex_machine.specs.declared.condition.Condition.TheVariants as condition
@@ -37,7 +38,7 @@ at_work = play one_partition furnished (start 0 (pos 1) ∷ start 0 (pos 2) ∷ 
 
 -- process 1 owns the mutex
 abbrev pub owning : State
-owning = play one_partition at_work (does one (request.Mutex (pos 1) (MutexOperation.Acquire (pos 0))) ∷ [])
+owning = play one_partition at_work (does one (request.Object (pos 1) (on.Mutex (MutexOperation.Acquire (pos 0)))) ∷ [])
 
 -- process 1 suspended itself
 abbrev pub asleep : State
@@ -45,7 +46,7 @@ asleep = play one_partition at_work (waits one 10 (request.Caller (CallerOperati
 
 -- process 1 owns the mutex, and process 2 waits for it
 abbrev pub wanting : State
-wanting = play one_partition owning (waits two 20 (request.Mutex (pos 1) (MutexOperation.Acquire (negsuc 0))) ∷ [])
+wanting = play one_partition owning (waits two 20 (request.Object (pos 1) (on.Mutex (MutexOperation.Acquire (negsuc 0)))) ∷ [])
 
 -- the error conditions that hold for a call in this partition
 abbrev pub conditions_told : State → Who → Request → List Condition
@@ -65,7 +66,7 @@ by_ends = record two_partitions { queuing = queuing_by discipline.Priority ∷ [
 
 -- process 1 waits from time 2 on, with a time-out of 3
 abbrev pub waits_later : State
-waits_later = play one_partition (three_processes (semaphore (pos 0) (pos 1) (pos 0))) (ticks 0 [] ∷ ticks 0 [] ∷ waits one 10 (request.Semaphore (pos 1) (SemaphoreOperation.Wait (pos 3))) ∷ [])
+waits_later = play one_partition (three_processes (semaphore (pos 0) (pos 1) (pos 0))) (ticks 0 [] ∷ ticks 0 [] ∷ waits one 10 (request.Object (pos 1) (on.Semaphore (SemaphoreOperation.Wait (pos 3)))) ∷ [])
 
 -- each of them is computed
 pub record ConditionFacts : Type 0 where
@@ -125,27 +126,27 @@ pub record ConditionFacts : Type 0 where
   pub may_create_buffer : conditions_told furnished initialiser (request.Create (codes "R") (NewObject.Buffer (pos 4) (pos 1) (pos 1))) ≡ []
   pub buffer_of_nothing : conditions_told furnished initialiser (request.Create (codes "R") (NewObject.Buffer (pos 0) (pos 1) (pos 0))) ≡ condition.SizeOutOfRange ∷ []
   pub no_discipline : conditions_told furnished initialiser (request.Create (codes "R") (NewObject.Buffer (pos 4) (pos 1) (pos 2))) ≡ condition.DisciplineOutOfRange ∷ []
-  pub may_send : conditions_told at_work one (request.Buffer (pos 1) (BufferOperation.Send (pos 4) (negsuc 0) (1 ∷ 2 ∷ 3 ∷ 4 ∷ []))) ≡ []
-  pub too_long : conditions_told at_work one (request.Buffer (pos 1) (BufferOperation.Send (pos 5) (negsuc 0) (1 ∷ 2 ∷ 3 ∷ 4 ∷ 5 ∷ []))) ≡ condition.LongerThanObject ∷ []
-  pub no_buffer : conditions_told at_work one (request.Buffer (pos 2) (BufferOperation.Receive (pos 0))) ≡ condition.NotCreated ∷ []
-  pub owner_may_not_wait : conditions_told owning one (request.Buffer (pos 1) (BufferOperation.Receive (pos 5))) ≡ condition.MayNotWait ∷ []
-  pub owner_may_look : conditions_told owning one (request.Buffer (pos 1) (BufferOperation.Receive (pos 0))) ≡ []
+  pub may_send : conditions_told at_work one (request.Object (pos 1) (on.Buffer (BufferOperation.Send (pos 4) (negsuc 0) (1 ∷ 2 ∷ 3 ∷ 4 ∷ [])))) ≡ []
+  pub too_long : conditions_told at_work one (request.Object (pos 1) (on.Buffer (BufferOperation.Send (pos 5) (negsuc 0) (1 ∷ 2 ∷ 3 ∷ 4 ∷ 5 ∷ [])))) ≡ condition.LongerThanObject ∷ []
+  pub no_buffer : conditions_told at_work one (request.Object (pos 2) (on.Buffer (BufferOperation.Receive (pos 0)))) ≡ condition.NotCreated ∷ []
+  pub owner_may_not_wait : conditions_told owning one (request.Object (pos 1) (on.Buffer (BufferOperation.Receive (pos 5)))) ≡ condition.MayNotWait ∷ []
+  pub owner_may_look : conditions_told owning one (request.Object (pos 1) (on.Buffer (BufferOperation.Receive (pos 0)))) ≡ []
   pub no_more_blackboards : conditions_told furnished initialiser (request.Create (codes "O") (NewObject.Blackboard (pos 4))) ≡ condition.AllCreated ∷ []
-  pub too_long_to_display : conditions_told at_work one (request.Blackboard (pos 1) (BlackboardOperation.Display (pos 5) (1 ∷ 2 ∷ 3 ∷ 4 ∷ 5 ∷ []))) ≡ condition.LongerThanObject ∷ []
-  pub initialiser_may_not_read : conditions_told furnished initialiser (request.Blackboard (pos 1) (BlackboardOperation.Read (negsuc 0))) ≡ condition.MayNotWait ∷ []
+  pub too_long_to_display : conditions_told at_work one (request.Object (pos 1) (on.Blackboard (BlackboardOperation.Display (pos 5) (1 ∷ 2 ∷ 3 ∷ 4 ∷ 5 ∷ [])))) ≡ condition.LongerThanObject ∷ []
+  pub initialiser_may_not_read : conditions_told furnished initialiser (request.Object (pos 1) (on.Blackboard (BlackboardOperation.Read (negsuc 0)))) ≡ condition.MayNotWait ∷ []
   -- semaphores, events
   pub above_maximum : conditions_told (cold_state one_partition) initialiser (request.Create (codes "S") (NewObject.Semaphore (pos 2) (pos 1) (pos 0))) ≡ condition.ValueOutOfRange ∷ []
-  pub waits_wrongly : conditions_told at_work one (request.Semaphore (pos 1) (SemaphoreOperation.Wait (negsuc 1))) ≡ condition.TimeOutOutOfRange ∷ []
-  pub no_semaphore : conditions_told at_work one (request.Semaphore (pos 2) SemaphoreOperation.Signal) ≡ condition.NotCreated ∷ []
-  pub no_event : conditions_told at_work one (request.Event (negsuc 0) EventOperation.Set) ≡ condition.NotCreated ∷ []
-  pub owner_awaits_no_event : conditions_told owning one (request.Event (pos 1) (EventOperation.Wait (negsuc 0))) ≡ condition.MayNotWait ∷ []
+  pub waits_wrongly : conditions_told at_work one (request.Object (pos 1) (on.Semaphore (SemaphoreOperation.Wait (negsuc 1)))) ≡ condition.TimeOutOutOfRange ∷ []
+  pub no_semaphore : conditions_told at_work one (request.Object (pos 2) (on.Semaphore SemaphoreOperation.Signal)) ≡ condition.NotCreated ∷ []
+  pub no_event : conditions_told at_work one (request.Object (negsuc 0) (on.Event EventOperation.Set)) ≡ condition.NotCreated ∷ []
+  pub owner_awaits_no_event : conditions_told owning one (request.Object (pos 1) (on.Event (EventOperation.Wait (negsuc 0)))) ≡ condition.MayNotWait ∷ []
   -- mutexes
-  pub may_acquire : conditions_told at_work one (request.Mutex (pos 1) (MutexOperation.Acquire (negsuc 0))) ≡ []
-  pub may_acquire_again : conditions_told owning one (request.Mutex (pos 1) (MutexOperation.Acquire (negsuc 0))) ≡ []
-  pub too_high : conditions_told (play one_partition at_work (does one (request.Process (pos 2) (ProcessOperation.SetPriority (pos 60))) ∷ [])) two (request.Mutex (pos 1) (MutexOperation.Acquire (pos 0))) ≡ condition.AboveCeiling ∷ []
-  pub initialiser_owns_none : conditions_told furnished initialiser (request.Mutex (pos 1) (MutexOperation.Acquire (pos 0))) ≡ condition.InitialisingCaller ∷ []
-  pub may_release : conditions_told owning one (request.Mutex (pos 1) MutexOperation.Release) ≡ []
-  pub not_the_owner : conditions_told owning two (request.Mutex (pos 1) MutexOperation.Release) ≡ condition.NotOwner ∷ []
+  pub may_acquire : conditions_told at_work one (request.Object (pos 1) (on.Mutex (MutexOperation.Acquire (negsuc 0)))) ≡ []
+  pub may_acquire_again : conditions_told owning one (request.Object (pos 1) (on.Mutex (MutexOperation.Acquire (negsuc 0)))) ≡ []
+  pub too_high : conditions_told (play one_partition at_work (does one (request.Process (pos 2) (ProcessOperation.SetPriority (pos 60))) ∷ [])) two (request.Object (pos 1) (on.Mutex (MutexOperation.Acquire (pos 0)))) ≡ condition.AboveCeiling ∷ []
+  pub initialiser_owns_none : conditions_told furnished initialiser (request.Object (pos 1) (on.Mutex (MutexOperation.Acquire (pos 0)))) ≡ condition.InitialisingCaller ∷ []
+  pub may_release : conditions_told owning one (request.Object (pos 1) (on.Mutex MutexOperation.Release)) ≡ []
+  pub not_the_owner : conditions_told owning two (request.Object (pos 1) (on.Mutex MutexOperation.Release)) ≡ condition.NotOwner ∷ []
   -- ports
   pub sampling_as_configured : conditions_at_first 1 (request.Create (codes "S") (NewObject.SamplingPort (pos 4) (pos 1) (pos 5))) ≡ []
   pub other_refresh : conditions_at_first 1 (request.Create (codes "S") (NewObject.SamplingPort (pos 4) (pos 1) (pos 6))) ≡ condition.NotAsConfigured ∷ []

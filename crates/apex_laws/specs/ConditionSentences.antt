@@ -9,6 +9,7 @@ use Rattle.apex_types.specs.declared.object_kind.ObjectKind.TheVariants as kind
 use Rattle.apex_types.specs.declared.record.Who.{Who}
 use Rattle.apex_types.specs.declared.operation.{BlackboardOperation.BlackboardOperation, BufferOperation.BufferOperation, CallerOperation.CallerOperation, EventOperation.EventOperation, MutexOperation.MutexOperation, NewObject.NewObject, ProcessOperation.ProcessOperation, QueuingOperation.QueuingOperation, SamplingOperation.SamplingOperation, SemaphoreOperation.SemaphoreOperation}
 use Rattle.apex_types.specs.declared.request.Request.{Request}
+use Rattle.apex_types.specs.declared.operation.ObjectOperation.TheVariants as on
 use Rattle.apex_types.specs.declared.request.Request.TheVariants as request
 use Rattle.apex_types.specs.Requested.{kind_of}
 use Rattle.apex_machine.specs.declared.condition.Condition.{Condition}
@@ -144,11 +145,11 @@ pub record IsQueuingPort (configuration : Configuration) (partition : ℕ) (name
 -- the process or the object that a service names is not created
 abbrev pub NamesNothing : Partition → Request → Type 0
 NamesNothing partition (request.Process process operation) = NamesNoProcess partition process
-NamesNothing partition (request.Buffer buffer operation) = NamesNone partition.buffers buffer
-NamesNothing partition (request.Blackboard blackboard operation) = NamesNone partition.blackboards blackboard
-NamesNothing partition (request.Semaphore semaphore operation) = NamesNone partition.semaphores semaphore
-NamesNothing partition (request.Event event operation) = NamesNone partition.events event
-NamesNothing partition (request.Mutex mutex operation) = NamesNone partition.mutexes mutex
+NamesNothing partition (request.Object buffer (on.Buffer operation)) = NamesNone partition.buffers buffer
+NamesNothing partition (request.Object blackboard (on.Blackboard operation)) = NamesNone partition.blackboards blackboard
+NamesNothing partition (request.Object semaphore (on.Semaphore operation)) = NamesNone partition.semaphores semaphore
+NamesNothing partition (request.Object event (on.Event operation)) = NamesNone partition.events event
+NamesNothing partition (request.Object mutex (on.Mutex operation)) = NamesNone partition.mutexes mutex
 NamesNothing partition (request.SamplingPort port operation) = NamesNone partition.sampling_ports port
 NamesNothing partition (request.QueuingPort port operation) = NamesNone partition.queuing_ports port
 NamesNothing partition (request.GetStatus kind object) = NamesNone (objects_of partition kind) object
@@ -156,11 +157,11 @@ NamesNothing partition _ = ⊥
 
 -- a service that may wait at an object or a port, with this time-out
 abbrev pub WaitsFor : Request → ℤ → Type 0
-WaitsFor (request.Buffer buffer (BufferOperation.Send length given message)) time_out = time_out ≡ given
-WaitsFor (request.Buffer buffer (BufferOperation.Receive given)) time_out = time_out ≡ given
-WaitsFor (request.Blackboard blackboard (BlackboardOperation.Read given)) time_out = time_out ≡ given
-WaitsFor (request.Semaphore semaphore (SemaphoreOperation.Wait given)) time_out = time_out ≡ given
-WaitsFor (request.Event event (EventOperation.Wait given)) time_out = time_out ≡ given
+WaitsFor (request.Object buffer (on.Buffer (BufferOperation.Send length given message))) time_out = time_out ≡ given
+WaitsFor (request.Object buffer (on.Buffer (BufferOperation.Receive given))) time_out = time_out ≡ given
+WaitsFor (request.Object blackboard (on.Blackboard (BlackboardOperation.Read given))) time_out = time_out ≡ given
+WaitsFor (request.Object semaphore (on.Semaphore (SemaphoreOperation.Wait given))) time_out = time_out ≡ given
+WaitsFor (request.Object event (on.Event (EventOperation.Wait given))) time_out = time_out ≡ given
 WaitsFor (request.QueuingPort port (QueuingOperation.Send length given message)) time_out = time_out ≡ given
 WaitsFor (request.QueuingPort port (QueuingOperation.Receive given)) time_out = time_out ≡ given
 WaitsFor _ time_out = ⊥
@@ -168,7 +169,7 @@ WaitsFor _ time_out = ⊥
 -- a service that is given a time-out: SUSPEND_SELF, ACQUIRE_MUTEX, and those that may wait at an object or a port
 abbrev pub HasTimeOut : Request → ℤ → Type 0
 HasTimeOut (request.Caller (CallerOperation.SuspendSelf given)) time_out = time_out ≡ given
-HasTimeOut (request.Mutex mutex (MutexOperation.Acquire given)) time_out = time_out ≡ given
+HasTimeOut (request.Object mutex (on.Mutex (MutexOperation.Acquire given))) time_out = time_out ≡ given
 HasTimeOut asked time_out = WaitsFor asked time_out
 
 -- a service that sets a partition up: a creation, or INITIALIZE_PROCESS_CORE_AFFINITY
@@ -261,15 +262,15 @@ module _ (configuration : Configuration) (who : Who) (partition : Partition) whe
         → HasCondition (request.Create name (NewObject.Buffer size capacity given)) condition.CapacityOutOfRange
     create_buffer_discipline : {name : List ℕ} {size capacity given : ℤ} → ¬ IsDiscipline given → HasCondition (request.Create name (NewObject.Buffer size capacity given)) condition.DisciplineOutOfRange
     -- SEND_BUFFER: an empty message; one that is longer than the buffer's size
-    send_buffer_empty : {buffer length time_out : ℤ} {message : List ℕ} → length <ℤ pos 1 → HasCondition (request.Buffer buffer (BufferOperation.Send length time_out message)) condition.EmptyMessage
+    send_buffer_empty : {buffer length time_out : ℤ} {message : List ℕ} → length <ℤ pos 1 → HasCondition (request.Object buffer (on.Buffer (BufferOperation.Send length time_out message))) condition.EmptyMessage
     send_buffer_long : {buffer length time_out : ℤ} {message : List ℕ} (found : Buffer) → IsObject partition.buffers buffer found → pos found.size <ℤ length
-        → HasCondition (request.Buffer buffer (BufferOperation.Send length time_out message)) condition.LongerThanObject
+        → HasCondition (request.Object buffer (on.Buffer (BufferOperation.Send length time_out message))) condition.LongerThanObject
     -- CREATE_BLACKBOARD: a message size out of range
     create_blackboard_size : {name : List ℕ} {size : ℤ} → ¬ IsSize size → HasCondition (request.Create name (NewObject.Blackboard size)) condition.SizeOutOfRange
     -- DISPLAY_BLACKBOARD: an empty message; one that is longer than the blackboard's size
-    display_empty : {blackboard length : ℤ} {message : List ℕ} → length <ℤ pos 1 → HasCondition (request.Blackboard blackboard (BlackboardOperation.Display length message)) condition.EmptyMessage
+    display_empty : {blackboard length : ℤ} {message : List ℕ} → length <ℤ pos 1 → HasCondition (request.Object blackboard (on.Blackboard (BlackboardOperation.Display length message))) condition.EmptyMessage
     display_long : {blackboard length : ℤ} {message : List ℕ} (found : Blackboard) → IsObject partition.blackboards blackboard found → pos found.size <ℤ length
-        → HasCondition (request.Blackboard blackboard (BlackboardOperation.Display length message)) condition.LongerThanObject
+        → HasCondition (request.Object blackboard (on.Blackboard (BlackboardOperation.Display length message))) condition.LongerThanObject
     -- CREATE_SEMAPHORE: a maximum that is not 1 to 32,767; a value that is not 0 to the maximum; a discipline out of range
     create_semaphore_maximum : {name : List ℕ} {value maximum given : ℤ} → ¬ IsFrom (pos 1) (pos GREATEST_MAXIMUM) maximum
         → HasCondition (request.Create name (NewObject.Semaphore value maximum given)) condition.MaximumOutOfRange
@@ -280,12 +281,12 @@ module _ (configuration : Configuration) (who : Who) (partition : Partition) whe
     create_mutex_priority : {name : List ℕ} {priority given : ℤ} → ¬ IsPriority priority → HasCondition (request.Create name (NewObject.Mutex priority given)) condition.PriorityOutOfRange
     create_mutex_discipline : {name : List ℕ} {priority given : ℤ} → ¬ IsDiscipline given → HasCondition (request.Create name (NewObject.Mutex priority given)) condition.DisciplineOutOfRange
     -- ACQUIRE_MUTEX: the initialising process; the owner of another mutex; a process whose current priority is above the mutex's
-    acquire_initialising : {mutex time_out : ℤ} → who.proc ≡ 0 → HasCondition (request.Mutex mutex (MutexOperation.Acquire time_out)) condition.InitialisingCaller
-    acquire_second : {mutex time_out : ℤ} (held : ℕ) → Owns partition who.proc held → ¬ (mutex ≡ pos held) → HasCondition (request.Mutex mutex (MutexOperation.Acquire time_out)) condition.OwnsAnother
+    acquire_initialising : {mutex time_out : ℤ} → who.proc ≡ 0 → HasCondition (request.Object mutex (on.Mutex (MutexOperation.Acquire time_out))) condition.InitialisingCaller
+    acquire_second : {mutex time_out : ℤ} (held : ℕ) → Owns partition who.proc held → ¬ (mutex ≡ pos held) → HasCondition (request.Object mutex (on.Mutex (MutexOperation.Acquire time_out))) condition.OwnsAnother
     acquire_above : {mutex time_out : ℤ} (found : Mutex) (process : Process) → IsObject partition.mutexes mutex found → IsCalledBy who partition process
-        → found.priority < process.current_priority → HasCondition (request.Mutex mutex (MutexOperation.Acquire time_out)) condition.AboveCeiling
+        → found.priority < process.current_priority → HasCondition (request.Object mutex (on.Mutex (MutexOperation.Acquire time_out))) condition.AboveCeiling
     -- RELEASE_MUTEX: a caller that is not the owner
-    release_not_owner : {mutex : ℤ} (found : Mutex) → IsObject partition.mutexes mutex found → ¬ (found.owner ≡ Some who.proc) → HasCondition (request.Mutex mutex MutexOperation.Release) condition.NotOwner
+    release_not_owner : {mutex : ℤ} (found : Mutex) → IsObject partition.mutexes mutex found → ¬ (found.owner ≡ Some who.proc) → HasCondition (request.Object mutex (on.Mutex MutexOperation.Release)) condition.NotOwner
     -- CREATE_SAMPLING_PORT, CREATE_QUEUING_PORT: no such port is configured
     create_sampling_port : {name : List ℕ} {size way refresh : ℤ} → ¬ IsSamplingPort configuration who.part name size way refresh
         → HasCondition (request.Create name (NewObject.SamplingPort size way refresh)) condition.NotAsConfigured

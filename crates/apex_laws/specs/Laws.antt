@@ -1,13 +1,14 @@
 -- The laws that tie the pieces to the machine. Each is the contract of a function in `src/lib.rt`.
-use Rattle.std.specs.Prelude.{◌<◌, ◌≡◌, ◌↔◌, ℕ, List, [], ◌∷◌, Option, Some, None, IsTrue, IsFalse, Contains, not, is_some, ◌&&◌, Bool, true}
+use Rattle.std.specs.Prelude.{◌<◌, ◌≡◌, ◌↔◌, ℕ, List, [], ◌∷◌, Option, Some, None, IsTrue, IsFalse, Contains, not, is_some, ◌&&◌, Bool, true, if◌then◌else◌}
 use Rattle.apex_types.specs.declared.record.Ordered.{Ordered}
 use Rattle.apex_types.specs.declared.record.Who.{Who}
+use Rattle.apex_types.specs.declared.shape.End.{End}
+use Rattle.apex_types.specs.declared.shape.End.TheVariants.{Senders, Receivers}
 use Rattle.apex_machine.specs.declared.state.Direction.{Direction}
 use Rattle.apex_machine.specs.declared.state.Direction.TheVariants as direction
 use Rattle.apex_machine.specs.declared.state.Entry.{Entry}
 use Rattle.apex_machine.specs.declared.state.Process.{Process}
 use Rattle.apex_machine.specs.declared.state.WaitingSet.{WaitingSet}
-use Rattle.apex_machine.specs.declared.state.WaitingSet.TheVariants as set
 pub use Rattle.apex_machine.specs.Channels.{EndsAreApart}
 use Rattle.apex_machine.specs.Channels.{is_receiver, is_sender}
 use Rattle.apex_machine.specs.Choice.{IsChosen, IsReady, foremost, ready_entries}
@@ -16,7 +17,7 @@ pub use Rattle.apex_machine.specs.Configuration.{WindowsAreConfigured}
 use Rattle.apex_machine.specs.Demands.{LocalStep, has_entry_in}
 use Rattle.apex_machine.specs.Pieces.{Part, Piece, is_configured, part, touches}
 use Rattle.apex_machine.specs.Runs.{ArePlaced, Finds, PieceRun, Refusal}
-use Rattle.apex_machine.specs.State.{Blackboard, Buffer, Event, Mutex, Partition, Port, Semaphore, State, Table, cold_state, is_same, item_at}
+use Rattle.apex_machine.specs.State.{Channel, Partition, Port, State, Table, channel_set, cold_state, entries_at_end, is_of_channel, is_same, item_at, objects_of}
 use Rattle.apex_machine.specs.Step.{Run, Step}
 use Rattle.apex_machine.specs.Views.{judge, view_in, view_of}
 use Rattle.apex_machine.specs.Waiting.{waits_at}
@@ -44,14 +45,7 @@ entries_in entries_of (Some object) = entries_of object
 
 -- the entries of a waiting set of a partition; a partition has none of a channel's
 abbrev pub entries_at : Partition → WaitingSet → List Entry
-entries_at partition (set.BufferSenders number) = entries_in (λ (buffer : Buffer). buffer.senders) (item_at partition.buffers number)
-entries_at partition (set.BufferReceivers number) = entries_in (λ (buffer : Buffer). buffer.receivers) (item_at partition.buffers number)
-entries_at partition (set.BlackboardReaders number) = entries_in (λ (blackboard : Blackboard). blackboard.readers) (item_at partition.blackboards number)
-entries_at partition (set.SemaphoreWaiters number) = entries_in (λ (semaphore : Semaphore). semaphore.waiters) (item_at partition.semaphores number)
-entries_at partition (set.EventWaiters number) = entries_in (λ (event : Event). event.waiters) (item_at partition.events number)
-entries_at partition (set.MutexWaiters number) = entries_in (λ (mutex : Mutex). mutex.waiters) (item_at partition.mutexes number)
-entries_at partition (set.ChannelSenders channel) = []
-entries_at partition (set.ChannelReceivers channel) = []
+entries_at partition wanted = entries_in (entries_at_end wanted.kind wanted.end) (item_at (objects_of partition wanted.kind) wanted.number)
 
 -- the process of an entry is of a partition that may wait in the set, and waits in it
 abbrev pub IsTied : (ℕ → Type 0) → WaitingSet → (ℕ → Partition) → Entry → Type 0
@@ -73,8 +67,8 @@ AllPorts Fact (entry ∷ entries) = Fact entry.1 × AllPorts Fact entries
 pub record AreTied (configuration : Configuration) (state : State) : Type 0 where
   pub distinct : AreDistinct state
   pub objects : (number : ℕ) (wanted : WaitingSet) → AllEntries (IsTied (λ home. home ≡ number) wanted state.partitions) (entries_at (state.partitions number) wanted)
-  pub senders : (number : ℕ) → AllEntries (IsTied (λ home. IsTrue (is_sender configuration number home)) (set.ChannelSenders number) state.partitions) (state.channels number).senders
-  pub receivers : (number : ℕ) → AllEntries (IsTied (λ home. IsTrue (is_receiver configuration number home)) (set.ChannelReceivers number) state.partitions) (state.channels number).receivers
+  pub senders : (number : ℕ) → AllEntries (IsTied (λ home. IsTrue (is_sender configuration number home)) (channel_set number Senders) state.partitions) (state.channels number).senders
+  pub receivers : (number : ℕ) → AllEntries (IsTied (λ home. IsTrue (is_receiver configuration number home)) (channel_set number Receivers) state.partitions) (state.channels number).receivers
   pub ports : (number : ℕ) → AllPorts (λ port. IsAtEnd configuration number port.direction port.channel) (state.partitions number).queuing_ports
 
 -- the cold state is tied, a step keeps a state tied, and so does a run
@@ -124,11 +118,15 @@ StaysInOrder = IsKept SetsAreInOrder
 
 -- each process that waits in a set has an entry in it
 
+-- the entries at an end of a channel
+abbrev pub entries_at_channel : End → Channel → List Entry
+entries_at_channel Senders channel = channel.senders
+entries_at_channel Receivers channel = channel.receivers
+
 -- where the entries of a waiting set are: a channel's in the channel, any other's in a partition
 abbrev pub entries_of : State → ℕ → WaitingSet → List Entry
-entries_of state number (set.ChannelSenders channel) = (state.channels channel).senders
-entries_of state number (set.ChannelReceivers channel) = (state.channels channel).receivers
-entries_of state number wanted = entries_at (state.partitions number) wanted
+entries_of state number wanted =
+    if is_of_channel wanted then entries_at_channel wanted.end (state.channels wanted.number) else entries_at (state.partitions number) wanted
 
 -- the other side of the tie: every process that waits in a set has an entry in it
 abbrev pub WaitersHaveEntries : State → Type 0

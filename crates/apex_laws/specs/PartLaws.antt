@@ -1,6 +1,6 @@
 -- The laws on one partition alone, for the piece that holds it: they follow from its own demands, whatever the other pieces do. Each is the
 -- contract of a function in `src/lib.rt`.
-use Rattle.std.specs.Prelude.{◌≡◌, ◌≤◌, ◌<◌, ℕ, ◌+◌, List, [], ◌∷◌, ◌++◌, Option, None, if◌then◌else◌, Bool, true, false, IsTrue, IsFalse, ◌||◌}
+use Rattle.std.specs.Prelude.{◌≡◌, ◌≤◌, ◌<◌, ℕ, ◌+◌, List, [], ◌∷◌, ◌++◌, Option, None, if◌then◌else◌, Bool, false, IsTrue, IsFalse}
 use Rattle.apex_types.specs.declared.object_kind.ObjectKind.{ObjectKind}
 use Rattle.apex_types.specs.declared.record.Body.TheVariants.{Call, Disp, Ret, Tick}
 use Rattle.apex_types.specs.declared.record.Call.{Call as CallRecord}
@@ -9,10 +9,11 @@ use Rattle.apex_types.specs.declared.record.Return.{Return}
 use Rattle.apex_types.specs.declared.record.Who.{Who}
 use Rattle.apex_types.specs.declared.operation.{BlackboardOperation.BlackboardOperation, EventOperation.EventOperation}
 use Rattle.apex_types.specs.declared.request.Request.{Request}
+use Rattle.apex_types.specs.declared.operation.ObjectOperation.TheVariants as on
 use Rattle.apex_types.specs.declared.request.Request.TheVariants as request
+use Rattle.apex_types.specs.Shapes.{kind_used}
 use Rattle.apex_machine.specs.declared.state.CoreState.{CoreState}
 use Rattle.apex_machine.specs.declared.state.WaitingSet.{WaitingSet}
-use Rattle.apex_machine.specs.declared.state.WaitingSet.TheVariants as set
 use Rattle.apex_machine.specs.After.{partition_after, partition_by}
 use Rattle.apex_machine.specs.Arguments.{natural_of}
 use Rattle.apex_machine.specs.Configuration.{Configuration}
@@ -20,8 +21,8 @@ use Rattle.apex_machine.specs.Demands.{AllHold, IsRunning, own_call_demands, par
 use Rattle.apex_machine.specs.Pieces.{stops_some}
 use Rattle.apex_machine.specs.Ports.{channel_of}
 use Rattle.apex_machine.specs.Services.{answer_of}
-use Rattle.apex_machine.specs.State.{Partition, cold_partition, is_named, item_at, objects_of, time_of}
-use Rattle.apex_machine.specs.Waiting.{enters, entry_of, is_no_error, is_same_set, restart_of, set_after, stop_of, waits_at, without}
+use Rattle.apex_machine.specs.State.{Partition, cold_partition, is_named, is_of_channel, is_of_object, item_at, objects_of, time_of}
+use Rattle.apex_machine.specs.Waiting.{enters, entry_of, is_no_error, restart_of, set_after, stop_of, waits_at, without}
 use Rattle.apex_laws.specs.Laws.{AllEntries, IsInOrder, are_distinct, entries_at}
 
 -- a sound partition
@@ -29,12 +30,6 @@ use Rattle.apex_laws.specs.Laws.{AllEntries, IsInOrder, are_distinct, entries_at
 -- no two objects or ports of a kind have the same number
 abbrev pub HasDistinctObjects : Partition → Type 0
 HasDistinctObjects partition = (kind : ObjectKind) → IsTrue (are_distinct (objects_of partition kind))
-
--- whether a waiting set is a channel's
-abbrev pub is_of_channel : WaitingSet → Bool
-is_of_channel (set.ChannelSenders channel) = true
-is_of_channel (set.ChannelReceivers channel) = true
-is_of_channel _ = false
 
 -- a partition's waiting sets are sound before this place: numbers are distinct; each process with an entry in one of the sets is of this
 -- partition and waits in the set; every set is in order; and each process that waits in a set of one of the partition's objects has an
@@ -74,20 +69,12 @@ pub record IsOwnCall (configuration : Configuration) (number place core : ℕ) (
   pub own : call.who.part ≡ number
   pub demands : AllHold (own_call_demands configuration number cores partition core call)
 
--- whether a waiting set is one of a buffer's two sets
-abbrev pub is_of_buffer : ℕ → WaitingSet → Bool
-is_of_buffer number wanted = is_same_set (set.BufferSenders number) wanted || is_same_set (set.BufferReceivers number) wanted
-
 -- whether a request uses a waiting set of the object that it names; CLEAR_BLACKBOARD and RESET_EVENT use none, and the services of queuing
 -- ports use sets of channels, which no partition holds
 abbrev pub is_set_used : Request → WaitingSet → Bool
-is_set_used (request.Buffer buffer operation) wanted = is_of_buffer (natural_of buffer) wanted
-is_set_used (request.Blackboard blackboard BlackboardOperation.Clear) wanted = false
-is_set_used (request.Blackboard blackboard operation) wanted = is_same_set (set.BlackboardReaders (natural_of blackboard)) wanted
-is_set_used (request.Semaphore semaphore operation) wanted = is_same_set (set.SemaphoreWaiters (natural_of semaphore)) wanted
-is_set_used (request.Event event EventOperation.Reset) wanted = false
-is_set_used (request.Event event operation) wanted = is_same_set (set.EventWaiters (natural_of event)) wanted
-is_set_used (request.Mutex mutex operation) wanted = is_same_set (set.MutexWaiters (natural_of mutex)) wanted
+is_set_used (request.Object blackboard (on.Blackboard BlackboardOperation.Clear)) wanted = false
+is_set_used (request.Object event (on.Event EventOperation.Reset)) wanted = false
+is_set_used (request.Object number operation) wanted = is_of_object (kind_used operation) (natural_of number) wanted
 is_set_used (request.QueuingPort port operation) wanted = is_of_channel wanted
 is_set_used _ wanted = false
 

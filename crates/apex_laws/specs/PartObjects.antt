@@ -2,35 +2,31 @@
 -- stay.
 use Rattle.std.specs.Prelude.{◌≡◌, ℕ, ℤ, IsFalse, IsTrue, List, [], ◌∷◌, ◌++◌, Some, if◌then◌else◌}
 use Rattle.apex_types.specs.declared.object_kind.ObjectKind.{ObjectKind}
-use Rattle.apex_types.specs.declared.object_kind.ObjectKind.TheVariants as kind
 use Rattle.apex_types.specs.declared.record.Body.TheVariants.{Call, Tick}
 use Rattle.apex_types.specs.declared.record.Call.{Call as CallRecord}
 use Rattle.apex_types.specs.declared.record.Who.{Who}
-use Rattle.apex_types.specs.declared.operation.{NewObject.NewObject, ProcessOperation.ProcessOperation, SamplingOperation.SamplingOperation}
+use Rattle.apex_types.specs.declared.operation.{ProcessOperation.ProcessOperation, SamplingOperation.SamplingOperation}
 use Rattle.apex_types.specs.declared.request.Request.{Request}
 use Rattle.apex_types.specs.declared.request.Request.TheVariants as request
+use Rattle.apex_types.specs.declared.shape.End.{End}
+use Rattle.apex_types.specs.Requested.{kind_of}
+use Rattle.apex_types.specs.Shapes.{kind_used}
 use Rattle.apex_machine.specs.declared.state.CoreState.{CoreState}
 use Rattle.apex_machine.specs.declared.state.Entry.{Entry}
 use Rattle.apex_machine.specs.declared.state.Process.{Process}
 use Rattle.apex_machine.specs.declared.state.Wait.{Wait}
 use Rattle.apex_machine.specs.declared.state.Wait.TheVariants as wait
 use Rattle.apex_machine.specs.declared.state.WaitingSet.{WaitingSet}
-use Rattle.apex_machine.specs.declared.state.WaitingSet.TheVariants as set
-use Rattle.apex_machine.specs.After.{each_set, is_done, is_valid, new_blackboard, new_buffer, new_event, new_mutex, new_queuing_port, new_sampling_port, new_semaphore, numbered, objects_called, with_sets}
+use Rattle.apex_machine.specs.After.{each_set, is_done, is_valid, new_object, numbered_if, objects_called, with_sets}
 use Rattle.apex_machine.specs.Arguments.{natural_of}
-use Rattle.apex_machine.specs.Channels.{queuing_port, sampling_port}
 use Rattle.apex_machine.specs.Configuration.{Configuration}
-use Rattle.apex_machine.specs.Objects.{blackboard_effect, buffer_effect, event_effect, mutex_effect, semaphore_effect}
+use Rattle.apex_machine.specs.Objects.{object_effect}
 use Rattle.apex_machine.specs.Pieces.{stops_some}
 use Rattle.apex_machine.specs.Services.{peer}
-use Rattle.apex_machine.specs.State.{ObjectOf, Partition, Port, Table, change_at, created, is_named, is_same}
+use Rattle.apex_machine.specs.State.{ObjectOf, Partition, Port, Table, change_at, created, is_named, is_same, is_same_end, objects_of, with_ends, with_objects}
 use Rattle.apex_machine.specs.Waiting.{is_in, is_no_error, set_after, without}
 use Rattle.apex_laws.specs.Laws.{entries_at}
 use Rattle.apex_laws.specs.PartLaws.{IsOwnCall, IsSoundPart}
-
--- the objects of a kind, and this one under the number that the call claims, if the call is done
-abbrev pub created_if_done : {Object : Type 0} → CallRecord → Object → List (ℕ × Object) → List (ℕ × Object)
-created_if_done call new objects = if is_done call.claim.out then objects ++ numbered call.claim.val new else objects
 
 -- an object of a kind after the call: if the call is done, its content is as its rule leaves it; its waiting sets change by the processes
 -- whose waits the call ends and by the one that enters
@@ -40,44 +36,14 @@ used_by kind place call number rule found = with_sets kind (set_after place (Cal
 -- the partition with the one object changed that a request names, or with what the request creates; any other request leaves all objects
 -- unchanged
 abbrev pub objects_changed : Configuration → ℕ → CallRecord → Request → Partition → Partition
-objects_changed configuration place call (request.Buffer buffer operation) partition = record partition {
-  buffers = change_at (natural_of buffer) (used_by kind.Buffer place call (natural_of buffer) (λ found. (buffer_effect operation found).next)) partition.buffers;
-}
-objects_changed configuration place call (request.Blackboard blackboard operation) partition = record partition {
-  blackboards = change_at (natural_of blackboard)
-      (used_by kind.Blackboard place call (natural_of blackboard) (λ found. (blackboard_effect operation found).next)) partition.blackboards;
-}
-objects_changed configuration place call (request.Semaphore semaphore operation) partition = record partition {
-  semaphores = change_at (natural_of semaphore)
-      (used_by kind.Semaphore place call (natural_of semaphore) (λ found. (semaphore_effect operation found).next)) partition.semaphores;
-}
-objects_changed configuration place call (request.Event event operation) partition = record partition {
-  events = change_at (natural_of event) (used_by kind.Event place call (natural_of event) (λ found. (event_effect operation found).next)) partition.events;
-}
-objects_changed configuration place call (request.Mutex mutex operation) partition = record partition {
-  mutexes = change_at (natural_of mutex)
-      (used_by kind.Mutex place call (natural_of mutex) (λ found. (mutex_effect call.who.proc operation found).next)) partition.mutexes;
-}
-objects_changed configuration place call (request.Create name (NewObject.Buffer size capacity discipline)) partition =
-    record partition { buffers = created_if_done call (new_buffer name size capacity discipline) partition.buffers }
-objects_changed configuration place call (request.Create name (NewObject.Blackboard size)) partition =
-    record partition { blackboards = created_if_done call (new_blackboard name size) partition.blackboards }
-objects_changed configuration place call (request.Create name (NewObject.Semaphore value maximum discipline)) partition =
-    record partition { semaphores = created_if_done call (new_semaphore name value maximum discipline) partition.semaphores }
-objects_changed configuration place call (request.Create name NewObject.Event) partition =
-    record partition { events = created_if_done call (new_event name) partition.events }
-objects_changed configuration place call (request.Create name (NewObject.Mutex priority discipline)) partition =
-    record partition { mutexes = created_if_done call (new_mutex name priority discipline) partition.mutexes }
-objects_changed configuration place call (request.Create name (NewObject.SamplingPort size direction refresh)) partition = record partition {
-  sampling_ports = if is_done call.claim.out
-      then partition.sampling_ports ++ new_sampling_port name call.claim.val (sampling_port configuration call.who.part name)
-      else partition.sampling_ports;
-}
-objects_changed configuration place call (request.Create name (NewObject.QueuingPort size capacity direction discipline)) partition = record partition {
-  queuing_ports = if is_done call.claim.out
-      then partition.queuing_ports ++ new_queuing_port name call.claim.val (queuing_port configuration call.who.part name)
-      else partition.queuing_ports;
-}
+objects_changed configuration place call (request.Object number operation) partition =
+    with_objects (kind_used operation)
+    (change_at (natural_of number) (used_by (kind_used operation) place call (natural_of number) (λ found. (object_effect call.who.proc operation found).next))
+    (objects_of partition (kind_used operation))) partition
+objects_changed configuration place call (request.Create name object) partition =
+    let before = objects_of partition (kind_of object) in
+    with_objects (kind_of object)
+    (if is_done call.claim.out then before ++ numbered_if call.claim.val (new_object configuration call.who.part name object) else before) partition
 objects_changed configuration place call (request.SamplingPort port SamplingOperation.Read) partition = record partition {
   sampling_ports = if is_done call.claim.out
       then change_at (natural_of port) (λ (found : Port). record found { valid = is_valid call.claim.val }) partition.sampling_ports
@@ -101,16 +67,14 @@ RefusedLeavesObjects =
 
 -- a STOP that is done
 
--- the partition with one waiting set of its objects changed; a channel's set is not a partition's
+-- a change of the entries at one end
+abbrev pub at_end : End → (List Entry → List Entry) → End → List Entry → List Entry
+at_end changed change end entries = if is_same_end changed end then change entries else entries
+
+-- the partition with one waiting set of its objects changed
 abbrev pub with_set : WaitingSet → (List Entry → List Entry) → Partition → Partition
-with_set (set.BufferSenders number) change partition = record partition { buffers = change_at number (λ found. record found { senders = change found.senders }) partition.buffers }
-with_set (set.BufferReceivers number) change partition = record partition { buffers = change_at number (λ found. record found { receivers = change found.receivers }) partition.buffers }
-with_set (set.BlackboardReaders number) change partition = record partition { blackboards = change_at number (λ found. record found { readers = change found.readers }) partition.blackboards }
-with_set (set.SemaphoreWaiters number) change partition = record partition { semaphores = change_at number (λ found. record found { waiters = change found.waiters }) partition.semaphores }
-with_set (set.EventWaiters number) change partition = record partition { events = change_at number (λ found. record found { waiters = change found.waiters }) partition.events }
-with_set (set.MutexWaiters number) change partition = record partition { mutexes = change_at number (λ found. record found { waiters = change found.waiters }) partition.mutexes }
-with_set (set.ChannelSenders channel) change partition = partition
-with_set (set.ChannelReceivers channel) change partition = partition
+with_set wanted change partition =
+    with_objects wanted.kind (change_at wanted.number (with_ends wanted.kind (at_end wanted.end change)) (objects_of partition wanted.kind)) partition
 
 -- a waiting set without this process
 abbrev pub without_one : Who → List Entry → List Entry

@@ -7,6 +7,7 @@ use Rattle.apex_types.specs.declared.record.Out.TheVariants as out
 use Rattle.apex_types.specs.declared.record.Who.{Who}
 use Rattle.apex_types.specs.declared.operation.{CallerOperation.CallerOperation, MutexOperation.MutexOperation, ProcessOperation.ProcessOperation}
 use Rattle.apex_types.specs.declared.request.Request.{Request}
+use Rattle.apex_types.specs.declared.operation.ObjectOperation.TheVariants as on
 use Rattle.apex_types.specs.declared.request.Request.TheVariants as request
 use Rattle.apex_types.specs.declared.service.Service.{Service}
 use Rattle.apex_types.specs.declared.service.Service.TheVariants as service
@@ -20,7 +21,7 @@ use Rattle.apex_machine.specs.declared.state.WaitingSet.{WaitingSet}
 use Rattle.apex_machine.specs.DueTimes.{due_of_call, due_time, next_release, time_out_of}
 use Rattle.apex_machine.specs.Arguments.{natural_of}
 use Rattle.apex_machine.specs.Objects.{acquired, mutex_released}
-use Rattle.apex_machine.specs.Processes.{outcome_of}
+use Rattle.apex_machine.specs.Processes.{outcome_of, owed}
 use Rattle.apex_machine.specs.Answer.{Answer, NewNumber, Number, done, done_with, never, waiting, waking}
 use Rattle.apex_machine.specs.Names.{number_found, number_of}
 use Rattle.apex_machine.specs.Services.{answer_of, peer}
@@ -90,9 +91,9 @@ IsSetBy place period cores partition caller (request.Process process ProcessOper
 IsSetBy place period cores partition caller (request.Process process (ProcessOperation.SetPriority priority)) number old new =
     OnTarget process number (new ≡ record old { current_priority = natural_of priority; ready_position = place }) old new
 IsSetBy place period cores partition caller (request.SetPartitionMode next) number old new = IsNormalEntered place period (time_of cores old.affinity) old new
-IsSetBy place period cores partition caller (request.Mutex mutex (MutexOperation.Acquire time_out)) number old new =
+IsSetBy place period cores partition caller (request.Object mutex (on.Mutex (MutexOperation.Acquire time_out))) number old new =
     IsMutexChange (given_object partition.mutexes mutex) (λ found. (acquired caller time_out found).next) number old new
-IsSetBy place period cores partition caller (request.Mutex mutex MutexOperation.Release) number old new =
+IsSetBy place period cores partition caller (request.Object mutex (on.Mutex MutexOperation.Release)) number old new =
     IsMutexChange (given_object partition.mutexes mutex) (λ found. (mutex_released (first_waiter found.discipline found.waiters) found).next) number old new
 -- any other service sets nothing
 IsSetBy place period cores partition caller _ number old new = new ≡ old
@@ -115,25 +116,25 @@ pub record IsDue (core now : ℕ) (process : Process) : Type 0 where
   pub due : HasDueTime process.wait time
   pub reached : time ≤ now
 
--- a process whose wait ends, with this outcome due
-abbrev pub ends_with : ℕ → Service → Code → List ℕ → Process → Process
+-- a process whose wait ends, with this outcome of the service due for which it waited, if there is such a service
+abbrev pub ends_with : ℕ → Option Service → Code → List ℕ → Process → Process
 ends_with place of given message process =
-    record process { wait = wait.Nothing; ready_position = place; due = Some (record { service = of; code = given; val = None; val2 = None; val3 = None; bytes = message }) }
+    record process { wait = wait.Nothing; ready_position = place; due = owed of given message }
 
 -- a wait that falls due: TIMED_WAIT and PERIODIC_WAIT return NO_ERROR, SUSPEND_SELF and the waits for objects TIMED_OUT; the release
 -- for which the process waited becomes its last one; a first release returns nothing
 pub data IsReleased (place : ℕ) (old new : Process) : Type 0 where
   first_release : (time : ℕ) → old.wait ≡ wait.FirstRelease time → new ≡ record old { wait = wait.Nothing; ready_position = place; last_release = time; due = None }
       → IsReleased place old new
-  delay : (time : ℕ) → old.wait ≡ wait.Until time → new ≡ ends_with place service.TimedWait code.NoError [] old → IsReleased place old new
+  delay : (time : ℕ) → old.wait ≡ wait.Until time → new ≡ ends_with place (Some service.TimedWait) code.NoError [] old → IsReleased place old new
   release : (time : ℕ) → old.wait ≡ wait.PeriodicRelease time
-      → new ≡ ends_with place service.PeriodicWait code.NoError [] (record old { last_release = time }) → IsReleased place old new
-  suspension : (due : Option ℕ) → old.wait ≡ wait.Suspended due → new ≡ ends_with place service.SuspendSelf code.TimedOut [] old → IsReleased place old new
+      → new ≡ ends_with place (Some service.PeriodicWait) code.NoError [] (record old { last_release = time }) → IsReleased place old new
+  suspension : (due : Option ℕ) → old.wait ≡ wait.Suspended due → new ≡ ends_with place (Some service.SuspendSelf) code.TimedOut [] old → IsReleased place old new
   object : (set : WaitingSet) (due : Option ℕ) → old.wait ≡ wait.At set due → new ≡ ends_with place (service_at set) code.TimedOut [] old → IsReleased place old new
 
 -- a wait that a call ends: the waiting service returns NO_ERROR, and the message if one is handed over
 pub data IsWoken (place : ℕ) (message : List ℕ) (old new : Process) : Type 0 where
-  suspension : (due : Option ℕ) → old.wait ≡ wait.Suspended due → new ≡ ends_with place service.SuspendSelf code.NoError message old → IsWoken place message old new
+  suspension : (due : Option ℕ) → old.wait ≡ wait.Suspended due → new ≡ ends_with place (Some service.SuspendSelf) code.NoError message old → IsWoken place message old new
   object : (set : WaitingSet) (due : Option ℕ) → old.wait ≡ wait.At set due → new ≡ ends_with place (service_at set) code.NoError message old → IsWoken place message old new
 
 -- a process waits for another: until it is resumed, or in a waiting set

@@ -1,16 +1,17 @@
 -- Which calls are outside the profile, in sentences.
 use Rattle.std.specs.Prelude.{◌≡◌, ◌↔◌, ℕ, ℤ, Option, Some, false}
+use Rattle.apex_types.specs.declared.object_kind.ObjectKind.TheVariants as kind
 use Rattle.apex_types.specs.declared.record.Who.{Who}
 use Rattle.apex_types.specs.declared.operation.{CallerOperation.CallerOperation, ProcessOperation.ProcessOperation}
 use Rattle.apex_types.specs.declared.request.Request.{Request}
 use Rattle.apex_types.specs.declared.request.Request.TheVariants as request
 use Rattle.apex_machine.specs.declared.state.Process.{Process}
 use Rattle.apex_machine.specs.declared.state.Wait.TheVariants as wait
-use Rattle.apex_machine.specs.declared.state.WaitingSet.TheVariants as set
 use Rattle.apex_machine.specs.Arguments.{natural_of}
 use Rattle.apex_machine.specs.Services.{in_profile}
-use Rattle.apex_machine.specs.State.{Partition, item_at}
+use Rattle.apex_machine.specs.State.{Partition, item_at, set_at}
 use Rattle.apex_laws.specs.ConditionSentences.{Owns}
+use Rattle.apex_types.specs.declared.shape.End.{End}
 
 -- a process owns a mutex
 abbrev pub IsOwner : Partition → ℕ → Type 0
@@ -21,8 +22,9 @@ pub record AwaitsMutex (partition : Partition) (number : ℕ) : Type 0 where
   pub process : Process
   pub is_member : item_at partition.table number ≡ Some process
   pub mutex : ℕ
+  pub end : End
   pub due : Option ℕ
-  pub waits : process.wait ≡ wait.At (set.MutexWaiters mutex) due
+  pub waits : process.wait ≡ wait.At (set_at kind.Mutex mutex end) due
 
 -- a call is outside the profile, if no error condition holds for it
 module _ (who : Who) (partition : Partition) where

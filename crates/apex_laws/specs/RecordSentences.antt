@@ -6,6 +6,7 @@ use Rattle.apex_types.specs.declared.record.Out.TheVariants as out
 use Rattle.apex_types.specs.declared.record.Who.{Who}
 use Rattle.apex_types.specs.declared.request.Request.TheVariants as request
 use Rattle.apex_types.specs.declared.service.Service.{Service}
+use Rattle.apex_types.specs.declared.shape.End.TheVariants.{Senders, Receivers}
 use Rattle.apex_machine.specs.declared.condition.Condition.{Condition}
 use Rattle.apex_machine.specs.declared.state.CoreState.{CoreState}
 use Rattle.apex_machine.specs.declared.state.Entry.{Entry}
@@ -13,17 +14,15 @@ use Rattle.apex_machine.specs.declared.state.Mode.{Mode}
 use Rattle.apex_machine.specs.declared.state.Mode.TheVariants as mode
 use Rattle.apex_machine.specs.declared.state.Process.{Process}
 use Rattle.apex_machine.specs.declared.state.WaitingSet.{WaitingSet}
-use Rattle.apex_machine.specs.declared.state.WaitingSet.TheVariants as set
 use Rattle.apex_machine.specs.After.{each_set, is_done, mode_by, objects_by}
 use Rattle.apex_machine.specs.Answer.{Effect, HasValues, NamesExactly}
 use Rattle.apex_machine.specs.Arguments.{natural_of, period_given}
 use Rattle.apex_machine.specs.Choice.{IsReady}
 use Rattle.apex_machine.specs.Configuration.{Configuration, first_core, has_partition, period_of}
 use Rattle.apex_machine.specs.Ports.{Use, use_of}
-use Rattle.apex_machine.specs.Processes.{message_handed_over}
-use Rattle.apex_machine.specs.State.{Channel, Content, Partition, State, Table, is_named, occupant_of, item_at, time_of}
+use Rattle.apex_machine.specs.State.{Channel, Content, Partition, State, Table, is_named, occupant_of, item_at, time_of, channel_set}
 use Rattle.apex_machine.specs.Step.{IsCodeOf}
-use Rattle.apex_machine.specs.Waiting.{ends_wait, enters, entry_of, stops}
+use Rattle.apex_machine.specs.Waiting.{ends_wait, enters, entry_of, stops, message_of}
 use Rattle.apex_laws.specs.Laws.{entries_at}
 use Rattle.apex_laws.specs.ObjectSentences.{IsUse}
 use Rattle.apex_laws.specs.PartLaws.{OnlyProcessesChange}
@@ -198,11 +197,11 @@ pub record IsCallOf (configuration : Configuration) (place now : ℕ) (call : Ca
   pub stopped : (who : Who) (old : Process) → who.part ≡ call.who.part → ¬ (who ≡ call.who) → process_in state who ≡ Some old → IsTrue (stops call who)
       → Turns (SetAnd configuration state place call who.proc IsStopped) state next who
   pub woken : (who : Who) (old : Process) → who.part ≡ call.who.part → ¬ (who ≡ call.who) → process_in state who ≡ Some old → IsFalse (stops call who)
-      → IsTrue (is_named who call.claim.woken) → Turns (SetAnd configuration state place call who.proc (IsWoken place (message_handed_over call.request))) state next who
+      → IsTrue (is_named who call.claim.woken) → Turns (SetAnd configuration state place call who.proc (IsWoken place (message_of call.request))) state next who
   pub peers : (who : Who) (old : Process) → who.part ≡ call.who.part → ¬ (who ≡ call.who) → process_in state who ≡ Some old → IsFalse (stops call who)
       → IsFalse (is_named who call.claim.woken) → Turns (SetAnd configuration state place call who.proc IsSame) state next who
   pub woken_elsewhere : (who : Who) (old : Process) → ¬ (who.part ≡ call.who.part) → process_in state who ≡ Some old
-      → IsTrue (is_named who call.claim.woken) → Turns (IsWoken place (message_handed_over call.request)) state next who
+      → IsTrue (is_named who call.claim.woken) → Turns (IsWoken place (message_of call.request)) state next who
   pub added : (number : ℕ) → item_at (state.partitions call.who.part).table number ≡ None → IsAdded configuration call number (item_at (next.partitions call.who.part).table number)
   pub elsewhere : (who : Who) → ¬ (who.part ≡ call.who.part) → IsFalse (is_named who call.claim.woken) → Stays state next who
   pub mode : (next.partitions call.who.part).mode
@@ -211,8 +210,8 @@ pub record IsCallOf (configuration : Configuration) (place now : ℕ) (call : Ca
       → ObjectsAre (next.partitions call.who.part) (objects_by configuration call.who call.claim.val call.request (state.partitions call.who.part)))
       × (IsFalse (is_done call.claim.out) → ObjectsAre (next.partitions call.who.part) (state.partitions call.who.part))
   pub other_partitions : (number : ℕ) → ¬ (number ≡ call.who.part) → RestStays state next number
-  pub senders : (number : ℕ) → IsSetAfterCall place call (set.ChannelSenders number) (state.channels number).senders (next.channels number).senders
-  pub receivers : (number : ℕ) → IsSetAfterCall place call (set.ChannelReceivers number) (state.channels number).receivers (next.channels number).receivers
+  pub senders : (number : ℕ) → IsSetAfterCall place call (channel_set number Senders) (state.channels number).senders (next.channels number).senders
+  pub receivers : (number : ℕ) → IsSetAfterCall place call (channel_set number Receivers) (state.channels number).receivers (next.channels number).receivers
   pub through : (number : ℕ) → call.claim.chan ≡ Some number → GoesThrough configuration now number call (state.channels number) (next.channels number)
   pub contents : (number : ℕ) → ¬ (call.claim.chan ≡ Some number) → (next.channels number).content ≡ (state.channels number).content
   pub cores : next.cores ≡ state.cores

@@ -1,31 +1,34 @@
 -- Waits: in which waiting set a call waits, and how a wait with a time-out ends.
 use Rattle.std.specs.Prelude.{◌≡◌, ◌↔◌, ℕ, ◌+◌, ◌≤◌, ℤ, pos, negsuc, List, [], Option, Some, None, true, false}
+use Rattle.apex_types.specs.declared.object_kind.ObjectKind.TheVariants as kind
 use Rattle.apex_types.specs.declared.code.Code.TheVariants as code
 use Rattle.apex_types.specs.declared.record.Call.{Call as CallRecord}
 use Rattle.apex_types.specs.declared.record.Out.TheVariants as out
 use Rattle.apex_types.specs.declared.operation.{BlackboardOperation.BlackboardOperation, BufferOperation.BufferOperation, EventOperation.EventOperation, MutexOperation.MutexOperation, QueuingOperation.QueuingOperation, SemaphoreOperation.SemaphoreOperation}
 use Rattle.apex_types.specs.declared.request.Request.{Request}
+use Rattle.apex_types.specs.declared.operation.ObjectOperation.TheVariants as on
 use Rattle.apex_types.specs.declared.request.Request.TheVariants as request
 use Rattle.apex_types.specs.Requested.{service_of}
+use Rattle.apex_types.specs.declared.shape.End.TheVariants.{Senders, Receivers}
 use Rattle.apex_machine.specs.declared.state.Process.{Process}
 use Rattle.apex_machine.specs.declared.state.WaitingSet.{WaitingSet}
-use Rattle.apex_machine.specs.declared.state.WaitingSet.TheVariants as set
 use Rattle.apex_machine.specs.Arguments.{natural_of}
 use Rattle.apex_machine.specs.DueTimes.{falls_due}
 use Rattle.apex_machine.specs.Processes.{caller_after, released}
 use Rattle.apex_machine.specs.Waiting.{enters}
 use Rattle.apex_laws.specs.ConditionSentences.{HasTimeOut}
+use Rattle.apex_machine.specs.State.{channel_set, set_at}
 
 -- the waiting set of a service: that of the object that it names, or that of its end of the channel that its call claims
 pub data WaitsIn : Request → Option ℕ → WaitingSet → Type 0 where
-  sends_to_buffer : {buffer length time_out : ℤ} {message : List ℕ} {chan : Option ℕ} → WaitsIn (request.Buffer buffer (BufferOperation.Send length time_out message)) chan (set.BufferSenders (natural_of buffer))
-  receives_from_buffer : {buffer time_out : ℤ} {chan : Option ℕ} → WaitsIn (request.Buffer buffer (BufferOperation.Receive time_out)) chan (set.BufferReceivers (natural_of buffer))
-  reads_blackboard : {blackboard time_out : ℤ} {chan : Option ℕ} → WaitsIn (request.Blackboard blackboard (BlackboardOperation.Read time_out)) chan (set.BlackboardReaders (natural_of blackboard))
-  waits_for_semaphore : {semaphore time_out : ℤ} {chan : Option ℕ} → WaitsIn (request.Semaphore semaphore (SemaphoreOperation.Wait time_out)) chan (set.SemaphoreWaiters (natural_of semaphore))
-  waits_for_event : {event time_out : ℤ} {chan : Option ℕ} → WaitsIn (request.Event event (EventOperation.Wait time_out)) chan (set.EventWaiters (natural_of event))
-  acquires_mutex : {mutex time_out : ℤ} {chan : Option ℕ} → WaitsIn (request.Mutex mutex (MutexOperation.Acquire time_out)) chan (set.MutexWaiters (natural_of mutex))
-  sends_through : {port length time_out : ℤ} {message : List ℕ} {channel : ℕ} → WaitsIn (request.QueuingPort port (QueuingOperation.Send length time_out message)) (Some channel) (set.ChannelSenders channel)
-  receives_through : {port time_out : ℤ} {channel : ℕ} → WaitsIn (request.QueuingPort port (QueuingOperation.Receive time_out)) (Some channel) (set.ChannelReceivers channel)
+  sends_to_buffer : {buffer length time_out : ℤ} {message : List ℕ} {chan : Option ℕ} → WaitsIn (request.Object buffer (on.Buffer (BufferOperation.Send length time_out message))) chan (set_at kind.Buffer (natural_of buffer) Senders)
+  receives_from_buffer : {buffer time_out : ℤ} {chan : Option ℕ} → WaitsIn (request.Object buffer (on.Buffer (BufferOperation.Receive time_out))) chan (set_at kind.Buffer (natural_of buffer) Receivers)
+  reads_blackboard : {blackboard time_out : ℤ} {chan : Option ℕ} → WaitsIn (request.Object blackboard (on.Blackboard (BlackboardOperation.Read time_out))) chan (set_at kind.Blackboard (natural_of blackboard) Receivers)
+  waits_for_semaphore : {semaphore time_out : ℤ} {chan : Option ℕ} → WaitsIn (request.Object semaphore (on.Semaphore (SemaphoreOperation.Wait time_out))) chan (set_at kind.Semaphore (natural_of semaphore) Receivers)
+  waits_for_event : {event time_out : ℤ} {chan : Option ℕ} → WaitsIn (request.Object event (on.Event (EventOperation.Wait time_out))) chan (set_at kind.Event (natural_of event) Receivers)
+  acquires_mutex : {mutex time_out : ℤ} {chan : Option ℕ} → WaitsIn (request.Object mutex (on.Mutex (MutexOperation.Acquire time_out))) chan (set_at kind.Mutex (natural_of mutex) Receivers)
+  sends_through : {port length time_out : ℤ} {message : List ℕ} {channel : ℕ} → WaitsIn (request.QueuingPort port (QueuingOperation.Send length time_out message)) (Some channel) (channel_set channel Senders)
+  receives_through : {port time_out : ℤ} {channel : ℕ} → WaitsIn (request.QueuingPort port (QueuingOperation.Receive time_out)) (Some channel) (channel_set channel Receivers)
 
 -- a call enters a waiting set exactly if it waits, and the set is its service's
 abbrev pub EnteringIsTheSentence : Type 0

@@ -4,6 +4,7 @@ use Rattle.apex_types.specs.declared.code.Code.TheVariants as code
 use Rattle.apex_types.specs.declared.record.Out.TheVariants as out
 use Rattle.apex_types.specs.declared.record.Who.{Who}
 use Rattle.apex_types.specs.declared.operation.{BlackboardOperation.BlackboardOperation, BufferOperation.BufferOperation, CallerOperation.CallerOperation, EventOperation.EventOperation, MutexOperation.MutexOperation, NewObject.NewObject, ProcessOperation.ProcessOperation, QueuingOperation.QueuingOperation, SamplingOperation.SamplingOperation, SemaphoreOperation.SemaphoreOperation}
+use Rattle.apex_types.specs.declared.operation.ObjectOperation.TheVariants as on
 use Rattle.apex_types.specs.declared.request.Request.TheVariants as request
 use Rattle.apex_types.specs.declared.service.Service.TheVariants as service
 use Rattle.apex_machine.specs.declared.condition.Condition.TheVariants as condition
@@ -62,12 +63,12 @@ value_now state = option_map (λ found. found.value) (item_at (state.partitions 
 -- processes 1 and 2 wait for the semaphore, in this order
 abbrev pub both_wait : ℤ → State
 both_wait discipline = play one_partition (three_processes (semaphore (pos 0) (pos 1) discipline))
-    (waits one 10 (request.Semaphore (pos 1) (SemaphoreOperation.Wait (negsuc 0))) ∷ waits two 20 (request.Semaphore (pos 1) (SemaphoreOperation.Wait (negsuc 0))) ∷ [])
+    (waits one 10 (request.Object (pos 1) (on.Semaphore (SemaphoreOperation.Wait (negsuc 0)))) ∷ waits two 20 (request.Object (pos 1) (on.Semaphore (SemaphoreOperation.Wait (negsuc 0)))) ∷ [])
 
 -- process 1 waits for the semaphore with a time-out of 2, and two ticks pass
 abbrev pub timed_out : State
 timed_out = play one_partition (three_processes (semaphore (pos 0) (pos 1) (pos 0)))
-    (waits one 10 (request.Semaphore (pos 1) (SemaphoreOperation.Wait (pos 2))) ∷ ticks 0 [] ∷ ticks 0 (one ∷ []) ∷ [])
+    (waits one 10 (request.Object (pos 1) (on.Semaphore (SemaphoreOperation.Wait (pos 2)))) ∷ ticks 0 [] ∷ ticks 0 (one ∷ []) ∷ [])
 
 -- process 1 waits for the semaphore, and process 3 suspends it
 abbrev pub suspended_waiter : State
@@ -75,25 +76,25 @@ suspended_waiter = play one_partition (both_wait (pos 0)) (does three (request.P
 
 -- process 2 waits a tick, process 3 owns the mutex then
 abbrev pub owned : State
-owned = play one_partition (three_processes mutex) (waits two 20 (request.Caller (CallerOperation.TimedWait (pos 1))) ∷ does three (request.Mutex (pos 1) (MutexOperation.Acquire (pos 0))) ∷ ticks 0 (two ∷ []) ∷ [])
+owned = play one_partition (three_processes mutex) (waits two 20 (request.Caller (CallerOperation.TimedWait (pos 1))) ∷ does three (request.Object (pos 1) (on.Mutex (MutexOperation.Acquire (pos 0)))) ∷ ticks 0 (two ∷ []) ∷ [])
 
 -- process 2 waits for the mutex that process 3 owns
 abbrev pub mutex_wanted : State
-mutex_wanted = play one_partition (three_processes mutex) (does three (request.Mutex (pos 1) (MutexOperation.Acquire (pos 0))) ∷ waits two 20 (request.Mutex (pos 1) (MutexOperation.Acquire (negsuc 0))) ∷ [])
+mutex_wanted = play one_partition (three_processes mutex) (does three (request.Object (pos 1) (on.Mutex (MutexOperation.Acquire (pos 0)))) ∷ waits two 20 (request.Object (pos 1) (on.Mutex (MutexOperation.Acquire (negsuc 0)))) ∷ [])
 
 -- process 1 sent one message to a buffer of capacity 1, and waits to send another
 abbrev pub full_buffer : State
 full_buffer = play one_partition (three_processes (creates 0 (request.Create (codes "Q") (NewObject.Buffer (pos 4) (pos 1) (pos 0))) (pos 1) ∷ []))
-    (does one (request.Buffer (pos 1) (BufferOperation.Send (pos 1) (pos 0) (170 ∷ []))) ∷ waits one 10 (request.Buffer (pos 1) (BufferOperation.Send (pos 1) (negsuc 0) (187 ∷ []))) ∷ [])
+    (does one (request.Object (pos 1) (on.Buffer (BufferOperation.Send (pos 1) (pos 0) (170 ∷ [])))) ∷ waits one 10 (request.Object (pos 1) (on.Buffer (BufferOperation.Send (pos 1) (negsuc 0) (187 ∷ [])))) ∷ [])
 
 -- processes 1 and 2 wait for a message on a blackboard
 abbrev pub both_read : State
 both_read = play one_partition (three_processes (creates 0 (request.Create (codes "N") (NewObject.Blackboard (pos 4))) (pos 1) ∷ []))
-    (waits one 10 (request.Blackboard (pos 1) (BlackboardOperation.Read (negsuc 0))) ∷ waits two 20 (request.Blackboard (pos 1) (BlackboardOperation.Read (negsuc 0))) ∷ [])
+    (waits one 10 (request.Object (pos 1) (on.Blackboard (BlackboardOperation.Read (negsuc 0)))) ∷ waits two 20 (request.Object (pos 1) (on.Blackboard (BlackboardOperation.Read (negsuc 0)))) ∷ [])
 
 -- process 1 waits for an event
 abbrev pub awaits_event : State
-awaits_event = play one_partition (three_processes (creates 0 (request.Create (codes "E") NewObject.Event) (pos 1) ∷ [])) (waits one 10 (request.Event (pos 1) (EventOperation.Wait (negsuc 0))) ∷ [])
+awaits_event = play one_partition (three_processes (creates 0 (request.Create (codes "E") NewObject.Event) (pos 1) ∷ [])) (waits one 10 (request.Object (pos 1) (on.Event (EventOperation.Wait (negsuc 0)))) ∷ [])
 
 -- process 1, of period 20, is started
 abbrev pub periodic : State
@@ -139,52 +140,52 @@ reading state = gets_through two_partitions state there (request.SamplingPort (p
 -- each of them is computed
 pub record WorkedFacts : Type 0 where
   -- a signal at the maximum is answered with NO_ACTION
-  pub at_the_maximum : gets (three_processes (semaphore (pos 1) (pos 1) (pos 0))) one (request.Semaphore (pos 1) SemaphoreOperation.Signal) ≡ answering code.NoAction
+  pub at_the_maximum : gets (three_processes (semaphore (pos 1) (pos 1) (pos 0))) one (request.Object (pos 1) (on.Semaphore SemaphoreOperation.Signal)) ≡ answering code.NoAction
   -- a semaphore by priority wakes the process of higher priority; a semaphore that is first in, first out wakes the one that has waited
   -- longer
-  pub by_priority : gets (both_wait (pos 1)) three (request.Semaphore (pos 1) SemaphoreOperation.Signal) ≡ waking (two ∷ [])
-  pub first_in : gets (both_wait (pos 0)) three (request.Semaphore (pos 1) SemaphoreOperation.Signal) ≡ waking (one ∷ [])
+  pub by_priority : gets (both_wait (pos 1)) three (request.Object (pos 1) (on.Semaphore SemaphoreOperation.Signal)) ≡ waking (two ∷ [])
+  pub first_in : gets (both_wait (pos 0)) three (request.Object (pos 1) (on.Semaphore SemaphoreOperation.Signal)) ≡ waking (one ∷ [])
   -- a signal that wakes leaves the value, and NO_ERROR is due to the waiter, which runs
-  pub wakes_without_adding : value_now (play one_partition (both_wait (pos 1)) (wakes three (request.Semaphore (pos 1) SemaphoreOperation.Signal) (two ∷ []) ∷ [])) ≡ Some 0
-  pub waiter_runs : choice one_partition (play one_partition (both_wait (pos 1)) (wakes three (request.Semaphore (pos 1) SemaphoreOperation.Signal) (two ∷ []) ∷ [])) 0 ≡ Some two
-  pub waiter_returns : owes (play one_partition (both_wait (pos 1)) (wakes three (request.Semaphore (pos 1) SemaphoreOperation.Signal) (two ∷ []) ∷ [])) two ≡ outcome service.WaitSemaphore code.NoError []
+  pub wakes_without_adding : value_now (play one_partition (both_wait (pos 1)) (wakes three (request.Object (pos 1) (on.Semaphore SemaphoreOperation.Signal)) (two ∷ []) ∷ [])) ≡ Some 0
+  pub waiter_runs : choice one_partition (play one_partition (both_wait (pos 1)) (wakes three (request.Object (pos 1) (on.Semaphore SemaphoreOperation.Signal)) (two ∷ []) ∷ [])) 0 ≡ Some two
+  pub waiter_returns : owes (play one_partition (both_wait (pos 1)) (wakes three (request.Object (pos 1) (on.Semaphore SemaphoreOperation.Signal)) (two ∷ []) ∷ [])) two ≡ outcome service.WaitSemaphore code.NoError []
   -- a waiter that timed out has left the set: TIMED_OUT is due to it, and a signal raises the value by one
-  pub falls_due_then : falls_due 0 2 (at (play one_partition (three_processes (semaphore (pos 0) (pos 1) (pos 0))) (waits one 10 (request.Semaphore (pos 1) (SemaphoreOperation.Wait (pos 2))) ∷ [])) one) ≡ true
+  pub falls_due_then : falls_due 0 2 (at (play one_partition (three_processes (semaphore (pos 0) (pos 1) (pos 0))) (waits one 10 (request.Object (pos 1) (on.Semaphore (SemaphoreOperation.Wait (pos 2)))) ∷ [])) one) ≡ true
   pub returns_timed_out : owes timed_out one ≡ outcome service.WaitSemaphore code.TimedOut []
-  pub set_is_left : gets timed_out three (request.Semaphore (pos 1) SemaphoreOperation.Signal) ≡ done
+  pub set_is_left : gets timed_out three (request.Object (pos 1) (on.Semaphore SemaphoreOperation.Signal)) ≡ done
   -- a suspended waiter that is woken stays suspended, and runs once it is resumed; the resumption wakes no process
-  pub stays_suspended : choice one_partition (play one_partition suspended_waiter (wakes three (request.Semaphore (pos 1) SemaphoreOperation.Signal) (one ∷ []) ∷ [])) 0 ≡ Some three
+  pub stays_suspended : choice one_partition (play one_partition suspended_waiter (wakes three (request.Object (pos 1) (on.Semaphore SemaphoreOperation.Signal)) (one ∷ []) ∷ [])) 0 ≡ Some three
   pub resumption_wakes_nobody : gets suspended_waiter three (request.Process (pos 1) ProcessOperation.Resume) ≡ done
-  pub runs_when_resumed : choice one_partition (play one_partition suspended_waiter (wakes three (request.Semaphore (pos 1) SemaphoreOperation.Signal) (one ∷ []) ∷ does three (request.Process (pos 1) ProcessOperation.Resume) ∷ [])) 0 ≡ Some one
+  pub runs_when_resumed : choice one_partition (play one_partition suspended_waiter (wakes three (request.Object (pos 1) (on.Semaphore SemaphoreOperation.Signal)) (one ∷ []) ∷ does three (request.Process (pos 1) ProcessOperation.Resume) ∷ [])) 0 ≡ Some one
   -- a process that suspended itself is woken by RESUME, or times out
   pub resumed : gets (play one_partition (three_processes []) (waits one 10 (request.Caller (CallerOperation.SuspendSelf (pos 5))) ∷ [])) three (request.Process (pos 1) ProcessOperation.Resume) ≡ waking (one ∷ [])
   pub not_resumed : owes (play one_partition (three_processes []) (waits one 10 (request.Caller (CallerOperation.SuspendSelf (pos 1))) ∷ ticks 0 (one ∷ []) ∷ [])) one ≡ outcome service.SuspendSelf code.TimedOut []
   -- a process that is stopped while it waits leaves its set
-  pub stopped_waiter : gets (play one_partition (both_wait (pos 0)) (does three (request.Process (pos 1) ProcessOperation.Stop) ∷ [])) three (request.Semaphore (pos 1) SemaphoreOperation.Signal) ≡ waking (two ∷ [])
+  pub stopped_waiter : gets (play one_partition (both_wait (pos 0)) (does three (request.Process (pos 1) ProcessOperation.Stop) ∷ [])) three (request.Object (pos 1) (on.Semaphore SemaphoreOperation.Signal)) ≡ waking (two ∷ [])
   -- the owner of a mutex runs with its priority, before a process of higher priority; at the last release it gives way to that process, and
   -- its own priority is restored
   pub owner_runs : choice one_partition owned 0 ≡ Some three
-  pub gives_way : choice one_partition (play one_partition owned (does three (request.Mutex (pos 1) MutexOperation.Release) ∷ [])) 0 ≡ Some two
-  pub is_restored : priority_in (at (play one_partition owned (does three (request.Mutex (pos 1) MutexOperation.Release) ∷ [])) three) ≡ 5
+  pub gives_way : choice one_partition (play one_partition owned (does three (request.Object (pos 1) (on.Mutex MutexOperation.Release)) ∷ [])) 0 ≡ Some two
+  pub is_restored : priority_in (at (play one_partition owned (does three (request.Object (pos 1) (on.Mutex MutexOperation.Release)) ∷ [])) three) ≡ 5
   -- a mutex is handed on: the waiter owns it and has its priority, and the releaser has its own priority again
-  pub hands_on : gets mutex_wanted three (request.Mutex (pos 1) MutexOperation.Release) ≡ waking (two ∷ [])
-  pub new_owner : owner_in (the_mutex (play one_partition mutex_wanted (wakes three (request.Mutex (pos 1) MutexOperation.Release) (two ∷ []) ∷ []))) ≡ Some 2
-  pub is_granted : priority_in (at (play one_partition mutex_wanted (wakes three (request.Mutex (pos 1) MutexOperation.Release) (two ∷ []) ∷ [])) two) ≡ 50
-  pub has_its_own : priority_in (at (play one_partition mutex_wanted (wakes three (request.Mutex (pos 1) MutexOperation.Release) (two ∷ []) ∷ [])) three) ≡ 5
+  pub hands_on : gets mutex_wanted three (request.Object (pos 1) (on.Mutex MutexOperation.Release)) ≡ waking (two ∷ [])
+  pub new_owner : owner_in (the_mutex (play one_partition mutex_wanted (wakes three (request.Object (pos 1) (on.Mutex MutexOperation.Release)) (two ∷ []) ∷ []))) ≡ Some 2
+  pub is_granted : priority_in (at (play one_partition mutex_wanted (wakes three (request.Object (pos 1) (on.Mutex MutexOperation.Release)) (two ∷ []) ∷ [])) two) ≡ 50
+  pub has_its_own : priority_in (at (play one_partition mutex_wanted (wakes three (request.Object (pos 1) (on.Mutex MutexOperation.Release)) (two ∷ []) ∷ [])) three) ≡ 5
   -- two error conditions at once: an owner that acquires another mutex with a time-out below -1
-  pub two_conditions : conditions_met one_partition owned three (request.Mutex (pos 2) (MutexOperation.Acquire (negsuc 4))) ≡ condition.NotCreated ∷ condition.TimeOutOutOfRange ∷ condition.OwnsAnother ∷ []
+  pub two_conditions : conditions_met one_partition owned three (request.Object (pos 2) (on.Mutex (MutexOperation.Acquire (negsuc 4)))) ≡ condition.NotCreated ∷ condition.TimeOutOutOfRange ∷ condition.OwnsAnother ∷ []
   -- a mutex's owner that stops itself is outside the profile
   pub owner_stops : in_profile three (owned.partitions 0) (request.Caller CallerOperation.StopSelf) ≡ false
   -- a full buffer: a receiver gets the oldest message, the sender wakes, and its message is the next
-  pub oldest_first : gets full_buffer two (request.Buffer (pos 1) (BufferOperation.Receive (pos 0))) ≡ giving (170 ∷ []) (one ∷ [])
-  pub sender_moves_up : gets (play one_partition full_buffer (wakes two (request.Buffer (pos 1) (BufferOperation.Receive (pos 0))) (one ∷ []) ∷ [])) one (request.Buffer (pos 1) (BufferOperation.Receive (pos 0))) ≡ giving (187 ∷ []) []
+  pub oldest_first : gets full_buffer two (request.Object (pos 1) (on.Buffer (BufferOperation.Receive (pos 0)))) ≡ giving (170 ∷ []) (one ∷ [])
+  pub sender_moves_up : gets (play one_partition full_buffer (wakes two (request.Object (pos 1) (on.Buffer (BufferOperation.Receive (pos 0)))) (one ∷ []) ∷ [])) one (request.Object (pos 1) (on.Buffer (BufferOperation.Receive (pos 0)))) ≡ giving (187 ∷ []) []
   -- a display wakes all readers, and each gets the message
-  pub display_wakes_all : gets both_read three (request.Blackboard (pos 1) (BlackboardOperation.Display (pos 2) (1 ∷ 2 ∷ []))) ≡ waking (one ∷ two ∷ [])
-  pub reader_gets_it : owes (play one_partition both_read (wakes three (request.Blackboard (pos 1) (BlackboardOperation.Display (pos 2) (1 ∷ 2 ∷ []))) (one ∷ two ∷ []) ∷ [])) two ≡ outcome service.ReadBlackboard code.NoError (1 ∷ 2 ∷ [])
+  pub display_wakes_all : gets both_read three (request.Object (pos 1) (on.Blackboard (BlackboardOperation.Display (pos 2) (1 ∷ 2 ∷ [])))) ≡ waking (one ∷ two ∷ [])
+  pub reader_gets_it : owes (play one_partition both_read (wakes three (request.Object (pos 1) (on.Blackboard (BlackboardOperation.Display (pos 2) (1 ∷ 2 ∷ [])))) (one ∷ two ∷ []) ∷ [])) two ≡ outcome service.ReadBlackboard code.NoError (1 ∷ 2 ∷ [])
   -- an event that is set lets its waiters go on, and later callers too; once it is reset, they wait
-  pub event_lets_go : gets awaits_event three (request.Event (pos 1) EventOperation.Set) ≡ waking (one ∷ [])
-  pub event_is_up : gets (play one_partition awaits_event (wakes three (request.Event (pos 1) EventOperation.Set) (one ∷ []) ∷ [])) two (request.Event (pos 1) (EventOperation.Wait (negsuc 0))) ≡ done
-  pub event_is_down : gets (play one_partition awaits_event (wakes three (request.Event (pos 1) EventOperation.Set) (one ∷ []) ∷ does three (request.Event (pos 1) EventOperation.Reset) ∷ [])) two (request.Event (pos 1) (EventOperation.Wait (negsuc 0))) ≡ waiting
+  pub event_lets_go : gets awaits_event three (request.Object (pos 1) (on.Event EventOperation.Set)) ≡ waking (one ∷ [])
+  pub event_is_up : gets (play one_partition awaits_event (wakes three (request.Object (pos 1) (on.Event EventOperation.Set)) (one ∷ []) ∷ [])) two (request.Object (pos 1) (on.Event (EventOperation.Wait (negsuc 0)))) ≡ done
+  pub event_is_down : gets (play one_partition awaits_event (wakes three (request.Object (pos 1) (on.Event EventOperation.Set)) (one ∷ []) ∷ does three (request.Object (pos 1) (on.Event EventOperation.Reset)) ∷ [])) two (request.Object (pos 1) (on.Event (EventOperation.Wait (negsuc 0)))) ≡ waiting
   -- a periodic process is released at 10, the least multiple of the partition's period above 0, and next at 30
   pub not_yet_released : falls_due 0 9 (at periodic one) ≡ false
   pub is_released : falls_due 0 10 (at periodic one) ≡ true
@@ -215,7 +216,7 @@ owner_at_work = play one_partition mutex_wanted (returns three service.AcquireMu
 
 -- the last release, at which the mutex is handed on
 abbrev pub last_release : Happening
-last_release = claims 0 three 50 (request.Mutex (pos 1) MutexOperation.Release) (out.Answer code.NoError) None [] None (two ∷ [])
+last_release = claims 0 three 50 (request.Object (pos 1) (on.Mutex MutexOperation.Release)) (out.Answer code.NoError) None [] None (two ∷ [])
 
 -- the sender runs, and the receiver waits
 abbrev pub sender_at_work : State

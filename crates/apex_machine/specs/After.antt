@@ -1,5 +1,5 @@
 -- The state after a record: what the record's claims make of each process, partition, channel and core.
-use Rattle.std.specs.Prelude.{ℕ, suc, ◌+◌, List, [], ◌∷◌, ◌++◌, Option, Some, None, Bool, true, false, ℤ, pos, negsuc, nat_eq, if◌then◌else◌}
+use Rattle.std.specs.Prelude.{ℕ, suc, ◌+◌, List, [], ◌∷◌, ◌++◌, Option, Some, None, Bool, true, false, ℤ, pos, negsuc, nat_eq, option_map, if◌then◌else◌}
 use Rattle.std.specs.Option.{option_eq}
 use Rattle.std.specs.Ordering.{int_eq}
 use Rattle.apex_types.specs.declared.code.Code.TheVariants as code
@@ -14,6 +14,9 @@ use Rattle.apex_types.specs.declared.record.Out.TheVariants as out
 use Rattle.apex_types.specs.declared.record.Who.{Who}
 use Rattle.apex_types.specs.declared.operation.{NewObject.NewObject, SamplingOperation.SamplingOperation}
 use Rattle.apex_types.specs.declared.request.Request.{Request}
+use Rattle.apex_types.specs.declared.shape.End.TheVariants.{Senders, Receivers}
+use Rattle.apex_types.specs.Requested.{kind_of}
+use Rattle.apex_types.specs.Shapes.{kind_used}
 use Rattle.apex_types.specs.declared.request.Request.TheVariants as request
 use Rattle.apex_machine.specs.declared.state.CoreState.{CoreState}
 use Rattle.apex_machine.specs.declared.state.Entry.{Entry}
@@ -21,16 +24,15 @@ use Rattle.apex_machine.specs.declared.state.Mode.{Mode}
 use Rattle.apex_machine.specs.declared.state.Mode.TheVariants as mode
 use Rattle.apex_machine.specs.declared.state.Process.{Process}
 use Rattle.apex_machine.specs.declared.state.WaitingSet.{WaitingSet}
-use Rattle.apex_machine.specs.declared.state.WaitingSet.TheVariants as set
 use Rattle.apex_machine.specs.Arguments.{discipline_given, natural_of}
 use Rattle.apex_machine.specs.Channels.{QueuingPort, SamplingPort, queuing_port, sampling_port}
 use Rattle.apex_machine.specs.Configuration.{Configuration, first_core, period_of}
-use Rattle.apex_machine.specs.Objects.{blackboard_effect, buffer_effect, event_effect, mutex_effect, semaphore_effect}
+use Rattle.apex_machine.specs.Objects.{object_effect}
 use Rattle.apex_machine.specs.Ports.{channel_effect, use_of}
 pub use Rattle.apex_machine.specs.Processes.{caller_after, caller_with, outcome_of, released}
-use Rattle.apex_machine.specs.Processes.{message_handed_over, new_process, set_by, stopped, woken_by}
-use Rattle.apex_machine.specs.State.{Blackboard, Buffer, Channel, Content, Event, Mutex, ObjectOf, Partition, Port, Semaphore, State, Table, at_core, change_at, each_item, is_named, started_partition, time_of}
-use Rattle.apex_machine.specs.Waiting.{restart_of, set_after, stops}
+use Rattle.apex_machine.specs.Processes.{new_process, set_by, stopped, woken_by}
+use Rattle.apex_machine.specs.State.{Blackboard, Buffer, Channel, Content, Event, Mutex, ObjectOf, Partition, Port, Semaphore, State, Table, at_core, change_at, channel_set, each_item, is_named, objects_of, set_at, started_partition, time_of, with_ends, with_objects}
+use Rattle.apex_machine.specs.Waiting.{message_of, restart_of, set_after, stops}
 
 -- whether a call was carried out: it waits, it does not return, or it answered NO_ERROR
 abbrev pub is_done : Out → Bool
@@ -53,7 +55,7 @@ adjusted place period cores partition call number process =
 
 -- a process after a call that may end its wait
 abbrev pub woken_if_named : ℕ → CallRecord → Who → Process → Process
-woken_if_named place call who process = if is_named who call.claim.woken then woken_by place (message_handed_over call.request) process else process
+woken_if_named place call who process = if is_named who call.claim.woken then woken_by place (message_of call.request) process else process
 
 -- a process of the caller's partition after the call: the caller, a process that the call stops, or any other, whose wait the call may end
 abbrev pub called : ℕ → ℕ → ℕ → List CoreState → Partition → CallRecord → ℕ → Process → Process
@@ -78,17 +80,13 @@ created_by core call _ = []
 
 -- objects
 
--- a created sampling port, as it is configured; no process has read at it
-abbrev pub new_sampling_port : List ℕ → Option ℤ → Option SamplingPort → List (ℕ × Port)
-new_sampling_port name claimed None = []
-new_sampling_port name claimed (Some port) =
-    numbered claimed (record { name = name; size = port.size; direction = port.direction; channel = port.channel; valid = false })
+-- a created sampling port is as it is configured; no process has read at it
+abbrev pub new_sampling_port : List ℕ → SamplingPort → Port
+new_sampling_port name port = record { name = name; size = port.size; direction = port.direction; channel = port.channel; valid = false }
 
--- a created queuing port, as it is configured
-abbrev pub new_queuing_port : List ℕ → Option ℤ → Option QueuingPort → List (ℕ × Port)
-new_queuing_port name claimed None = []
-new_queuing_port name claimed (Some port) =
-    numbered claimed (record { name = name; size = port.size; direction = port.direction; channel = port.channel; valid = false })
+-- a created queuing port is as it is configured
+abbrev pub new_queuing_port : List ℕ → QueuingPort → Port
+new_queuing_port name port = record { name = name; size = port.size; direction = port.direction; channel = port.channel; valid = false }
 
 -- a created buffer holds nothing   (CREATE_BUFFER, section 3)
 abbrev pub new_buffer : List ℕ → ℤ → ℤ → ℤ → Buffer
@@ -124,49 +122,37 @@ new_mutex name priority discipline =
 abbrev pub is_valid : Option ℤ → Bool
 is_valid claimed = option_eq int_eq claimed (Some (pos 1))
 
+-- what a creation creates; a port must be configured
+abbrev pub new_object : Configuration → ℕ → List ℕ → (object : NewObject) → Option (ObjectOf (kind_of object))
+new_object configuration part name (NewObject.Buffer size capacity discipline) = Some (new_buffer name size capacity discipline)
+new_object configuration part name (NewObject.Blackboard size) = Some (new_blackboard name size)
+new_object configuration part name (NewObject.Semaphore value maximum discipline) = Some (new_semaphore name value maximum discipline)
+new_object configuration part name NewObject.Event = Some (new_event name)
+new_object configuration part name (NewObject.Mutex priority discipline) = Some (new_mutex name priority discipline)
+new_object configuration part name (NewObject.SamplingPort size direction refresh) = option_map (new_sampling_port name) (sampling_port configuration part name)
+new_object configuration part name (NewObject.QueuingPort size capacity direction discipline) = option_map (new_queuing_port name) (queuing_port configuration part name)
+
+-- what is created, if anything is, under the number that a call claims
+abbrev pub numbered_if : {Object : Type 0} → Option ℤ → Option Object → List (ℕ × Object)
+numbered_if claimed None = []
+numbered_if claimed (Some object) = numbered claimed object
+
 -- the objects and ports of the caller's partition after a call that is done, waiting sets aside: what is created has the number that is
 -- claimed, the object that is used is as its rule leaves it, and a port records whether its last read gave a valid sample
 abbrev pub objects_by : Configuration → Who → Option ℤ → Request → Partition → Partition
-objects_by configuration who claimed (request.Create name (NewObject.Buffer size capacity discipline)) partition =
-    record partition { buffers = partition.buffers ++ numbered claimed (new_buffer name size capacity discipline) }
-objects_by configuration who claimed (request.Create name (NewObject.Blackboard size)) partition =
-    record partition { blackboards = partition.blackboards ++ numbered claimed (new_blackboard name size) }
-objects_by configuration who claimed (request.Create name (NewObject.Semaphore value maximum discipline)) partition =
-    record partition { semaphores = partition.semaphores ++ numbered claimed (new_semaphore name value maximum discipline) }
-objects_by configuration who claimed (request.Create name NewObject.Event) partition =
-    record partition { events = partition.events ++ numbered claimed (new_event name) }
-objects_by configuration who claimed (request.Create name (NewObject.Mutex priority discipline)) partition =
-    record partition { mutexes = partition.mutexes ++ numbered claimed (new_mutex name priority discipline) }
-objects_by configuration who claimed (request.Create name (NewObject.SamplingPort size direction refresh)) partition =
-    record partition { sampling_ports = partition.sampling_ports ++ new_sampling_port name claimed (sampling_port configuration who.part name) }
-objects_by configuration who claimed (request.Create name (NewObject.QueuingPort size capacity direction discipline)) partition =
-    record partition { queuing_ports = partition.queuing_ports ++ new_queuing_port name claimed (queuing_port configuration who.part name) }
-objects_by configuration who claimed (request.Buffer buffer operation) partition =
-    record partition { buffers = change_at (natural_of buffer) (λ found. (buffer_effect operation found).next) partition.buffers }
-objects_by configuration who claimed (request.Blackboard blackboard operation) partition =
-    record partition { blackboards = change_at (natural_of blackboard) (λ found. (blackboard_effect operation found).next) partition.blackboards }
-objects_by configuration who claimed (request.Semaphore semaphore operation) partition =
-    record partition { semaphores = change_at (natural_of semaphore) (λ found. (semaphore_effect operation found).next) partition.semaphores }
-objects_by configuration who claimed (request.Event event operation) partition =
-    record partition { events = change_at (natural_of event) (λ found. (event_effect operation found).next) partition.events }
-objects_by configuration who claimed (request.Mutex mutex operation) partition =
-    record partition { mutexes = change_at (natural_of mutex) (λ found. (mutex_effect who.proc operation found).next) partition.mutexes }
+objects_by configuration who claimed (request.Create name object) partition =
+    with_objects (kind_of object) (objects_of partition (kind_of object) ++ numbered_if claimed (new_object configuration who.part name object)) partition
+objects_by configuration who claimed (request.Object number operation) partition =
+    with_objects (kind_used operation)
+    (change_at (natural_of number) (λ found. (object_effect who.proc operation found).next) (objects_of partition (kind_used operation))) partition
 objects_by configuration who claimed (request.SamplingPort port SamplingOperation.Read) partition = record partition {
   sampling_ports = change_at (natural_of port) (λ found. record found { valid = is_valid claimed }) partition.sampling_ports;
 }
 objects_by configuration who claimed _ partition = partition
 
--- an object of a kind with each of its waiting sets changed; a port has none
+-- an object of a kind with each of its waiting sets changed
 abbrev pub with_sets : (kind : ObjectKind) → (WaitingSet → List Entry → List Entry) → ℕ → ObjectOf kind → ObjectOf kind
-with_sets kind.Buffer change number found = record found {
-  senders = change (set.BufferSenders number) found.senders;
-  receivers = change (set.BufferReceivers number) found.receivers;
-}
-with_sets kind.Blackboard change number found = record found { readers = change (set.BlackboardReaders number) found.readers }
-with_sets kind.Semaphore change number found = record found { waiters = change (set.SemaphoreWaiters number) found.waiters }
-with_sets kind.Event change number found = record found { waiters = change (set.EventWaiters number) found.waiters }
-with_sets kind.Mutex change number found = record found { waiters = change (set.MutexWaiters number) found.waiters }
-with_sets _ change number found = found
+with_sets kind change number found = with_ends kind (λ end. change (set_at kind number end)) found
 
 -- a partition with each of its waiting sets changed
 abbrev pub each_set : (WaitingSet → List Entry → List Entry) → Partition → Partition
@@ -242,8 +228,8 @@ content_by configuration now number _ channel = channel.content
 abbrev pub channel_after : Configuration → ℕ → ℕ → Ordered → Channel → Channel
 channel_after configuration now number ordered channel = record {
   content = content_by configuration now number ordered.rec.body channel;
-  senders = set_after ordered.pos ordered.rec.body (set.ChannelSenders number) channel.senders;
-  receivers = set_after ordered.pos ordered.rec.body (set.ChannelReceivers number) channel.receivers;
+  senders = set_after ordered.pos ordered.rec.body (channel_set number Senders) channel.senders;
+  receivers = set_after ordered.pos ordered.rec.body (channel_set number Receivers) channel.receivers;
 }
 
 -- cores

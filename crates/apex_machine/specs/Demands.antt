@@ -12,6 +12,7 @@ use Rattle.apex_types.specs.declared.record.Out.{Out}
 use Rattle.apex_types.specs.declared.record.Out.TheVariants as out
 use Rattle.apex_types.specs.declared.record.Return.{Return}
 use Rattle.apex_types.specs.declared.record.Who.{Who}
+use Rattle.apex_types.specs.declared.shape.End.TheVariants.{Senders, Receivers}
 use Rattle.apex_types.specs.declared.operation.{QueuingOperation.QueuingOperation}
 use Rattle.apex_types.specs.declared.request.Request.{Request}
 use Rattle.apex_types.specs.declared.request.Request.TheVariants as request
@@ -20,7 +21,6 @@ use Rattle.apex_machine.specs.declared.state.CoreState.{CoreState}
 use Rattle.apex_machine.specs.declared.state.Entry.{Entry}
 use Rattle.apex_machine.specs.declared.state.Outcome.{Outcome}
 use Rattle.apex_machine.specs.declared.state.WaitingSet.{WaitingSet}
-use Rattle.apex_machine.specs.declared.state.WaitingSet.TheVariants as set
 use Rattle.apex_machine.specs.After.{is_channel}
 use Rattle.apex_machine.specs.Arguments.{is_over}
 use Rattle.apex_machine.specs.Choice.{choice_in}
@@ -30,7 +30,7 @@ use Rattle.apex_machine.specs.Ports.{channel_effect, channel_of, suits_use, use_
 use Rattle.apex_machine.specs.DueTimes.{NamesThoseDue, time_out_of}
 use Rattle.apex_machine.specs.ServiceConditions.{conditions_of}
 use Rattle.apex_machine.specs.Services.{Answer, HasNoValues, HasValues, NamesExactly, answer_of}
-use Rattle.apex_machine.specs.State.{Channel, Partition, Table, is_same, names_one_of, occupant_of, item_at, time_of}
+use Rattle.apex_machine.specs.State.{Channel, channel_set, Partition, Table, is_same, names_one_of, occupant_of, item_at, time_of}
 use Rattle.apex_machine.specs.Step.{AllConfigured, OneConfigured, ChannelConfigured, KeepsSkew, HasNoneDue, HasPriority, HasCode, IsWithinProfile, due_of}
 use Rattle.apex_machine.specs.Waiting.{waits_at}
 
@@ -161,9 +161,9 @@ AllWaitAt wanted number table (who ∷ others) = (who.part ≡ number → IsTrue
 -- a call of another partition ends only waits at its channel: a send ends waits to receive, and a receive ends waits to send
 abbrev pub WakesHere : Request → Option ℕ → ℕ → Table → List Who → Type 0
 WakesHere (request.QueuingPort port (QueuingOperation.Send length time_out message)) (Some channel) number table woken =
-    AllWaitAt (set.ChannelReceivers channel) number table woken
+    AllWaitAt (channel_set channel Receivers) number table woken
 WakesHere (request.QueuingPort port (QueuingOperation.Receive time_out)) (Some channel) number table woken =
-    AllWaitAt (set.ChannelSenders channel) number table woken
+    AllWaitAt (channel_set channel Senders) number table woken
 WakesHere _ chan number table woken = ⊥
 
 -- a call of another partition that names one of these processes

@@ -1,15 +1,17 @@
 -- Waits and due times: what a process waits for, from when on, and when its wait is over.
-use Rattle.std.specs.Prelude.{◌≡◌, ℕ, ◌+◌, ◌*◌, ◌/◌, List, Option, Some, None, Bool, true, false, ℤ, pos, negsuc, nat_eq, nat_le, ◌&&◌}
+use Rattle.std.specs.Prelude.{◌≡◌, ℕ, ◌+◌, ◌*◌, ◌/◌, List, Option, Some, None, Bool, true, false, ℤ, pos, negsuc, nat_eq, nat_le, option_map, ◌&&◌}
+use Rattle.apex_types.specs.declared.object_kind.ObjectKind.TheVariants as kind
 use Rattle.apex_types.specs.declared.record.Who.{Who}
-use Rattle.apex_types.specs.declared.operation.{BlackboardOperation.BlackboardOperation, BufferOperation.BufferOperation, CallerOperation.CallerOperation, EventOperation.EventOperation, MutexOperation.MutexOperation, QueuingOperation.QueuingOperation, SemaphoreOperation.SemaphoreOperation}
+use Rattle.apex_types.specs.declared.operation.{CallerOperation.CallerOperation}
 use Rattle.apex_types.specs.declared.request.Request.{Request}
+use Rattle.apex_types.specs.declared.shape.Shape.{Shape}
+use Rattle.apex_types.specs.Shapes.{shape_of_queuing, shape_on}
 use Rattle.apex_types.specs.declared.request.Request.TheVariants as request
 use Rattle.apex_machine.specs.declared.state.Process.{Process}
 use Rattle.apex_machine.specs.declared.state.Wait.{Wait}
 use Rattle.apex_machine.specs.declared.state.Wait.TheVariants as wait
 use Rattle.apex_machine.specs.declared.state.WaitingSet.{WaitingSet}
-use Rattle.apex_machine.specs.declared.state.WaitingSet.TheVariants as set
-use Rattle.apex_machine.specs.State.{Table, is_named, item_at}
+use Rattle.apex_machine.specs.State.{Table, is_named, is_same_kind, item_at}
 use Rattle.apex_machine.specs.Waiting.{set_of}
 
 -- what a wait is for
@@ -26,7 +28,7 @@ is_suspension _ = false
 
 -- whether a wait is for a mutex
 abbrev pub is_for_mutex : Wait → Bool
-is_for_mutex (wait.At (set.MutexWaiters mutex) due) = true
+is_for_mutex (wait.At set due) = is_same_kind set.kind kind.Mutex
 is_for_mutex _ = false
 
 -- releases of periodic processes
@@ -61,17 +63,15 @@ abbrev pub due_time : ℤ → ℕ → Option ℕ
 due_time (pos n) now = Some (now + n)
 due_time (negsuc n) now = None
 
+-- the time-out of an operation, if its caller may wait
+abbrev pub time_out_in : Shape → Option ℤ
+time_out_in shape = option_map (λ allowed. allowed.time_out) shape.wait
+
 -- the time-out of a service that may wait for something
 abbrev pub time_out_of : Request → Option ℤ
 time_out_of (request.Caller (CallerOperation.SuspendSelf time_out)) = Some time_out
-time_out_of (request.Buffer buffer (BufferOperation.Send length time_out message)) = Some time_out
-time_out_of (request.Buffer buffer (BufferOperation.Receive time_out)) = Some time_out
-time_out_of (request.Blackboard blackboard (BlackboardOperation.Read time_out)) = Some time_out
-time_out_of (request.Semaphore semaphore (SemaphoreOperation.Wait time_out)) = Some time_out
-time_out_of (request.Event event (EventOperation.Wait time_out)) = Some time_out
-time_out_of (request.Mutex mutex (MutexOperation.Acquire time_out)) = Some time_out
-time_out_of (request.QueuingPort port (QueuingOperation.Send length time_out message)) = Some time_out
-time_out_of (request.QueuingPort port (QueuingOperation.Receive time_out)) = Some time_out
+time_out_of (request.Object number operation) = time_out_in (shape_on operation)
+time_out_of (request.QueuingPort port operation) = time_out_in (shape_of_queuing operation)
 time_out_of _ = None
 
 -- the time at which a time-out falls due, if there is one

@@ -2,11 +2,13 @@
 -- aside.
 use Rattle.std.specs.Prelude.{ℕ, zero, suc, ◌+◌, ◌-◌, List, [], ◌∷◌, Option, Some, None, Bool, true, false, ℤ, nat_eq, nat_lt, if◌then◌else◌}
 use Rattle.apex_types.specs.declared.code.Code.TheVariants as code
-use Rattle.apex_types.specs.declared.operation.{BlackboardOperation.BlackboardOperation, BufferOperation.BufferOperation, EventOperation.EventOperation, MutexOperation.MutexOperation, SemaphoreOperation.SemaphoreOperation}
+use Rattle.apex_types.specs.declared.operation.{BlackboardOperation.BlackboardOperation, BufferOperation.BufferOperation, EventOperation.EventOperation, MutexOperation.MutexOperation, ObjectOperation.ObjectOperation, SemaphoreOperation.SemaphoreOperation}
+use Rattle.apex_types.specs.declared.operation.ObjectOperation.TheVariants as on
+use Rattle.apex_types.specs.Shapes.{kind_used}
 use Rattle.apex_machine.specs.declared.state.Entry.{Entry}
 use Rattle.apex_machine.specs.Answer.{Effect, answering, done, effect_on, giving, unmet, waking, waiters_of}
 use Rattle.apex_machine.specs.Queue.{Messages, received, sent}
-use Rattle.apex_machine.specs.State.{Blackboard, Buffer, Event, Mutex, Semaphore}
+use Rattle.apex_machine.specs.State.{Blackboard, Buffer, Event, Mutex, ObjectOf, Semaphore}
 use Rattle.apex_machine.specs.Waiting.{first_waiter}
 
 -- buffers
@@ -152,3 +154,13 @@ mutex_effect caller MutexOperation.Release mutex = mutex_released (first_waiter 
 abbrev pub is_owner : Option ℕ → ℕ → Bool
 is_owner None number = false
 is_owner (Some owner) number = nat_eq owner number
+
+-- any object
+
+-- an operation of this process on an object
+abbrev pub object_effect : ℕ → (operation : ObjectOperation) → ObjectOf (kind_used operation) → Effect (ObjectOf (kind_used operation))
+object_effect caller (on.Buffer operation) buffer = buffer_effect operation buffer
+object_effect caller (on.Blackboard operation) blackboard = blackboard_effect operation blackboard
+object_effect caller (on.Semaphore operation) semaphore = semaphore_effect operation semaphore
+object_effect caller (on.Event operation) event = event_effect operation event
+object_effect caller (on.Mutex operation) mutex = mutex_effect caller operation mutex

@@ -1,5 +1,5 @@
 -- The error conditions of sampling ports and queuing ports.
-use Rattle.std.specs.Prelude.{◌+◌, List, ◌++◌, Option, Some, None, Bool, true, false, ℤ, not, ◌&&◌, ◌||◌}
+use Rattle.std.specs.Prelude.{List, ◌++◌, Option, Some, None, Bool, true, false, ℤ, not, ◌&&◌, ◌||◌}
 use Rattle.apex_machine.specs.declared.condition.Condition.{Condition}
 use Rattle.apex_machine.specs.declared.condition.Condition.TheVariants as condition
 use Rattle.apex_machine.specs.declared.state.Direction.{Direction}

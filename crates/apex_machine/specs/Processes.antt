@@ -5,8 +5,9 @@ use Rattle.apex_types.specs.declared.code.Code.TheVariants as code
 use Rattle.apex_types.specs.declared.record.Call.{Call as CallRecord}
 use Rattle.apex_types.specs.declared.record.Out.{Out}
 use Rattle.apex_types.specs.declared.record.Out.TheVariants as out
-use Rattle.apex_types.specs.declared.operation.{BlackboardOperation.BlackboardOperation, BufferOperation.BufferOperation, CallerOperation.CallerOperation, ProcessOperation.ProcessOperation, QueuingOperation.QueuingOperation}
+use Rattle.apex_types.specs.declared.operation.{CallerOperation.CallerOperation, ProcessOperation.ProcessOperation}
 use Rattle.apex_types.specs.declared.request.Request.{Request}
+use Rattle.apex_types.specs.declared.operation.ObjectOperation.TheVariants as on
 use Rattle.apex_types.specs.declared.request.Request.TheVariants as request
 use Rattle.apex_types.specs.declared.service.Service.{Service}
 use Rattle.apex_types.specs.declared.service.Service.TheVariants as service
@@ -104,7 +105,7 @@ abbrev pub set_by : ℕ → ℕ → List CoreState → Partition → ℕ → Req
 set_by place period cores partition caller (request.Process given operation) number process =
     if is_number given number then set_in place period (time_of cores process.affinity) partition.mode operation process else process
 set_by place period cores partition caller (request.SetPartitionMode next) number process = after_normal place period (time_of cores process.affinity) process
-set_by place period cores partition caller (request.Mutex mutex operation) number process =
+set_by place period cores partition caller (request.Object mutex (on.Mutex operation)) number process =
     by_mutex (given_object partition.mutexes mutex) (λ found. (mutex_effect caller operation found).next) number process
 set_by place period cores partition caller _ number process = process
 
@@ -120,7 +121,7 @@ abbrev pub service_of_wait : Wait → Option Service
 service_of_wait (wait.Until due) = Some service.TimedWait
 service_of_wait (wait.PeriodicRelease due) = Some service.PeriodicWait
 service_of_wait (wait.Suspended due) = Some service.SuspendSelf
-service_of_wait (wait.At set due) = Some (service_at set)
+service_of_wait (wait.At set due) = service_at set
 service_of_wait _ = None
 
 -- the code with which a wait ends that falls due: TIMED_OUT if the process waited for something else than a time, NO_ERROR if it waited for
@@ -150,16 +151,9 @@ wait_ended place outcome process = record process {
 abbrev pub released : ℕ → Process → Process
 released place process = wait_ended place (owed (service_of_wait process.wait) (code_when_due process.wait) []) process
 
--- a process whose wait a call ends, which may hand over a message
+-- a process whose wait a call ends, whose caller hands over the message that it gives, if any
 abbrev pub woken_by : ℕ → List ℕ → Process → Process
 woken_by place message process = wait_ended place (owed (service_of_wait process.wait) code.NoError message) process
-
--- the message that a call hands to the processes whose waits it ends
-abbrev pub message_handed_over : Request → List ℕ
-message_handed_over (request.Buffer buffer (BufferOperation.Send length time_out message)) = message
-message_handed_over (request.Blackboard blackboard (BlackboardOperation.Display length message)) = message
-message_handed_over (request.QueuingPort port (QueuingOperation.Send length time_out message)) = message
-message_handed_over _ = []
 
 -- the caller
 

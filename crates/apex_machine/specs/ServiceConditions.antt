@@ -3,6 +3,7 @@ use Rattle.std.specs.Prelude.{List, [], ◌++◌, option_map}
 use Rattle.apex_types.specs.declared.record.Who.{Who}
 use Rattle.apex_types.specs.declared.operation.{BlackboardOperation.BlackboardOperation, BufferOperation.BufferOperation, CallerOperation.CallerOperation, EventOperation.EventOperation, MutexOperation.MutexOperation, ProcessOperation.ProcessOperation, QueuingOperation.QueuingOperation, SamplingOperation.SamplingOperation, SemaphoreOperation.SemaphoreOperation}
 use Rattle.apex_types.specs.declared.request.Request.{Request}
+use Rattle.apex_types.specs.declared.operation.ObjectOperation.TheVariants as on
 use Rattle.apex_types.specs.declared.request.Request.TheVariants as request
 use Rattle.apex_machine.specs.declared.condition.Condition.{Condition}
 use Rattle.apex_machine.specs.Conditions.{conditions_for, time_out_conditions, waiting_conditions}
@@ -34,27 +35,27 @@ conditions_of configuration who partition (request.Caller CallerOperation.Period
 conditions_of configuration who partition (request.Caller CallerOperation.GetTime) = []
 conditions_of configuration who partition (request.SetPartitionMode mode) = set_mode_conditions partition.mode mode
 conditions_of configuration who partition (request.Create name object) = create_conditions configuration who.part partition name object
-conditions_of configuration who partition (request.Buffer buffer (BufferOperation.Send length time_out message)) =
+conditions_of configuration who partition (request.Object buffer (on.Buffer (BufferOperation.Send length time_out message))) =
     message_conditions (option_map (λ (found : Buffer). found.size) (given_object partition.buffers buffer)) length
     ++ time_out_conditions time_out ++ waiting_conditions who partition time_out
-conditions_of configuration who partition (request.Buffer buffer (BufferOperation.Receive time_out)) =
+conditions_of configuration who partition (request.Object buffer (on.Buffer (BufferOperation.Receive time_out))) =
     object_conditions who partition (given_object partition.buffers buffer) time_out
-conditions_of configuration who partition (request.Blackboard blackboard (BlackboardOperation.Display length message)) =
+conditions_of configuration who partition (request.Object blackboard (on.Blackboard (BlackboardOperation.Display length message))) =
     message_conditions (option_map (λ (found : Blackboard). found.size) (given_object partition.blackboards blackboard)) length
-conditions_of configuration who partition (request.Blackboard blackboard (BlackboardOperation.Read time_out)) =
+conditions_of configuration who partition (request.Object blackboard (on.Blackboard (BlackboardOperation.Read time_out))) =
     object_conditions who partition (given_object partition.blackboards blackboard) time_out
-conditions_of configuration who partition (request.Blackboard blackboard BlackboardOperation.Clear) =
+conditions_of configuration who partition (request.Object blackboard (on.Blackboard BlackboardOperation.Clear)) =
     conditions_for (given_object partition.blackboards blackboard) (λ found. [])
-conditions_of configuration who partition (request.Semaphore semaphore (SemaphoreOperation.Wait time_out)) =
+conditions_of configuration who partition (request.Object semaphore (on.Semaphore (SemaphoreOperation.Wait time_out))) =
     object_conditions who partition (given_object partition.semaphores semaphore) time_out
-conditions_of configuration who partition (request.Semaphore semaphore SemaphoreOperation.Signal) =
+conditions_of configuration who partition (request.Object semaphore (on.Semaphore SemaphoreOperation.Signal)) =
     conditions_for (given_object partition.semaphores semaphore) (λ found. [])
-conditions_of configuration who partition (request.Event event EventOperation.Set) = conditions_for (given_object partition.events event) (λ found. [])
-conditions_of configuration who partition (request.Event event EventOperation.Reset) = conditions_for (given_object partition.events event) (λ found. [])
-conditions_of configuration who partition (request.Event event (EventOperation.Wait time_out)) =
+conditions_of configuration who partition (request.Object event (on.Event EventOperation.Set)) = conditions_for (given_object partition.events event) (λ found. [])
+conditions_of configuration who partition (request.Object event (on.Event EventOperation.Reset)) = conditions_for (given_object partition.events event) (λ found. [])
+conditions_of configuration who partition (request.Object event (on.Event (EventOperation.Wait time_out))) =
     object_conditions who partition (given_object partition.events event) time_out
-conditions_of configuration who partition (request.Mutex mutex (MutexOperation.Acquire time_out)) = acquire_conditions who partition mutex time_out
-conditions_of configuration who partition (request.Mutex mutex MutexOperation.Release) = release_conditions who (given_object partition.mutexes mutex)
+conditions_of configuration who partition (request.Object mutex (on.Mutex (MutexOperation.Acquire time_out))) = acquire_conditions who partition mutex time_out
+conditions_of configuration who partition (request.Object mutex (on.Mutex MutexOperation.Release)) = release_conditions who (given_object partition.mutexes mutex)
 conditions_of configuration who partition (request.SamplingPort port (SamplingOperation.Write length message)) =
     source_conditions (given_object partition.sampling_ports port) length
 conditions_of configuration who partition (request.SamplingPort port SamplingOperation.Read) = destination_conditions (given_object partition.sampling_ports port)

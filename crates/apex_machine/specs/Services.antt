@@ -5,6 +5,7 @@ use Rattle.apex_types.specs.declared.operation.{CallerOperation.CallerOperation,
 use Rattle.apex_types.specs.declared.request.Request.{Request}
 use Rattle.apex_types.specs.declared.request.Request.TheVariants as request
 use Rattle.apex_types.specs.Requested.{kind_of}
+use Rattle.apex_types.specs.Shapes.{kind_used}
 use Rattle.apex_machine.specs.declared.state.Process.{Process}
 pub use Rattle.apex_machine.specs.Answer.{Answer, HasNoValues, HasValue, HasValues, Value, Nothing, Number, NewNumber, NamesExactly, done, done_with, never, waiting}
 pub use Rattle.apex_machine.specs.Arguments.{is_number, is_over, natural_of}
@@ -12,7 +13,7 @@ use Rattle.apex_machine.specs.Answer.{waking}
 use Rattle.apex_machine.specs.Conditions.{of_caller, owns_mutex}
 use Rattle.apex_machine.specs.DueTimes.{is_for_mutex, is_released, is_suspension}
 use Rattle.apex_machine.specs.Names.{number_found, number_of}
-use Rattle.apex_machine.specs.Objects.{blackboard_effect, buffer_effect, event_effect, mutex_effect, semaphore_effect}
+use Rattle.apex_machine.specs.Objects.{object_effect}
 use Rattle.apex_machine.specs.State.{Partition, Table, created, given_object, is_free, item_at, objects_of}
 use Rattle.apex_machine.specs.Statuses.{status_of, telling}
 
@@ -64,15 +65,8 @@ answer_of now who partition (request.Caller CallerOperation.PeriodicWait) = if i
 answer_of now who partition (request.Caller CallerOperation.GetTime) = done_with (Number (pos now))
 answer_of now who partition (request.SetPartitionMode mode) = never
 answer_of now who partition (request.Create name object) = done_with (NewNumber (is_free (objects_of partition (kind_of object))))
-answer_of now who partition (request.Buffer buffer operation) =
-    answer_by (given_object partition.buffers buffer) (λ found. (buffer_effect operation found).answer)
-answer_of now who partition (request.Blackboard blackboard operation) =
-    answer_by (given_object partition.blackboards blackboard) (λ found. (blackboard_effect operation found).answer)
-answer_of now who partition (request.Semaphore semaphore operation) =
-    answer_by (given_object partition.semaphores semaphore) (λ found. (semaphore_effect operation found).answer)
-answer_of now who partition (request.Event event operation) = answer_by (given_object partition.events event) (λ found. (event_effect operation found).answer)
-answer_of now who partition (request.Mutex mutex operation) =
-    answer_by (given_object partition.mutexes mutex) (λ found. (mutex_effect who.proc operation found).answer)
+answer_of now who partition (request.Object number operation) =
+    answer_by (given_object (objects_of partition (kind_used operation)) number) (λ found. (object_effect who.proc operation found).answer)
 answer_of now who partition (request.GetId kind name) = done_with (number_found (number_of partition kind name))
 answer_of now who partition (request.GetStatus kind object) = telling (status_of partition kind object)
 answer_of now who partition _ = done

@@ -4,6 +4,10 @@ use Rattle.apex_types.specs.declared.discipline.Discipline.{Discipline}
 use Rattle.apex_types.specs.declared.object_kind.ObjectKind.{ObjectKind}
 use Rattle.apex_types.specs.declared.object_kind.ObjectKind.TheVariants as kind
 use Rattle.apex_types.specs.declared.record.Who.{Who}
+use Rattle.apex_types.specs.declared.shape.End.{End}
+use Rattle.apex_types.specs.declared.shape.End.TheVariants.{Senders, Receivers}
+use Rattle.apex_types.specs.contracts.object_kind.ObjectKindPartialEq.TheImpl as kinds
+use Rattle.apex_types.specs.contracts.shape.EndPartialEq.TheImpl as ends
 use Rattle.apex_machine.specs.declared.state.CoreState.{CoreState}
 use Rattle.apex_machine.specs.declared.state.Direction.{Direction}
 use Rattle.apex_machine.specs.declared.state.Entry.{Entry}
@@ -11,6 +15,7 @@ use Rattle.apex_machine.specs.declared.state.Mode.{Mode}
 use Rattle.apex_machine.specs.declared.state.Mode.TheVariants as mode
 use Rattle.apex_machine.specs.declared.state.Process.{Process}
 use Rattle.apex_machine.specs.declared.state.Wait.TheVariants as wait
+use Rattle.apex_machine.specs.declared.state.WaitingSet.{WaitingSet}
 use Rattle.apex_machine.specs.Configuration.{Configuration, first_core}
 use Rattle.apex_machine.specs.Channels.{queuing_of}
 
@@ -180,6 +185,65 @@ objects_of partition kind.Event = partition.events
 objects_of partition kind.Mutex = partition.mutexes
 objects_of partition kind.SamplingPort = partition.sampling_ports
 objects_of partition kind.QueuingPort = partition.queuing_ports
+
+-- a partition with other objects of a kind
+abbrev pub with_objects : (kind : ObjectKind) → List (ℕ × ObjectOf kind) → Partition → Partition
+with_objects kind.Buffer objects partition = record partition { buffers = objects }
+with_objects kind.Blackboard objects partition = record partition { blackboards = objects }
+with_objects kind.Semaphore objects partition = record partition { semaphores = objects }
+with_objects kind.Event objects partition = record partition { events = objects }
+with_objects kind.Mutex objects partition = record partition { mutexes = objects }
+with_objects kind.SamplingPort objects partition = record partition { sampling_ports = objects }
+with_objects kind.QueuingPort objects partition = record partition { queuing_ports = objects }
+
+-- waiting sets
+
+-- whether these are the same kind
+abbrev pub is_same_kind : ObjectKind → ObjectKind → Bool
+is_same_kind one other = kinds.eq-value.it one other
+
+-- whether these are the same end
+abbrev pub is_same_end : End → End → Bool
+is_same_end one other = ends.eq-value.it one other
+
+-- the waiting set at this end of the object of a kind and number
+abbrev pub set_at : ObjectKind → ℕ → End → WaitingSet
+set_at kind number end = record { kind = kind; number = number; end = end }
+
+-- the waiting set at this end of a channel
+abbrev pub channel_set : ℕ → End → WaitingSet
+channel_set channel end = set_at kind.QueuingPort channel end
+
+-- whether a waiting set is a channel's
+abbrev pub is_of_channel : WaitingSet → Bool
+is_of_channel wanted = is_same_kind wanted.kind kind.QueuingPort
+
+-- whether a waiting set is one of the object of this kind and number
+abbrev pub is_of_object : ObjectKind → ℕ → WaitingSet → Bool
+is_of_object kind number wanted = is_same_kind kind wanted.kind && nat_eq number wanted.number
+
+-- whether these are the same waiting set
+abbrev pub is_same_set : WaitingSet → WaitingSet → Bool
+is_same_set one other = is_of_object one.kind one.number other && is_same_end one.end other.end
+
+-- the entries at an end of an object; an object without that end has none, and the entries at a port are those of its channel
+abbrev pub entries_at_end : (kind : ObjectKind) → End → ObjectOf kind → List Entry
+entries_at_end kind.Buffer Senders buffer = buffer.senders
+entries_at_end kind.Buffer Receivers buffer = buffer.receivers
+entries_at_end kind.Blackboard Receivers blackboard = blackboard.readers
+entries_at_end kind.Semaphore Receivers semaphore = semaphore.waiters
+entries_at_end kind.Event Receivers event = event.waiters
+entries_at_end kind.Mutex Receivers mutex = mutex.waiters
+entries_at_end _ _ object = []
+
+-- an object with each of its waiting sets changed
+abbrev pub with_ends : (kind : ObjectKind) → (End → List Entry → List Entry) → ObjectOf kind → ObjectOf kind
+with_ends kind.Buffer change buffer = record buffer { senders = change Senders buffer.senders; receivers = change Receivers buffer.receivers }
+with_ends kind.Blackboard change blackboard = record blackboard { readers = change Receivers blackboard.readers }
+with_ends kind.Semaphore change semaphore = record semaphore { waiters = change Receivers semaphore.waiters }
+with_ends kind.Event change event = record event { waiters = change Receivers event.waiters }
+with_ends kind.Mutex change mutex = record mutex { waiters = change Receivers mutex.waiters }
+with_ends _ change port = port
 
 -- cores
 

@@ -1,5 +1,5 @@
 -- What services report of the state of an object. They leave the object as it is.
-use Rattle.std.specs.Prelude.{ℕ, ◌+◌, List, [], Option, Some, None, Bool, true, false, ℤ, pos, is_some, length, option_map, if◌then◌else◌}
+use Rattle.std.specs.Prelude.{ℕ, ◌+◌, List, [], Option, Some, None, Bool, true, false, ℤ, pos, is_some, length, option_map}
 use Rattle.apex_types.specs.declared.code.Code.TheVariants as code
 use Rattle.apex_types.specs.declared.object_kind.ObjectKind.{ObjectKind}
 use Rattle.apex_types.specs.declared.object_kind.ObjectKind.TheVariants as kind

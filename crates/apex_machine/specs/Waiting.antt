@@ -1,28 +1,35 @@
 -- Waiting sets: which process is first, which one enters and which ones leave. One rule serves all sets.
-use Rattle.std.specs.Prelude.{◌≡◌, ◌⊎◌, ◌<◌, ℕ, List, [], ◌∷◌, ◌++◌, Option, Some, None, Bool, true, false, ℤ, pos, negsuc, nat_eq, nat_lt, ◌&&◌, ◌||◌, if◌then◌else◌, is_some, Contains}
+use Rattle.std.specs.Prelude.{◌≡◌, ◌⊎◌, ◌<◌, ℕ, List, [], ◌∷◌, ◌++◌, Option, Some, None, Bool, true, false, ℤ, pos, negsuc, nat_eq, nat_lt, ◌&&◌, ◌||◌, if◌then◌else◌, is_some, option_map, Contains}
 use Rattle.apex_types.specs.declared.code.Code.TheVariants as code
 use Rattle.apex_types.specs.declared.discipline.Discipline.{Discipline}
 use Rattle.apex_types.specs.declared.discipline.Discipline.TheVariants as discipline
+use Rattle.apex_types.specs.declared.object_kind.KindServices.{KindServices}
+use Rattle.apex_types.specs.declared.object_kind.ObjectKind.{ObjectKind}
+use Rattle.apex_types.specs.declared.object_kind.ObjectKind.TheVariants as kind
 use Rattle.apex_types.specs.declared.record.Body.{Body}
 use Rattle.apex_types.specs.declared.record.Body.TheVariants.{Call, Ret, Disp, Tick}
 use Rattle.apex_types.specs.declared.record.Call.{Call as CallRecord}
 use Rattle.apex_types.specs.declared.record.Out.{Out}
 use Rattle.apex_types.specs.declared.record.Out.TheVariants as out
 use Rattle.apex_types.specs.declared.record.Who.{Who}
-use Rattle.apex_types.specs.declared.operation.{BlackboardOperation.BlackboardOperation, BufferOperation.BufferOperation, EventOperation.EventOperation, MutexOperation.MutexOperation, ProcessOperation.ProcessOperation, QueuingOperation.QueuingOperation, SamplingOperation.SamplingOperation, SemaphoreOperation.SemaphoreOperation}
+use Rattle.apex_types.specs.declared.operation.{ProcessOperation.ProcessOperation, QueuingOperation.QueuingOperation, SamplingOperation.SamplingOperation}
 use Rattle.apex_types.specs.declared.request.Request.{Request}
 use Rattle.apex_types.specs.declared.request.Request.TheVariants as request
 use Rattle.apex_types.specs.declared.service.Service.{Service}
-use Rattle.apex_types.specs.declared.service.Service.TheVariants as service
+use Rattle.apex_types.specs.declared.shape.AllowedWait.{AllowedWait}
+use Rattle.apex_types.specs.declared.shape.End.{End}
+use Rattle.apex_types.specs.declared.shape.End.TheVariants.{Senders, Receivers}
+use Rattle.apex_types.specs.Requested.{services_of}
+use Rattle.apex_types.specs.Shapes.{kind_used, message_on, shape_of_queuing, shape_on}
 use Rattle.apex_machine.specs.declared.state.Entry.{Entry}
 use Rattle.apex_machine.specs.declared.state.Mode.{Mode}
 use Rattle.apex_machine.specs.declared.state.Process.{Process}
 use Rattle.apex_machine.specs.declared.state.Wait.{Wait}
 use Rattle.apex_machine.specs.declared.state.Wait.TheVariants as wait
 use Rattle.apex_machine.specs.declared.state.WaitingSet.{WaitingSet}
-use Rattle.apex_machine.specs.declared.state.WaitingSet.TheVariants as set
 use Rattle.apex_machine.specs.Arguments.{natural_of, restart_given}
-use Rattle.apex_machine.specs.State.{is_named}
+pub use Rattle.apex_machine.specs.State.{is_same_set}
+use Rattle.apex_machine.specs.State.{is_named, set_at}
 
 -- the first of a set
 
@@ -56,40 +63,24 @@ pub record IsFirst (discipline : Discipline) (entries : List Entry) (entry : Ent
 
 -- where a call waits
 
+-- the waiting set at an end of the object or the channel of this kind and number, if a caller may wait there
+abbrev pub set_used : ObjectKind → ℕ → Option AllowedWait → Option WaitingSet
+set_used kind number allowed = option_map (λ wait. set_at kind number wait.end) allowed
+
 -- the waiting set in which the caller of a request waits, if it waits in one; a port's set is that of its channel
 abbrev pub set_of : Request → Option ℕ → Option WaitingSet
-set_of (request.Buffer buffer (BufferOperation.Send length time_out message)) chan = Some (set.BufferSenders (natural_of buffer))
-set_of (request.Buffer buffer (BufferOperation.Receive time_out)) chan = Some (set.BufferReceivers (natural_of buffer))
-set_of (request.Blackboard blackboard (BlackboardOperation.Read time_out)) chan = Some (set.BlackboardReaders (natural_of blackboard))
-set_of (request.Semaphore semaphore (SemaphoreOperation.Wait time_out)) chan = Some (set.SemaphoreWaiters (natural_of semaphore))
-set_of (request.Event event (EventOperation.Wait time_out)) chan = Some (set.EventWaiters (natural_of event))
-set_of (request.Mutex mutex (MutexOperation.Acquire time_out)) chan = Some (set.MutexWaiters (natural_of mutex))
-set_of (request.QueuingPort port (QueuingOperation.Send length time_out message)) (Some channel) = Some (set.ChannelSenders channel)
-set_of (request.QueuingPort port (QueuingOperation.Receive time_out)) (Some channel) = Some (set.ChannelReceivers channel)
+set_of (request.Object number operation) chan = set_used (kind_used operation) (natural_of number) (shape_on operation).wait
+set_of (request.QueuingPort port operation) (Some channel) = set_used kind.QueuingPort channel (shape_of_queuing operation).wait
 set_of _ chan = None
 
--- the service for which the processes of a set wait
-abbrev pub service_at : WaitingSet → Service
-service_at (set.BufferSenders number) = service.SendBuffer
-service_at (set.BufferReceivers number) = service.ReceiveBuffer
-service_at (set.BlackboardReaders number) = service.ReadBlackboard
-service_at (set.SemaphoreWaiters number) = service.WaitSemaphore
-service_at (set.EventWaiters number) = service.WaitEvent
-service_at (set.MutexWaiters number) = service.AcquireMutex
-service_at (set.ChannelSenders channel) = service.SendQueuingMessage
-service_at (set.ChannelReceivers channel) = service.ReceiveQueuingMessage
+-- of the services of a kind, the one whose callers wait at this end
+abbrev pub service_waiting : KindServices → End → Option Service
+service_waiting services Senders = services.sending
+service_waiting services Receivers = services.receiving
 
--- whether these are the same waiting set
-abbrev pub is_same_set : WaitingSet → WaitingSet → Bool
-is_same_set (set.BufferSenders one) (set.BufferSenders other) = nat_eq one other
-is_same_set (set.BufferReceivers one) (set.BufferReceivers other) = nat_eq one other
-is_same_set (set.BlackboardReaders one) (set.BlackboardReaders other) = nat_eq one other
-is_same_set (set.SemaphoreWaiters one) (set.SemaphoreWaiters other) = nat_eq one other
-is_same_set (set.EventWaiters one) (set.EventWaiters other) = nat_eq one other
-is_same_set (set.MutexWaiters one) (set.MutexWaiters other) = nat_eq one other
-is_same_set (set.ChannelSenders one) (set.ChannelSenders other) = nat_eq one other
-is_same_set (set.ChannelReceivers one) (set.ChannelReceivers other) = nat_eq one other
-is_same_set _ _ = false
+-- the service for which the processes of a set wait
+abbrev pub service_at : WaitingSet → Option Service
+service_at wanted = service_waiting (services_of wanted.kind) wanted.end
 
 -- whether there is a set, and it is this one
 abbrev pub is_the_set : WaitingSet → Option WaitingSet → Bool
@@ -121,8 +112,7 @@ is_no_error _ = false
 
 -- the message that a caller gives
 abbrev pub message_of : Request → List ℕ
-message_of (request.Buffer buffer (BufferOperation.Send length time_out message)) = message
-message_of (request.Blackboard blackboard (BlackboardOperation.Display length message)) = message
+message_of (request.Object number operation) = message_on operation
 message_of (request.SamplingPort port (SamplingOperation.Write length message)) = message
 message_of (request.QueuingPort port (QueuingOperation.Send length time_out message)) = message
 message_of _ = []

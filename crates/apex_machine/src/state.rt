@@ -1,6 +1,10 @@
 // The plain data of a state.
 
-use apex_types::{ChanId, Code, CoreId, Message, Name, Place, Service, Who};
+ghost use Rattle.std.specs.Prelude.{◌≡◌};
+ghost use Rattle.apex_machine.specs.State.{channel_set};
+ghost use Rattle.apex_machine.specs.Waiting.{service_at};
+
+use apex_types::{ChanId, Code, CoreId, End, Message, Name, ObjectKind, Place, Service, Who};
 
 /// The operating mode of a partition.
 #[derive(Clone, Copy, Debug, PartialEq, Eq)]
@@ -18,17 +22,38 @@ pub enum Direction {
     Destination,
 }
 
-/// A waiting set, named by the object of the process's own partition, or by the channel, at which its processes wait.
+/// A waiting set: the processes that wait at an end of an object of their own partition, or at an end of a channel.
 #[derive(Clone, Copy, Debug, PartialEq, Eq)]
-pub enum WaitingSet {
-    BufferSenders(u32),
-    BufferReceivers(u32),
-    BlackboardReaders(u32),
-    SemaphoreWaiters(u32),
-    EventWaiters(u32),
-    MutexWaiters(u32),
-    ChannelSenders(ChanId),
-    ChannelReceivers(ChanId),
+pub struct WaitingSet {
+    /// The kind of the object; that of queuing ports for a channel.
+    pub kind: ObjectKind,
+    /// The number of the object among those of its kind, or that of the channel.
+    pub number: u32,
+    pub end: End,
+}
+
+impl WaitingSet {
+    /// The set at an end of a channel.
+    pub fn of_channel(channel: ChanId, end: End) -> WaitingSet
+        ensures { result ≡ channel_set channel end }
+    {
+        WaitingSet {
+            kind: ObjectKind::QueuingPort,
+            number: channel.number() as u32,
+            end,
+        }
+    }
+
+    /// The service for which its processes wait. A sampling port has no waiting set.
+    pub fn service(self) -> Option<Service>
+        ensures { result ≡ service_at self }
+    {
+        let services = self.kind.services();
+        match self.end {
+            End::Senders => services.sending,
+            End::Receivers => services.receiving,
+        }
+    }
 }
 
 /// What a process waits for. A time is that of its own core, in ticks.

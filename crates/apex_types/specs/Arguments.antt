@@ -6,6 +6,7 @@ use Rattle.apex_types.specs.declared.service.Service.TheVariants as service
 use Rattle.apex_types.specs.declared.object_kind.ObjectKind.TheVariants as kind
 use Rattle.apex_types.specs.declared.operation.{BlackboardOperation.BlackboardOperation, BufferOperation.BufferOperation, CallerOperation.CallerOperation, EventOperation.EventOperation, MutexOperation.MutexOperation, NewObject.NewObject, ProcessOperation.ProcessOperation, QueuingOperation.QueuingOperation, SamplingOperation.SamplingOperation, SemaphoreOperation.SemaphoreOperation}
 use Rattle.apex_types.specs.declared.request.Request.{Request}
+use Rattle.apex_types.specs.declared.operation.ObjectOperation.TheVariants as on
 use Rattle.apex_types.specs.declared.request.Request.TheVariants as request
 
 -- the direction in the third number of CREATE_QUEUING_PORT: the number's remainder by 2
@@ -38,22 +39,22 @@ request_of service.PeriodicWait n1 n2 n3 name message = request.Caller CallerOpe
 request_of service.GetTime n1 n2 n3 name message = request.Caller CallerOperation.GetTime
 request_of service.SetPartitionMode n1 n2 n3 name message = request.SetPartitionMode n1
 request_of service.CreateBuffer n1 n2 n3 name message = request.Create name (NewObject.Buffer n1 n2 n3)
-request_of service.SendBuffer n1 n2 n3 name message = request.Buffer n1 (BufferOperation.Send n2 n3 message)
-request_of service.ReceiveBuffer n1 n2 n3 name message = request.Buffer n1 (BufferOperation.Receive n2)
+request_of service.SendBuffer n1 n2 n3 name message = request.Object n1 (on.Buffer (BufferOperation.Send n2 n3 message))
+request_of service.ReceiveBuffer n1 n2 n3 name message = request.Object n1 (on.Buffer (BufferOperation.Receive n2))
 request_of service.CreateBlackboard n1 n2 n3 name message = request.Create name (NewObject.Blackboard n1)
-request_of service.DisplayBlackboard n1 n2 n3 name message = request.Blackboard n1 (BlackboardOperation.Display n2 message)
-request_of service.ReadBlackboard n1 n2 n3 name message = request.Blackboard n1 (BlackboardOperation.Read n2)
-request_of service.ClearBlackboard n1 n2 n3 name message = request.Blackboard n1 BlackboardOperation.Clear
+request_of service.DisplayBlackboard n1 n2 n3 name message = request.Object n1 (on.Blackboard (BlackboardOperation.Display n2 message))
+request_of service.ReadBlackboard n1 n2 n3 name message = request.Object n1 (on.Blackboard (BlackboardOperation.Read n2))
+request_of service.ClearBlackboard n1 n2 n3 name message = request.Object n1 (on.Blackboard BlackboardOperation.Clear)
 request_of service.CreateSemaphore n1 n2 n3 name message = request.Create name (NewObject.Semaphore n1 n2 n3)
-request_of service.WaitSemaphore n1 n2 n3 name message = request.Semaphore n1 (SemaphoreOperation.Wait n2)
-request_of service.SignalSemaphore n1 n2 n3 name message = request.Semaphore n1 SemaphoreOperation.Signal
+request_of service.WaitSemaphore n1 n2 n3 name message = request.Object n1 (on.Semaphore (SemaphoreOperation.Wait n2))
+request_of service.SignalSemaphore n1 n2 n3 name message = request.Object n1 (on.Semaphore SemaphoreOperation.Signal)
 request_of service.CreateEvent n1 n2 n3 name message = request.Create name NewObject.Event
-request_of service.SetEvent n1 n2 n3 name message = request.Event n1 EventOperation.Set
-request_of service.ResetEvent n1 n2 n3 name message = request.Event n1 EventOperation.Reset
-request_of service.WaitEvent n1 n2 n3 name message = request.Event n1 (EventOperation.Wait n2)
+request_of service.SetEvent n1 n2 n3 name message = request.Object n1 (on.Event EventOperation.Set)
+request_of service.ResetEvent n1 n2 n3 name message = request.Object n1 (on.Event EventOperation.Reset)
+request_of service.WaitEvent n1 n2 n3 name message = request.Object n1 (on.Event (EventOperation.Wait n2))
 request_of service.CreateMutex n1 n2 n3 name message = request.Create name (NewObject.Mutex n1 n2)
-request_of service.AcquireMutex n1 n2 n3 name message = request.Mutex n1 (MutexOperation.Acquire n2)
-request_of service.ReleaseMutex n1 n2 n3 name message = request.Mutex n1 MutexOperation.Release
+request_of service.AcquireMutex n1 n2 n3 name message = request.Object n1 (on.Mutex (MutexOperation.Acquire n2))
+request_of service.ReleaseMutex n1 n2 n3 name message = request.Object n1 (on.Mutex MutexOperation.Release)
 request_of service.CreateSamplingPort n1 n2 n3 name message = request.Create name (NewObject.SamplingPort n1 n2 n3)
 request_of service.WriteSamplingMessage n1 n2 n3 name message = request.SamplingPort n1 (SamplingOperation.Write n2 message)
 request_of service.ReadSamplingMessage n1 n2 n3 name message = request.SamplingPort n1 SamplingOperation.Read

@@ -1,6 +1,7 @@
 pub mod Format
 pub mod Services
 pub mod Requested
+pub mod Shapes
 pub mod Arguments
 pub mod CodeName
 pub mod Rising

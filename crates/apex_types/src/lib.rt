@@ -4,7 +4,8 @@
 //! message and a list of processes as lists; a place is below the number of records that sixteen cores can record.
 //!
 //! The crate has the numbers of cores, partitions, processes, channels and places; names, messages and lists of processes; codes, services,
-//! requests, records and causes; views of records with their fields, and the numbers that a view uses for services, codes and outcomes.
+//! requests, records and causes; the shape of each operation that may let its caller wait; views of records with their fields, and the
+//! numbers that a view uses for services, codes and outcomes.
 //! Contracts see a number type as its number.
 #![tactic(auto)]
 
@@ -20,6 +21,7 @@ mod operation;
 mod record;
 mod request;
 mod service;
+mod shape;
 mod text;
 mod view;
 
@@ -32,10 +34,12 @@ pub use number::{ChanId, CoreId, PartId, Place, ProcId};
 pub use object_kind::{KindServices, ObjectKind};
 pub use operation::{
     BlackboardOperation, BufferOperation, CallerOperation, EventOperation, MutexOperation,
-    NewObject, ProcessOperation, QueuingOperation, SamplingOperation, SemaphoreOperation,
+    NewObject, ObjectOperation, ProcessOperation, QueuingOperation, SamplingOperation,
+    SemaphoreOperation,
 };
 pub use record::{Body, Call, Claim, Ordered, Out, Pair, Record, Return, Who, Woken};
 pub use request::{ArgumentValues, Request};
 pub use service::{Arguments, SERVICES, Service, ServiceRow};
+pub use shape::{AllowedWait, End, Shape};
 pub use text::{Message, Name};
 pub use view::{Field, View};

@@ -14,6 +14,10 @@ pub struct KindServices {
     pub id: Service,
     /// Reports the status of one of the kind.
     pub status: Service,
+    /// Callers of this service wait to send, if callers can.
+    pub sending: Option<Service>,
+    /// Callers of this service wait to receive, to read or for the object, if callers can.
+    pub receiving: Option<Service>,
 }
 
 /// A kind of objects or ports of a partition. Each has its own numbers and names.
@@ -38,36 +42,50 @@ impl ObjectKind {
                 creation: Service::CreateBuffer,
                 id: Service::GetBufferId,
                 status: Service::GetBufferStatus,
+                sending: Some(Service::SendBuffer),
+                receiving: Some(Service::ReceiveBuffer),
             },
             ObjectKind::Blackboard => KindServices {
                 creation: Service::CreateBlackboard,
                 id: Service::GetBlackboardId,
                 status: Service::GetBlackboardStatus,
+                sending: None,
+                receiving: Some(Service::ReadBlackboard),
             },
             ObjectKind::Semaphore => KindServices {
                 creation: Service::CreateSemaphore,
                 id: Service::GetSemaphoreId,
                 status: Service::GetSemaphoreStatus,
+                sending: None,
+                receiving: Some(Service::WaitSemaphore),
             },
             ObjectKind::Event => KindServices {
                 creation: Service::CreateEvent,
                 id: Service::GetEventId,
                 status: Service::GetEventStatus,
+                sending: None,
+                receiving: Some(Service::WaitEvent),
             },
             ObjectKind::Mutex => KindServices {
                 creation: Service::CreateMutex,
                 id: Service::GetMutexId,
                 status: Service::GetMutexStatus,
+                sending: None,
+                receiving: Some(Service::AcquireMutex),
             },
             ObjectKind::SamplingPort => KindServices {
                 creation: Service::CreateSamplingPort,
                 id: Service::GetSamplingPortId,
                 status: Service::GetSamplingPortStatus,
+                sending: None,
+                receiving: None,
             },
             ObjectKind::QueuingPort => KindServices {
                 creation: Service::CreateQueuingPort,
                 id: Service::GetQueuingPortId,
                 status: Service::GetQueuingPortStatus,
+                sending: Some(Service::SendQueuingMessage),
+                receiving: Some(Service::ReceiveQueuingMessage),
             },
         }
     }

@@ -1,10 +1,13 @@
 // The operations of the services, by what they apply to.
 
-ghost use Rattle.std.specs.Prelude.{◌≡◌};
+ghost use Rattle.std.specs.Prelude.{◌≡◌, []};
+ghost use Rattle.std.specs.Option.{option_map_or};
 ghost use Rattle.apex_types.specs.Requested as requested;
+ghost use Rattle.apex_types.specs.Shapes as shapes;
 
 use crate::object_kind::ObjectKind;
 use crate::service::Service;
+use crate::shape::{End, Shape};
 use crate::text::Message;
 
 /// What a caller requests of a process that it names by its number.
@@ -108,6 +111,16 @@ pub enum MutexOperation {
     Release,
 }
 
+/// What a caller requests of an object, by its kind.
+#[derive(Debug, Drop)]
+pub enum ObjectOperation {
+    Buffer(BufferOperation),
+    Blackboard(BlackboardOperation),
+    Semaphore(SemaphoreOperation),
+    Event(EventOperation),
+    Mutex(MutexOperation),
+}
+
 /// What a caller requests of the channel of a sampling port.
 #[derive(Debug, Drop)]
 pub enum SamplingOperation {
@@ -178,64 +191,112 @@ impl NewObject {
     }
 }
 
-impl BufferOperation {
-    /// The service that this is.
-    pub fn service(&self) -> Service
-        ensures { result ≡ requested.buffer_service self.now }
+impl ObjectOperation {
+    /// The kind of the object.
+    pub fn kind(&self) -> ObjectKind
+        ensures { result ≡ shapes.kind_used self.now }
     {
         match self {
-            BufferOperation::Send { .. } => Service::SendBuffer,
-            BufferOperation::Receive { .. } => Service::ReceiveBuffer,
+            ObjectOperation::Buffer(_) => ObjectKind::Buffer,
+            ObjectOperation::Blackboard(_) => ObjectKind::Blackboard,
+            ObjectOperation::Semaphore(_) => ObjectKind::Semaphore,
+            ObjectOperation::Event(_) => ObjectKind::Event,
+            ObjectOperation::Mutex(_) => ObjectKind::Mutex,
+        }
+    }
+
+    /// Its service, and how its caller may wait.
+    pub fn shape(&self) -> Shape
+        ensures { result ≡ shapes.shape_on self.now }
+    {
+        match self {
+            ObjectOperation::Buffer(operation) => operation.shape(),
+            ObjectOperation::Blackboard(operation) => operation.shape(),
+            ObjectOperation::Semaphore(operation) => operation.shape(),
+            ObjectOperation::Event(operation) => operation.shape(),
+            ObjectOperation::Mutex(operation) => operation.shape(),
+        }
+    }
+
+    /// The message that its caller gives, if it gives one.
+    pub fn message(&self) -> Option<&Message>
+        ensures { option_map_or (λ message. message.now) result [] ≡ shapes.message_on self.now }
+    {
+        match self {
+            ObjectOperation::Buffer(BufferOperation::Send { message, .. })
+            | ObjectOperation::Blackboard(BlackboardOperation::Display { message, .. }) => {
+                Some(message)
+            }
+            _ => None,
+        }
+    }
+}
+
+impl BufferOperation {
+    fn shape(&self) -> Shape
+        ensures { result ≡ shapes.shape_of_buffer self.now }
+    {
+        match self {
+            BufferOperation::Send { time_out, .. } => {
+                Shape::waiting(Service::SendBuffer, End::Senders, *time_out)
+            }
+            BufferOperation::Receive { time_out } => {
+                Shape::waiting(Service::ReceiveBuffer, End::Receivers, *time_out)
+            }
         }
     }
 }
 
 impl BlackboardOperation {
-    /// The service that this is.
-    pub fn service(&self) -> Service
-        ensures { result ≡ requested.blackboard_service self.now }
+    fn shape(&self) -> Shape
+        ensures { result ≡ shapes.shape_of_blackboard self.now }
     {
         match self {
-            BlackboardOperation::Display { .. } => Service::DisplayBlackboard,
-            BlackboardOperation::Read { .. } => Service::ReadBlackboard,
-            BlackboardOperation::Clear => Service::ClearBlackboard,
+            BlackboardOperation::Display { .. } => Shape::at_once(Service::DisplayBlackboard),
+            BlackboardOperation::Read { time_out } => {
+                Shape::waiting(Service::ReadBlackboard, End::Receivers, *time_out)
+            }
+            BlackboardOperation::Clear => Shape::at_once(Service::ClearBlackboard),
         }
     }
 }
 
 impl SemaphoreOperation {
-    /// The service that this is.
-    pub fn service(&self) -> Service
-        ensures { result ≡ requested.semaphore_service self.now }
+    fn shape(&self) -> Shape
+        ensures { result ≡ shapes.shape_of_semaphore self.now }
     {
         match self {
-            SemaphoreOperation::Wait { .. } => Service::WaitSemaphore,
-            SemaphoreOperation::Signal => Service::SignalSemaphore,
+            SemaphoreOperation::Wait { time_out } => {
+                Shape::waiting(Service::WaitSemaphore, End::Receivers, *time_out)
+            }
+            SemaphoreOperation::Signal => Shape::at_once(Service::SignalSemaphore),
         }
     }
 }
 
 impl EventOperation {
-    /// The service that this is.
-    pub fn service(&self) -> Service
-        ensures { result ≡ requested.event_service self.now }
+    fn shape(&self) -> Shape
+        ensures { result ≡ shapes.shape_of_event self.now }
     {
         match self {
-            EventOperation::Set => Service::SetEvent,
-            EventOperation::Reset => Service::ResetEvent,
-            EventOperation::Wait { .. } => Service::WaitEvent,
+            EventOperation::Set => Shape::at_once(Service::SetEvent),
+            EventOperation::Reset => Shape::at_once(Service::ResetEvent),
+            EventOperation::Wait { time_out } => {
+                Shape::waiting(Service::WaitEvent, End::Receivers, *time_out)
+            }
         }
     }
 }
 
 impl MutexOperation {
-    /// The service that this is.
-    pub fn service(&self) -> Service
-        ensures { result ≡ requested.mutex_service self.now }
+    fn shape(&self) -> Shape
+        ensures { result ≡ shapes.shape_of_mutex self.now }
     {
         match self {
-            MutexOperation::Acquire { .. } => Service::AcquireMutex,
-            MutexOperation::Release => Service::ReleaseMutex,
+            MutexOperation::Acquire { time_out } => {
+                Shape::waiting(Service::AcquireMutex, End::Receivers, *time_out)
+            }
+            MutexOperation::Release => Shape::at_once(Service::ReleaseMutex),
         }
     }
 }
@@ -253,13 +314,17 @@ impl SamplingOperation {
 }
 
 impl QueuingOperation {
-    /// The service that this is.
-    pub fn service(&self) -> Service
-        ensures { result ≡ requested.queuing_service self.now }
+    /// Its service, and how its caller may wait at its end of the channel.
+    pub fn shape(&self) -> Shape
+        ensures { result ≡ shapes.shape_of_queuing self.now }
     {
         match self {
-            QueuingOperation::Send { .. } => Service::SendQueuingMessage,
-            QueuingOperation::Receive { .. } => Service::ReceiveQueuingMessage,
+            QueuingOperation::Send { time_out, .. } => {
+                Shape::waiting(Service::SendQueuingMessage, End::Senders, *time_out)
+            }
+            QueuingOperation::Receive { time_out } => {
+                Shape::waiting(Service::ReceiveQueuingMessage, End::Receivers, *time_out)
+            }
         }
     }
 }

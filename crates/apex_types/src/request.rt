@@ -8,7 +8,8 @@ ghost use Rattle.apex_types.specs.Requested.{services_of};
 use crate::object_kind::ObjectKind;
 use crate::operation::{
     BlackboardOperation, BufferOperation, CallerOperation, EventOperation, MutexOperation,
-    NewObject, ProcessOperation, QueuingOperation, SamplingOperation, SemaphoreOperation,
+    NewObject, ObjectOperation, ProcessOperation, QueuingOperation, SamplingOperation,
+    SemaphoreOperation,
 };
 use crate::service::Service;
 use crate::text::{Message, Name};
@@ -30,11 +31,8 @@ pub enum Request {
     SetPartitionMode(i64),
     /// CREATE_BUFFER and its counterparts.
     Create(Name, NewObject),
-    Buffer(i64, BufferOperation),
-    Blackboard(i64, BlackboardOperation),
-    Semaphore(i64, SemaphoreOperation),
-    Event(i64, EventOperation),
-    Mutex(i64, MutexOperation),
+    /// SEND_BUFFER and all other services that use an object.
+    Object(i64, ObjectOperation),
     SamplingPort(i64, SamplingOperation),
     QueuingPort(i64, QueuingOperation),
     /// GET_BUFFER_ID and its counterparts, by kind.
@@ -92,44 +90,62 @@ impl Request {
             Service::GetTime => Request::Caller(CallerOperation::GetTime),
             Service::SetPartitionMode => Request::SetPartitionMode(n1),
             Service::CreateBuffer => create(ObjectKind::Buffer, name, n1, n2, n3),
-            Service::SendBuffer => Request::Buffer(
+            Service::SendBuffer => Request::Object(
                 n1,
-                BufferOperation::Send {
+                ObjectOperation::Buffer(BufferOperation::Send {
                     length: n2,
                     time_out: n3,
                     message,
-                },
+                }),
             ),
-            Service::ReceiveBuffer => Request::Buffer(
+            Service::ReceiveBuffer => Request::Object(
                 n1,
-                BufferOperation::Receive { time_out: n2 },
+                ObjectOperation::Buffer(BufferOperation::Receive { time_out: n2 }),
             ),
             Service::CreateBlackboard => create(ObjectKind::Blackboard, name, n1, n2, n3),
-            Service::DisplayBlackboard => Request::Blackboard(
+            Service::DisplayBlackboard => Request::Object(
                 n1,
-                BlackboardOperation::Display {
+                ObjectOperation::Blackboard(BlackboardOperation::Display {
                     length: n2,
                     message,
-                },
+                }),
             ),
-            Service::ReadBlackboard => Request::Blackboard(
+            Service::ReadBlackboard => Request::Object(
                 n1,
-                BlackboardOperation::Read { time_out: n2 },
+                ObjectOperation::Blackboard(BlackboardOperation::Read { time_out: n2 }),
             ),
-            Service::ClearBlackboard => Request::Blackboard(n1, BlackboardOperation::Clear),
+            Service::ClearBlackboard => Request::Object(
+                n1,
+                ObjectOperation::Blackboard(BlackboardOperation::Clear),
+            ),
             Service::CreateSemaphore => create(ObjectKind::Semaphore, name, n1, n2, n3),
-            Service::WaitSemaphore => Request::Semaphore(
+            Service::WaitSemaphore => Request::Object(
                 n1,
-                SemaphoreOperation::Wait { time_out: n2 },
+                ObjectOperation::Semaphore(SemaphoreOperation::Wait { time_out: n2 }),
             ),
-            Service::SignalSemaphore => Request::Semaphore(n1, SemaphoreOperation::Signal),
+            Service::SignalSemaphore => Request::Object(
+                n1,
+                ObjectOperation::Semaphore(SemaphoreOperation::Signal),
+            ),
             Service::CreateEvent => create(ObjectKind::Event, name, n1, n2, n3),
-            Service::SetEvent => Request::Event(n1, EventOperation::Set),
-            Service::ResetEvent => Request::Event(n1, EventOperation::Reset),
-            Service::WaitEvent => Request::Event(n1, EventOperation::Wait { time_out: n2 }),
+            Service::SetEvent => Request::Object(n1, ObjectOperation::Event(EventOperation::Set)),
+            Service::ResetEvent => Request::Object(
+                n1,
+                ObjectOperation::Event(EventOperation::Reset),
+            ),
+            Service::WaitEvent => Request::Object(
+                n1,
+                ObjectOperation::Event(EventOperation::Wait { time_out: n2 }),
+            ),
             Service::CreateMutex => create(ObjectKind::Mutex, name, n1, n2, n3),
-            Service::AcquireMutex => Request::Mutex(n1, MutexOperation::Acquire { time_out: n2 }),
-            Service::ReleaseMutex => Request::Mutex(n1, MutexOperation::Release),
+            Service::AcquireMutex => Request::Object(
+                n1,
+                ObjectOperation::Mutex(MutexOperation::Acquire { time_out: n2 }),
+            ),
+            Service::ReleaseMutex => Request::Object(
+                n1,
+                ObjectOperation::Mutex(MutexOperation::Release),
+            ),
             Service::CreateSamplingPort => create(ObjectKind::SamplingPort, name, n1, n2, n3),
             Service::WriteSamplingMessage => Request::SamplingPort(
                 n1,
@@ -179,13 +195,9 @@ impl Request {
             Request::Caller(operation) => operation.service(),
             Request::SetPartitionMode(..) => Service::SetPartitionMode,
             Request::Create(_, object) => object.kind().services().creation,
-            Request::Buffer(_, operation) => operation.service(),
-            Request::Blackboard(_, operation) => operation.service(),
-            Request::Semaphore(_, operation) => operation.service(),
-            Request::Event(_, operation) => operation.service(),
-            Request::Mutex(_, operation) => operation.service(),
+            Request::Object(_, operation) => operation.shape().service,
             Request::SamplingPort(_, operation) => operation.service(),
-            Request::QueuingPort(_, operation) => operation.service(),
+            Request::QueuingPort(_, operation) => operation.shape().service,
             Request::GetId(kind, _) => kind.services().id,
             Request::GetStatus(kind, _) => kind.services().status,
         }

@@ -1,5 +1,5 @@
 -- How a run over opened texts ends.
-use Rattle.std.proofs.Common.{◌≡◌, ◌≢◌, ◌∙◌, ℕ, List, Option, Some, Result, Ok, Err, map, option_map, refl, sym, ap, subst, inl, inr}
+use Rattle.std.proofs.Common.{◌≡◌, ◌≢◌, ◌∙◌, ℕ, List, Option, Some, Result, Ok, Err, length, map, option_map, refl, sym, ap, subst, inl, inr}
 use Rattle.apex_machine.specs.Configuration.{Configuration}
 use Rattle.module_config.specs.Reading.{configuration_of}
 use Rattle.record_read.specs.Row.{records_of}
@@ -12,10 +12,11 @@ use Rattle.rules_file.specs.Reading.{SaidRule, without_key}
 use Rattle.apexorder.specs.declared.ending.Ending.{Ending}
 use Rattle.apexorder.specs.declared.files.Opened.{Opened}
 use Rattle.apexorder.specs.declared.usage.OrderAsked.{OrderAsked}
-use Rattle.apexorder.specs.Endings.{HasReceived, out_of_memory, refused_rules}
+use Rattle.apexorder.specs.Endings.{EndsSearch, HasReceived, out_of_memory, refused_rules}
 use Rattle.apexorder.specs.Files.{EndsAsAsked, rules_text}
 use Rattle.asked_rules.specs.Asked.{rules_given, walk_given}
 use Rattle.apexorder.specs.Ruled.{IsCertified}
+use Rattle.apexorder.proofs.Searched.{memory_ends}
 use Rattle.apexorder.proofs.Written.{none_received}
 
 module _ {S : Type 0} (known : S → Option (List ℕ)) (opened : Opened S) (asked : OrderAsked) where
@@ -24,6 +25,7 @@ module _ {S : Type 0} (known : S → Option (List ℕ)) (opened : Opened S) (ask
   memory_ended bytes end is = record {
     rows = none_received (configuration_of opened.text.items) (map (λ source. option_map records_of (known source)) opened.cores.items) bytes;
     refused = λ fault given. (inl is, refl);
+    ended = λ rules given. memory_ends (configuration_of opened.text.items) (length opened.cores.items) end is;
     certified = λ configuration texts rules read sources given. inl is;
   }
 
@@ -38,6 +40,7 @@ module _ {S : Type 0} (known : S → Option (List ℕ)) (opened : Opened S) (ask
           record {
             rows = none_received (configuration_of opened.text.items) (map (λ source. option_map records_of (known source)) opened.cores.items) bytes;
             refused = λ other given. let one : fault ≡ other = cc in (inr (is ∙ ap refused_rules one), refl);
+            ended = λ rules given. let none : ◌≡◌ {A = Result (List SaidRule) RulesFault} (Err fault) (Ok rules) = sym here ∙ given in cc;
             certified = λ configuration texts rules read sources given. let none : ◌≡◌ {A = Result (List SaidRule) RulesFault} (Err fault) (Ok rules) = sym here ∙ given in cc;
           }
 
@@ -51,12 +54,14 @@ module _ {S : Type 0} (known : S → Option (List ℕ)) (opened : Opened S) (ask
   pub search_ended : (before after : Option (List ℕ)) (end : Ending) (found : List SaidRule) (options : List RuleOption)
       → rules_given (rules_text opened) ≡ Ok found → options ≡ in_order asked.options
       → HasReceived (configuration_of opened.text.items) (map (λ source. option_map records_of (known source)) opened.cores.items) before after
+      → EndsSearch (configuration_of opened.text.items) (length opened.cores.items) end
       → ((configuration : Configuration) (texts : List (List ℕ)) → configuration_of opened.text.items ≡ Ok configuration → map known opened.cores.items ≡ map Some texts
       → IsCertified configuration options found texts before after end)
       → EndsAsAsked known opened asked before after end
-  search_ended before after end found options here same rows certified = record {
+  search_ended before after end found options here same rows ended certified = record {
     rows = rows;
     refused = λ fault given. let none : ◌≡◌ {A = Result (List SaidRule) RulesFault} (Ok found) (Err fault) = sym here ∙ given in cc;
+    ended = λ rules given. ended;
     certified = λ configuration texts rules read sources given.
         let one : found ≡ rules = cc in
         subst (λ all. IsCertified configuration (in_order asked.options) all texts before after end) one

@@ -1,5 +1,5 @@
 -- How a run of the program ends.
-use Rattle.std.specs.Prelude.{◌≡◌, ℕ, List, Option, Some, None, Result, Ok, Err}
+use Rattle.std.specs.Prelude.{◌≡◌, ◌≢◌, ◌⊎◌, ℕ, List, Option, Some, None, Result, Ok, Err}
 use Rattle.apex_machine.specs.Configuration.{Configuration}
 use Rattle.apex_types.specs.declared.record.Pair.{Pair}
 use Rattle.module_config.specs.declared.fault.ConfigFault.{ConfigFault}
@@ -14,6 +14,7 @@ use Rattle.order_run.specs.declared.proposal.ProposalFault.TheVariants as no_pro
 use Rattle.order_run.specs.Left.{Lefts}
 use Rattle.order_run.specs.Proposal.{IsProposed, ListsFirst}
 use Rattle.order_run.specs.Rows.{rows_of}
+use Rattle.report.specs.declared.fault.ArgumentFault.TheVariants.{ReaderCount}
 use Rattle.report.specs.declared.fault.CheckFault.TheVariants as fault
 use Rattle.apexorder.specs.declared.ending.Ending.{Ending}
 use Rattle.apexorder.specs.declared.ending.Ending.TheVariants.{Proposed, Refused, BadUsage, Unopened, BadRules, BadRule, Unwritten, Version, Help}
@@ -56,6 +57,20 @@ ending_of no_proposal.Output = Unwritten
 abbrev pub ending_of_words : UsageFault → Ending
 ending_of_words words.Usage = BadUsage
 ending_of_words words.Memory = Refused fault.Memory
+
+-- the end of a search over so many recordings under this configuration: by their number, unless it is that of the cores; else by a
+-- proposal, by a fault of a recording, or by an output that failed
+abbrev pub EndsUnder : Configuration → ℕ → Ending → Type 0
+EndsUnder configuration recordings (Refused (fault.Arguments which)) = (recordings ≢ configuration.cores) × (which ≡ ReaderCount)
+EndsUnder configuration recordings (Refused (fault.Input which)) = recordings ≡ configuration.cores
+EndsUnder configuration recordings (Proposed proposal) = recordings ≡ configuration.cores
+EndsUnder configuration recordings Unwritten = recordings ≡ configuration.cores
+EndsUnder configuration recordings _ = ⊥
+
+-- the end of a search over so many recordings, by what the text of the configuration is; a lack of memory outranks it
+abbrev pub EndsSearch : Result Configuration ConfigFault → ℕ → Ending → Type 0
+EndsSearch (Err which) recordings end = (end ≡ out_of_memory) ⊎ (end ≡ Refused (fault.Config which))
+EndsSearch (Ok configuration) recordings end = (end ≡ out_of_memory) ⊎ EndsUnder configuration recordings end
 
 -- the output received the first bytes of rows that begin a lawful order of the records of so many cores, and that list the first records of
 -- the recordings with these items

@@ -1,5 +1,5 @@
 -- How a run over files ends.
-use Rattle.std.specs.Prelude.{◌≡◌, ◌⊎◌, ℕ, List, Option, Some, Result, Ok, Err, is_some, map, option_map, vec_len}
+use Rattle.std.specs.Prelude.{◌≡◌, ◌⊎◌, ℕ, List, Option, Some, Result, Ok, Err, is_some, length, map, option_map, vec_len}
 use Rattle.apex_machine.specs.Configuration.{Configuration}
 use Rattle.module_config.specs.Reading.{configuration_of}
 use Rattle.record_read.specs.Row.{records_of}
@@ -16,7 +16,7 @@ use Rattle.apexorder.specs.declared.usage.Asked.{Asked}
 use Rattle.apexorder.specs.declared.usage.Asked.TheVariants as asks
 use Rattle.apexorder.specs.declared.usage.OrderAsked.{OrderAsked}
 use Rattle.apexorder.specs.declared.usage.UsageFault.{UsageFault}
-use Rattle.apexorder.specs.Endings.{HasReceived, ending_of_words, out_of_memory, refused_rules}
+use Rattle.apexorder.specs.Endings.{EndsSearch, HasReceived, ending_of_words, out_of_memory, refused_rules}
 use Rattle.asked_rules.specs.Asked.{rules_given}
 use Rattle.apexorder.specs.Ruled.{IsCertified}
 
@@ -36,6 +36,8 @@ pub record EndsAsAsked {S : Type 0} (known : S → Option (List ℕ)) (opened : 
   pub rows : HasReceived (configuration_of opened.text.items) (map (λ source. option_map records_of (known source)) opened.cores.items) before after
   -- a rules file that is refused ends the run by its first fault, unless memory is refused, and nothing is written
   pub refused : (fault : RulesFault) → rules_given (rules_text opened) ≡ Err fault → ((end ≡ out_of_memory) ⊎ (end ≡ refused_rules fault)) × (after ≡ before)
+  -- unless the rules file is refused, the search over the recordings ends it
+  pub ended : (rules : List SaidRule) → rules_given (rules_text opened) ≡ Ok rules → EndsSearch (configuration_of opened.text.items) (length opened.cores.items) end
   -- a proposal is that of the configuration, the rules and the recordings
   pub certified : (configuration : Configuration) (texts : List (List ℕ)) (rules : List SaidRule) → configuration_of opened.text.items ≡ Ok configuration
       → map known opened.cores.items ≡ map Some texts → rules_given (rules_text opened) ≡ Ok rules

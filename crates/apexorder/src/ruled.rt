@@ -1,11 +1,11 @@
 // The search under the rules of options and of a rules file.
 
-ghost use Rattle.std.specs.Prelude.{◌≡◌, ℕ, List, Ok, Some, map, option_map};
+ghost use Rattle.std.specs.Prelude.{◌≡◌, ℕ, List, Ok, Some, length, map, option_map};
 ghost use Rattle.apex_machine.specs.Configuration.{Configuration};
 ghost use Rattle.module_config.specs.Reading.{configuration_of};
 ghost use Rattle.record_read.specs.Row.{records_of};
 ghost use Rattle.rules_file.specs.Reading.{said};
-ghost use Rattle.apexorder.specs.Endings.{HasReceived, IsCertifiedBy};
+ghost use Rattle.apexorder.specs.Endings.{EndsSearch, HasReceived, IsCertifiedBy};
 ghost use Rattle.apexorder.specs.Ruled.{IsCertified};
 
 use crate::ending::{Ending, out_of_memory};
@@ -34,6 +34,7 @@ pub fn propose_ruled<S: TextSource + Drop, V: Watcher, W: Write + Drop>(
     output: &mut WriterSink<W>,
 ) -> Ending
     ensures rows { HasReceived (configuration_of text.now) (map (λ source. option_map records_of (S.remaining source)) cores.items) output.old.bytes output.new.bytes }
+    ensures ended { EndsSearch (configuration_of text.now) (length cores.items) result }
     ensures certified { (configuration : Configuration) (texts : List (List ℕ)) → configuration_of text.now ≡ Ok configuration → map S.remaining cores.items ≡ map Some texts → IsCertified configuration options.now (map said rules.now) texts output.old.bytes output.new.bytes result }
 {
     match all_relations(alloc, options, rules) {
@@ -43,6 +44,7 @@ pub fn propose_ruled<S: TextSource + Drop, V: Watcher, W: Write + Drop>(
 }
 
 // Searches for an order of these recordings, and tests these relations on it.
+#[tactic(auto, using(crate::proofs::Searched::memory_ends))]
 fn propose_under<S: TextSource + Drop, V: Watcher, W: Write + Drop>(
     alloc: Global,
     effort: u64,
@@ -53,6 +55,7 @@ fn propose_under<S: TextSource + Drop, V: Watcher, W: Write + Drop>(
     output: &mut WriterSink<W>,
 ) -> Ending
     ensures rows { HasReceived (configuration_of text.now) (map (λ source. option_map records_of (S.remaining source)) cores.items) output.old.bytes output.new.bytes }
+    ensures ended { EndsSearch (configuration_of text.now) (length cores.items) result }
     ensures certified { (configuration : Configuration) (texts : List (List ℕ)) → configuration_of text.now ≡ Ok configuration → map S.remaining cores.items ≡ map Some texts → IsCertifiedBy configuration relations.items texts output.old.bytes output.new.bytes result }
 {
     let mut rules = Vec::new(alloc);

@@ -1,13 +1,15 @@
 -- How a run ends, by what is requested.
 use Rattle.std.proofs.Common.{◌≡◌, ◌≢◌, ◌⊎◌, ◌∙◌, ℕ, Bool, List, Option, Result, Ok, Err, refl, subst, sym, inl, inr}
-use Rattle.apexview.specs.declared.ending.Ending.{Ending}
-use Rattle.apexview.specs.declared.ending.Ending.TheVariants.{BadRule, BadRules, BadUsage, Checked, Help, Unopened, Unwritten, Version}
+use Rattle.view_ending.specs.declared.ending.Ending.{Ending}
+use Rattle.view_ending.specs.declared.ending.Ending.TheVariants.{BadRule, BadRules, BadUsage, Checked, Help, Unopened, Unwritten, Version}
 use Rattle.apexview.specs.declared.usage.Asked.{Asked}
 use Rattle.apexview.specs.declared.usage.Asked.TheVariants as asks
-use Rattle.apexview.specs.declared.usage.FilesAsked.{FilesAsked}
 use Rattle.apexview.specs.declared.usage.UsageFault.{UsageFault}
-use Rattle.apexview.specs.Endings.{out_of_memory, refused_words}
-use Rattle.apexview.specs.Files.{EndsBy, IsOfFiles}
+use Rattle.shown_files.specs.declared.files.FilesAsked.{FilesAsked}
+use Rattle.shown_files.specs.Files.{IsOfFiles}
+use Rattle.view_drawing.specs.declared.viewing.ViewAsked.{ViewAsked}
+use Rattle.view_ending.specs.Endings.{out_of_memory}
+use Rattle.apexview.specs.Requests.{EndsBy, refused_words}
 
 module _ {S : Type 0} (known : S → Option (List ℕ)) (can_fail : Bool) where
   pub version_printed : (ending : Ending) → (ending ≡ Version) ⊎ (ending ≡ Unwritten) → EndsBy known can_fail (Ok asks.Version) ending
@@ -19,8 +21,8 @@ module _ {S : Type 0} (known : S → Option (List ℕ)) (can_fail : Bool) where
   help_printed ending (inr (inl unwritten)) = inl unwritten
   help_printed ending (inr (inr memory)) = inr (inl memory)
 
-  pub files_shown : (asked : FilesAsked) (ending : Ending) → IsOfFiles known can_fail asked ending → EndsBy known can_fail (Ok (asks.Files asked)) ending
-  files_shown asked ending is = inr (inr is)
+  pub files_shown : (files : FilesAsked) (view : ViewAsked) (ending : Ending) → IsOfFiles known can_fail files ending → EndsBy known can_fail (Ok (asks.Files files view)) ending
+  files_shown files view ending is = inr (inr is)
 
   pub words_refused : (fault : UsageFault) (ending : Ending) → ending ≡ refused_words fault → EndsBy known can_fail (Err fault) ending
   words_refused fault ending is = inr (inr is)

@@ -1,3 +1,1 @@
-pub mod Endings
-pub mod Files
-pub mod Shown
+pub mod Requests

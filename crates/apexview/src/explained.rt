@@ -1,9 +1,8 @@
 // The answer on standard error: its line, and why it is not Yes.
 
 ghost use Rattle.std.specs.Prelude.{◌≡◌, ◌⊎◌};
-ghost use Rattle.apexview.specs.Endings.{out_of_memory};
+ghost use Rattle.view_ending.specs.Endings.{out_of_memory};
 
-use crate::ending::{Ending, Line, out_of_memory};
 use crate::usage::{Asked, UsageFault};
 use answer_words::{Explainer, InputNames, RunFiles};
 use program_words::{Documents, Program, Refusal};
@@ -11,6 +10,7 @@ use report::Verdict;
 use std::alloc::Global;
 use std::fs::{File, Files};
 use std::rt::Env;
+use view_ending::{Ending, Line, out_of_memory};
 use wording::{Look, Words};
 
 /// Prints the line of an end, and explains it to a person. The end is the given one, or `Memory` if memory was refused to what explains
@@ -25,8 +25,8 @@ pub fn explain<R: Files<File = File> + Env + Eprint + AllocGlobal>(
     ensures { (result ≡ ending) ⊎ (result ≡ out_of_memory) }
 {
     match asked {
-        Ok(Asked::Files(asked)) => {
-            let explained = Explained::of(rt, alloc, &asked.names, &ending, explainer);
+        Ok(Asked::Files { files, .. }) => {
+            let explained = Explained::of(rt, alloc, &files.names, &ending, explainer);
             let documents = Documents::find(rt, alloc);
             if explained.lacks_memory() || documents.lacks_memory() {
                 return end_without_memory(rt);

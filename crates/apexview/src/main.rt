@@ -8,28 +8,19 @@
 #![tactic(auto)]
 
 ghost use Rattle.std.specs.Prelude.{◌≡◌};
-ghost use Rattle.apexview.specs.declared.ending.Ending.{Ending};
-ghost use Rattle.apexview.specs.Endings.{exit_status_of};
-ghost use Rattle.apexview.specs.Files.{EndsBy};
+ghost use Rattle.view_ending.specs.declared.ending.Ending.{Ending};
+ghost use Rattle.view_ending.specs.Endings.{exit_status_of};
+ghost use Rattle.apexview.specs.Requests.{EndsBy, refused_words};
 
-mod ending;
 mod explained;
-mod fault;
-mod files;
 mod of_itself;
-mod page;
-mod picture_witness;
-mod rows;
-mod shown;
-mod traced;
 mod usage;
 
 use answer_words::{Explainer, Terminal};
 use csv_rows::{TextSource, Watched};
-use ending::{Ending, conclude, refused_words, status_of};
 use explained::explain;
-use files::show_files;
 use of_itself::{print_help, print_version};
+use shown_files::show_files;
 use sink::{Sink, WriterSink};
 use std::alloc::Global;
 use std::fs::{File, Files};
@@ -40,6 +31,7 @@ use std::rt::Env;
 use std::sync::Wait;
 use std::thread::Threads;
 use usage::{Asked, UsageFault, from_words};
+use view_ending::{Ending, conclude, out_of_memory, status_of};
 
 fn main(rt: HostRuntime) -> ExitCode {
     let alloc = rt.alloc();
@@ -84,7 +76,19 @@ where
     match asked {
         Ok(Asked::Version) => print_version(output),
         Ok(Asked::Help) => print_help(rt, alloc, output),
-        Ok(Asked::Files(asked)) => show_files(rt, alloc, asked, explainer, output),
+        Ok(Asked::Files { files, view }) => {
+            show_files(rt, alloc, files, view, explainer, output)
+        }
         Err(fault) => refused_words(*fault),
+    }
+}
+
+// The end by a refusal of the command line. A lack of memory counts as the check's own.
+fn refused_words(fault: UsageFault) -> Ending
+    ensures { result ≡ refused_words fault }
+{
+    match fault {
+        UsageFault::Usage => Ending::BadUsage,
+        UsageFault::Memory => out_of_memory(),
     }
 }

@@ -1,14 +1,14 @@
 // What the program prints of itself on standard output.
 
 ghost use Rattle.std.specs.Prelude.{◌≡◌, ◌⊎◌};
-ghost use Rattle.apexview.specs.declared.ending.Ending.TheVariants.{Help, Unwritten, Version};
-ghost use Rattle.apexview.specs.Endings.{out_of_memory};
+ghost use Rattle.view_ending.specs.declared.ending.Ending.TheVariants.{Help, Unwritten, Version};
+ghost use Rattle.view_ending.specs.Endings.{out_of_memory};
 
-use crate::ending::{Ending, out_of_memory};
 use program_words::{Documents, Program, help};
 use sink::{Sink, put_all};
 use std::alloc::Global;
 use std::fs::Files;
+use view_ending::{Ending, out_of_memory};
 
 /// Prints the version.
 pub fn print_version<W: Sink>(output: &mut W) -> Ending

@@ -5,9 +5,11 @@ use clap::error::ErrorKind;
 use clap::{Arg, ArgAction, ArgMatches, Command};
 use csv_rows::read_decimal;
 use rule_options::RuleOptions;
+use shown_files::FilesAsked;
 use std::alloc::{AllocError, Global};
 use std::rt::Env;
 use std::{env, io};
+use view_drawing::{Format, ViewAsked};
 
 /// How many records a picture shows before its end: if `--span` is omitted, and at most.
 const USUAL_SPAN: usize = 200;
@@ -17,14 +19,6 @@ const LONGEST_SPAN: u64 = 5_000;
 /// The greatest place.
 const LAST_PLACE: u64 = u64::MAX / 4;
 
-/// What is written.
-#[derive(Clone, Copy, Debug, PartialEq, Eq)]
-pub enum Format {
-    Html,
-    Svg,
-    Trace,
-}
-
 /// What the command line requests.
 #[derive(Debug, Drop)]
 pub enum Asked {
@@ -32,20 +26,8 @@ pub enum Asked {
     Version,
     /// The one word is `--help` or `-h`.
     Help,
-    /// A recording should be shown.
-    Files(FilesAsked),
-}
-
-/// A recording that should be shown, as the command line requests it.
-#[derive(Debug, Drop)]
-pub struct FilesAsked {
-    pub names: InputNames,
-    pub options: RuleOptions,
-    pub format: Format,
-    /// The last place that the picture may show with its states.
-    pub at: Option<u64>,
-    /// How many records before its end it shows.
-    pub span: usize,
+    /// These files of a run should be shown, in this way.
+    Files { files: FilesAsked, view: ViewAsked },
 }
 
 /// Why a command line requests nothing that can be done.
@@ -72,11 +54,12 @@ fn read_words(alloc: Global, words: &[String]) -> Result<Asked, UsageFault> {
     match words {
         [_, word] if word.as_str() == "--version" => Ok(Asked::Version),
         [_, word] if word.as_str() == "--help" || word.as_str() == "-h" => Ok(Asked::Help),
-        words => Ok(Asked::Files(files_asked(alloc, words)?)),
+        words => read_files(alloc, words),
     }
 }
 
-fn files_asked(alloc: Global, words: &[String]) -> Result<FilesAsked, UsageFault> {
+// Reads which files of a run should be shown, and how.
+fn read_files(alloc: Global, words: &[String]) -> Result<Asked, UsageFault> {
     let Ok(command) = command(alloc) else {
         return Err(UsageFault::Memory);
     };
@@ -89,14 +72,26 @@ fn files_asked(alloc: Global, words: &[String]) -> Result<FilesAsked, UsageFault
             };
         }
     };
-    let max_elapsed = bytes_of(&matches, "max-elapsed");
-    let forbidden = bytes_of(&matches, "forbid");
+    Ok(Asked::Files {
+        files: files_of(alloc, &matches)?,
+        view: view_of(&matches)?,
+    })
+}
+
+fn files_of(alloc: Global, matches: &ArgMatches<'_>) -> Result<FilesAsked, UsageFault> {
+    let max_elapsed = bytes_of(matches, "max-elapsed");
+    let forbidden = bytes_of(matches, "forbid");
     Ok(FilesAsked {
-        names: file_names(alloc, &matches)?,
+        names: file_names(alloc, matches)?,
         options: RuleOptions::read(max_elapsed, forbidden).ok_or(UsageFault::Usage)?,
-        format: format_of(&matches)?,
-        at: at_of(&matches)?,
-        span: span_of(&matches)?,
+    })
+}
+
+fn view_of(matches: &ArgMatches<'_>) -> Result<ViewAsked, UsageFault> {
+    Ok(ViewAsked {
+        format: format_of(matches)?,
+        at: at_of(matches)?,
+        span: span_of(matches)?,
     })
 }
 

@@ -6,9 +6,9 @@ use Rattle.apex_types.specs.declared.operation.{QueuingOperation.QueuingOperatio
 use Rattle.apex_types.specs.declared.record.Body.TheVariants.{Call}
 use Rattle.apex_types.specs.declared.record.Call.{Call as CallRecord}
 use Rattle.apex_types.specs.declared.request.Request.TheVariants as request
+use Rattle.apex_types.specs.declared.shape.End.TheVariants.{Senders, Receivers}
 use Rattle.apex_machine.specs.declared.state.Entry.{Entry}
 use Rattle.apex_machine.specs.declared.state.WaitingSet.{WaitingSet}
-use Rattle.apex_machine.specs.declared.state.WaitingSet.TheVariants as set
 use Rattle.apex_machine.specs.Demands.{AllHold, answer_demands, has_entry_in, through_demands}
 use Rattle.apex_machine.specs.Configuration.{Configuration}
 use Rattle.apex_machine.specs.Waiting.{is_waiting, set_after}
@@ -26,6 +26,7 @@ use Rattle.wait_set.specs.Sets.{IsNewInEach}
 use Rattle.wait_set.proofs.Calls.{no_place, set_joined, set_left}
 use Rattle.wait_set.proofs.Leaving.{without-unnamed}
 use Rattle.wait_set.proofs.Tests.{neither_first, neither_later}
+use Rattle.apex_machine.specs.State.{channel_set}
 
 -- a test and one that holds
 and_true : (b : Bool) → (b && true) ≡ b
@@ -59,26 +60,26 @@ queuing_demanded now number source destination queue call held port (QueuingOper
 -- who waits to send after an operation
 senders_after : (number place : ℕ) (queue : Queue) (call : CallRecord) (port : ℤ) (operation : QueuingOperation)
     → call.request ≡ request.QueuingPort port operation → call.claim.chan ≡ Some number → AreBeforePlace place queue.senders.entries
-    → set_after place (Call call) (set.ChannelSenders number) queue.senders.entries
+    → set_after place (Call call) (channel_set number Senders) queue.senders.entries
     ≡ (queue_after (caller_of place call) operation call.claim queue).senders.entries
 senders_after number place queue call port (QueuingOperation.Send length time_out message) asked through before =
-    set_joined place call (set.ChannelSenders number) queue.senders.entries (rw asked refl) (rw asked refl) before
+    set_joined place call (channel_set number Senders) queue.senders.entries (rw asked refl) (rw asked refl) before
     (rw (asked, through, same_number number) (and_true (is_waiting call.claim.out)))
     ∙ ap (λ bytes. joined_by (caller_of place call) call.claim bytes queue.senders.entries) (rw asked refl)
 senders_after number place queue call port (QueuingOperation.Receive time_out) asked through before =
-    set_left place call (set.ChannelSenders number) queue.senders.entries (rw asked refl) (rw asked refl)
-    (rw (asked, through) (and_false (is_waiting call.claim.out)))
+    set_left place call (channel_set number Senders) queue.senders.entries (rw asked refl) (rw asked refl)
+    (rw (asked, through, same_number number) (and_false (is_waiting call.claim.out)))
 
 -- who waits to receive after an operation
 receivers_after : (number place : ℕ) (queue : Queue) (call : CallRecord) (port : ℤ) (operation : QueuingOperation)
     → call.request ≡ request.QueuingPort port operation → call.claim.chan ≡ Some number → AreBeforePlace place queue.receivers.entries
-    → set_after place (Call call) (set.ChannelReceivers number) queue.receivers.entries
+    → set_after place (Call call) (channel_set number Receivers) queue.receivers.entries
     ≡ (queue_after (caller_of place call) operation call.claim queue).receivers.entries
 receivers_after number place queue call port (QueuingOperation.Send length time_out message) asked through before =
-    set_left place call (set.ChannelReceivers number) queue.receivers.entries (rw asked refl) (rw asked refl)
-    (rw (asked, through) (and_false (is_waiting call.claim.out)))
+    set_left place call (channel_set number Receivers) queue.receivers.entries (rw asked refl) (rw asked refl)
+    (rw (asked, through, same_number number) (and_false (is_waiting call.claim.out)))
 receivers_after number place queue call port (QueuingOperation.Receive time_out) asked through before =
-    set_joined place call (set.ChannelReceivers number) queue.receivers.entries (rw asked refl) (rw asked refl) before
+    set_joined place call (channel_set number Receivers) queue.receivers.entries (rw asked refl) (rw asked refl) before
     (rw (asked, through, same_number number) (and_true (is_waiting call.claim.out)))
     ∙ ap (λ bytes. joined_by (caller_of place call) call.claim bytes queue.receivers.entries) (rw asked refl)
 
@@ -124,7 +125,7 @@ pub asked_after : (result : Result (Unit {0}) ObjFault) (now number place source
 asked_after result now number place source destination queue call held port seen asked = rw (← seen)
     (λ through. on_ok_weaker result (λ holds configuration is.
     of_three (queuing_held number source destination queue) _ _ _ _ _ _ (rw (asked, through, same_number number) refl)
-    (stays (set.ChannelSenders number) queue.senders.entries holds) (stays (set.ChannelReceivers number) queue.receivers.entries holds)))
+    (stays (channel_set number Senders) queue.senders.entries holds) (stays (channel_set number Receivers) queue.receivers.entries holds)))
   where
     stays : (wanted : WaitingSet) (entries : List Entry) → AllHold (asked_demands source destination call.who.part queue call.claim)
         → entries ≡ set_after place (Call call) wanted entries

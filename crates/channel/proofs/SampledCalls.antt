@@ -5,12 +5,12 @@ use Rattle.apex_types.specs.declared.operation.{SamplingOperation.SamplingOperat
 use Rattle.apex_types.specs.declared.record.Body.TheVariants.{Call}
 use Rattle.apex_types.specs.declared.record.Call.{Call as CallRecord}
 use Rattle.apex_types.specs.declared.request.Request.TheVariants as request
+use Rattle.apex_types.specs.declared.shape.End.TheVariants.{Senders, Receivers}
 use Rattle.apex_machine.specs.declared.state.WaitingSet.{WaitingSet}
-use Rattle.apex_machine.specs.declared.state.WaitingSet.TheVariants as set
 use Rattle.apex_machine.specs.After.{content_by}
 use Rattle.apex_machine.specs.Configuration.{Configuration}
 use Rattle.apex_machine.specs.Demands.{answer_demands, through_demands}
-use Rattle.apex_machine.specs.State.{Sampled, Stamped}
+use Rattle.apex_machine.specs.State.{Sampled, Stamped, channel_set}
 use Rattle.apex_machine.specs.Waiting.{is_waiting, set_after}
 use Rattle.channel.specs.declared.sampling.SamplingChannel.{SamplingChannel}
 use Rattle.channel.specs.Held.{Held, IsAfterCall, IsConfigured}
@@ -51,5 +51,5 @@ sampling_after result now number place channel next call held port operation see
     (λ through. on_ok_weaker result (λ next_is. rw next_is
     (λ configuration is. of_three (sampling_held number channel.refresh channel.last) _ _ _ _ _ _
     (content_after configuration now number channel.refresh channel.last call port operation asked through)
-    (sym (stay_empty place call port operation (set.ChannelSenders number) asked))
-    (sym (stay_empty place call port operation (set.ChannelReceivers number) asked)))))
+    (sym (stay_empty place call port operation (channel_set number Senders) asked))
+    (sym (stay_empty place call port operation (channel_set number Receivers) asked)))))

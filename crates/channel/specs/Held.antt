@@ -6,14 +6,14 @@ use Rattle.apex_types.specs.declared.discipline.Discipline.{Discipline}
 use Rattle.apex_types.specs.declared.record.Body.TheVariants.{Call}
 use Rattle.apex_types.specs.declared.record.Call.{Call as CallRecord}
 use Rattle.apex_types.specs.declared.record.Who.{Who}
-use Rattle.apex_machine.specs.declared.state.WaitingSet.TheVariants as set
+use Rattle.apex_types.specs.declared.shape.End.TheVariants.{Senders, Receivers}
 use Rattle.apex_machine.specs.After.{content_by}
 use Rattle.apex_machine.specs.Answer.{Answer}
 use Rattle.apex_machine.specs.Channels.{capacity_of, is_at_destination, is_at_source, receiving_discipline, refresh_of, sending_discipline}
 use Rattle.apex_machine.specs.Configuration.{Configuration}
 use Rattle.apex_machine.specs.Demands.{AllHold, Judges, through_demands}
 use Rattle.apex_machine.specs.Ports.{channel_effect, suits_use, use_of}
-use Rattle.apex_machine.specs.State.{Channel}
+use Rattle.apex_machine.specs.State.{Channel, channel_set}
 use Rattle.apex_machine.specs.Waiting.{set_after, without}
 use Rattle.wait_set.specs.declared.object.ObjFault.{ObjFault}
 use Rattle.wait_set.specs.Actors.{Refuses}
@@ -87,8 +87,8 @@ RefusesCall now call held fault =
 abbrev pub called : Configuration → ℕ → ℕ → CallRecord → Held → Channel
 called configuration place now call held = record {
   content = content_by configuration now held.number (Call call) held.channel;
-  senders = set_after place (Call call) (set.ChannelSenders held.number) held.channel.senders;
-  receivers = set_after place (Call call) (set.ChannelReceivers held.number) held.channel.receivers;
+  senders = set_after place (Call call) (channel_set held.number Senders) held.channel.senders;
+  receivers = set_after place (Call call) (channel_set held.number Receivers) held.channel.receivers;
 }
 
 -- a channel is as a call through it leaves it, whichever configuration gives its settings; its number and its settings stay

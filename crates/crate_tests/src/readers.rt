@@ -1,6 +1,5 @@
 // A recording and a certificate whose readers fail in mid-stream.
 
-use crate::texts::{BOTH, CONFIG, MODULE, ORDER, RECEIVER, RECORDING, SENDER};
 use csv_rows::Watched;
 use order_cert::CertFault;
 use placement::InputFault;
@@ -12,6 +11,7 @@ use std::io::{ErrorKind, Read};
 use std::sync::Wait;
 use std::test::Fail;
 use std::thread::Threads;
+use test_runs::{BOTH, CONFIG, MODULE, ORDER, RECEIVER, RECORDING, SENDER};
 
 // Gives its text at most `step` bytes at a time. Each read past the first `given` bytes fails.
 #[derive(Clone, Copy)]

@@ -3,8 +3,6 @@
 ghost use Rattle.std.specs.Prelude.{◌≤◌};
 ghost use Rattle.apex_types.specs.declared.limits.TheConstants.{LARGEST_ROUND};
 
-use crate::gates::{Meeting, reaches};
-use crate::texts::{BOTH, CONFIG, MODULE, RECEIVER, SENDER, asking, in_turn};
 use crate::verdicts::SETTINGS;
 use apex_types::limits::LARGEST_ROUND;
 use csv_rows::Watched;
@@ -14,6 +12,7 @@ use std::io::{Cursor, ErrorKind, Read};
 use std::sync::Arc;
 use std::sync::atomic::{AtomicUsize, Ordering};
 use std::test::Fail;
+use test_runs::{BOTH, CONFIG, MODULE, Meeting, RECEIVER, SENDER, asking, in_turn, reaches};
 
 // What is expected of the message from one partition to another.
 const SENT: Verdict = Verdict::Yes { records: 23 };

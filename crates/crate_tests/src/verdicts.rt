@@ -1,8 +1,5 @@
 // The verdict at once, without rounds, and the last records before a No.
 
-use crate::records::{config_of, records_of};
-use crate::ruled::rule;
-use crate::texts::{CONFIG, MISSED, ORDER, RECORDING};
 use crate::writers::Narrow;
 use apex_types::{Cause, CoreId, Field, Place};
 use record_read::Kind;
@@ -15,6 +12,7 @@ use std::alloc::{AllocError, Global};
 use std::sync::Wait;
 use std::test::Fail;
 use std::thread::Threads;
+use test_runs::{CONFIG, MISSED, ORDER, RECORDING, config_of, records_of, rule};
 use user_rules::{Relation, Rule};
 use verdict_merge::check_plain;
 
@@ -123,6 +121,33 @@ fn a_recording_is_judged_at_once(rt: HostRuntime) -> Result<(), Fail> {
     Ok(())
 }
 
+// The recording of the wait under these rules, by `check`.
+fn by_check<T>(
+    rt: T,
+    alloc: Global,
+    rules: &[Rule],
+    settings: Settings,
+) -> Result<Result<Verdict, CheckFault>, AllocError>
+where
+    T: Threads + Wait + Sync + Copy + Send + 'static,
+{
+    let readers = vec![in alloc; RECORDING.as_bytes()]?;
+    Ok(check(rt, alloc, CONFIG, readers, ORDER, rules, settings, &Open))
+}
+
+// The same, by `check_in_rounds`.
+fn in_rounds<T>(
+    rt: T,
+    alloc: Global,
+    rules: &[Rule],
+) -> Result<Result<Verdict, CheckFault>, AllocError>
+where
+    T: Threads + Wait + Sync + Copy + Send + 'static,
+{
+    let readers = vec![in alloc; RECORDING.as_bytes()]?;
+    Ok(check_in_rounds(rt, alloc, CONFIG, readers, ORDER, rules, SETTINGS, &Open, 5))
+}
+
 // Each of the calls under the rule that no call takes more than this many ticks until its return. One call of the recording takes three.
 #[test]
 fn each_call_tests_rules(rt: HostRuntime) -> Result<(), Fail> {
@@ -135,13 +160,9 @@ fn each_call_tests_rules(rt: HostRuntime) -> Result<(), Fail> {
     for (ticks, verdict) in [(2i64, broken), (3, WAITED)] {
         let relation = Relation::Less(Field::Elapsed, ticks + 1);
         let rules = vec![in alloc; rule!(alloc, relation)]?;
-        let readers = vec![in alloc; RECORDING.as_bytes()]?;
-        let answer = check(rt, alloc, CONFIG, readers, ORDER, &rules, SETTINGS, &Open);
+        let answer = by_check(rt, alloc, &rules, SETTINGS)?;
         assert_eq!(rt; answer, Ok(verdict), "check");
-        let readers = vec![in alloc; RECORDING.as_bytes()]?;
-        let answer = check_in_rounds(
-            rt, alloc, CONFIG, readers, ORDER, &rules, SETTINGS, &Open, 5,
-        );
+        let answer = in_rounds(rt, alloc, &rules)?;
         assert_eq!(rt; answer, Ok(verdict), "check_in_rounds");
         let answer = with_last(rt, alloc, RECORDING, &rules, &mut last)?;
         assert_eq!(rt; answer, Ok(verdict), "check_with_last");
@@ -161,12 +182,10 @@ fn many_rules_find_what_one_finds(rt: HostRuntime) -> Result<(), Fail> {
             rules.push(rule!(alloc, Relation::Less(Field::Elapsed, 4)))?;
         }
         let settings = Settings { workers, depth: 4 };
-        let readers = vec![in alloc; RECORDING.as_bytes()]?;
-        let answer = check(rt, alloc, CONFIG, readers, ORDER, &rules, settings, &Open);
+        let answer = by_check(rt, alloc, &rules, settings)?;
         assert_eq!(rt; answer, Ok(WAITED), "rules: {others}, workers: {workers}");
         rules.push(rule!(alloc, Relation::Less(Field::Elapsed, 3)))?;
-        let readers = vec![in alloc; RECORDING.as_bytes()]?;
-        let answer = check(rt, alloc, CONFIG, readers, ORDER, &rules, settings, &Open);
+        let answer = by_check(rt, alloc, &rules, settings)?;
         let broken = Verdict::Broken {
             pos: Place::new(13),
             rule: others,

@@ -1,12 +1,12 @@
 // Writers that fail in mid-line, instead of standard output.
 
-use crate::texts::{CONFIG, ORDER, RECORDING};
 use crate::verdicts::SETTINGS;
 use report::{Open, check, write_report};
 use sink::{WriteFault, WriterSink};
 use std::io;
 use std::io::{ErrorKind, Write};
 use std::test::Fail;
+use test_runs::{CONFIG, ORDER, RECORDING};
 
 // Takes two bytes at a time, while it has room.
 #[derive(Drop)]

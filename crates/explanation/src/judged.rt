@@ -19,15 +19,9 @@ pub fn tell_basis(words: &mut Words, state: &PartitionState, now: u64, call: &Ca
             tell_target(words, state, call.who, *process, operation);
         }
         Request::Caller(operation) => tell_time(words, state, now, call.who.proc, operation),
-        Request::Buffer(buffer, _) => tell_object(words, state, ObjectKind::Buffer, *buffer),
-        Request::Blackboard(blackboard, _) => {
-            tell_object(words, state, ObjectKind::Blackboard, *blackboard);
+        Request::Object(number, operation) => {
+            tell_object(words, state, operation.kind(), *number);
         }
-        Request::Semaphore(semaphore, _) => {
-            tell_object(words, state, ObjectKind::Semaphore, *semaphore);
-        }
-        Request::Event(event, _) => tell_object(words, state, ObjectKind::Event, *event),
-        Request::Mutex(mutex, _) => tell_object(words, state, ObjectKind::Mutex, *mutex),
         Request::GetId(kind, name) => {
             if let Some(number) = state.number_of(*kind, name) {
                 tell_object(words, state, *kind, i64::from(number));
@@ -52,11 +46,7 @@ pub fn tell_holder(words: &mut Words, state: &PartitionState, call: &Call) {
         Request::Process(..)
         | Request::Caller(_)
         | Request::SetPartitionMode(..)
-        | Request::Buffer(..)
-        | Request::Blackboard(..)
-        | Request::Semaphore(..)
-        | Request::Event(..)
-        | Request::Mutex(..)
+        | Request::Object(..)
         | Request::SamplingPort(..)
         | Request::QueuingPort(..)
         | Request::GetId(..)

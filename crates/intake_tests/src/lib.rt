@@ -4,7 +4,7 @@
 //!
 //! Promises nothing: the crate contains only tests.
 //!
-//! The tests go by public calls. No crate has tests but this one, `part_tests` and `crate_tests`.
+//! The tests go by public calls. `crate_tests` lists the other crates that have tests.
 #![tactic(auto)]
 
 #[cfg(test)]

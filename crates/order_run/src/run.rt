@@ -1,6 +1,6 @@
 // The records of an order, put one after another.
 
-ghost use Rattle.std.specs.Prelude.{◌≡◌, ◌<◌, ◌++◌, ◌∷◌, [], ℕ, suc, List, None, IfOk, IfSome, OnErr, OnOk, length};
+ghost use Rattle.std.specs.Prelude.{◌≡◌, ◌<◌, ◌+◌, ◌++◌, ◌∷◌, [], ℕ, suc, List, None, IfOk, IfSome, OnErr, OnOk, length};
 ghost use Rattle.apex_machine.specs.Configuration.{Configuration};
 ghost use Rattle.apex_machine.specs.Runs.{ArePlaced};
 ghost use Rattle.apex_types.specs.declared.record.Ordered.{Ordered};
@@ -19,7 +19,7 @@ use crate::base::Base;
 use crate::proposal::{BrokenRule, Proposal, ProposalFault};
 use crate::rows::add_row;
 use apex_types::limits::LARGEST_ROUND;
-use apex_types::{CoreId, Ordered, Record};
+use apex_types::{CoreId, Ordered, Place, Record};
 use module_config::Config;
 use order_cert::Keeper;
 use placement::InputFault;
@@ -174,9 +174,18 @@ fn broken_in(records: &[Ordered], breach: Option<Breach>) -> Option<BrokenRule>
 {
     match breach {
         Some(one) => Some(BrokenRule {
-            pos: records[one.seen.index].pos,
+            pos: place_of_record(records, one.seen.index),
             rule: one.rule,
         }),
         None => None,
     }
+}
+
+// The place of the record of this index.
+#[tactic(auto, using(piece_check::proofs::Reaching::placed_at))]
+fn place_of_record(records: &[Ordered], index: usize) -> Place
+    requires { index < length records.now }
+    ensures { (first : ℕ) → ArePlaced first records.now → result ≡ first + index }
+{
+    records[index].pos
 }

@@ -1,3 +1,2 @@
 pub mod Opened
 mod Outcomes
-mod Tip

@@ -4,20 +4,13 @@
 //! machine at the tip decides how often an order is found, and nothing else.
 #![tactic(auto)]
 
-mod blame;
-mod checkpoints;
 mod exploration;
 mod guided;
-mod held;
+mod known_answers;
 mod laws;
 mod machine;
 mod outlook;
-mod pieces;
 mod proposing;
-mod reach;
-mod rivals;
-mod things;
-mod tip_piece;
 mod undecided;
 mod watcher;
 

@@ -3,11 +3,7 @@
 ghost use Rattle.std.specs.Prelude.{◌≡◌, ◌<◌, IfOk, OnOk, length};
 ghost use Rattle.order_run.specs.Left.{IsTaken};
 
-use crate::blame::blame;
-use crate::checkpoints::{Checkpoint, Checkpoints};
-use crate::pieces::{Pieces, Rejection};
-use crate::reach::{Reach, is_free, reaches, touched};
-use crate::rivals::rivals_of;
+use crate::known_answers::KnownAnswers;
 use crate::undecided::Undecided;
 use apex_types::limits::PLACE_COUNT;
 use apex_types::{Body, Cause, Ordered, Place, Record};
@@ -17,18 +13,10 @@ use order_run::Lanes;
 use order_search::{Answer, Rivals};
 use placement::PlacingFault;
 use std::alloc::{AllocError, Global};
-
-/// How many records are taken between two checkpoints.
-const BETWEEN_CHECKPOINTS: u64 = 512;
-
-// What is known of a core's next record.
-#[derive(Clone, Copy, Debug)]
-struct Known {
-    // What the pieces say of it, if that is known.
-    answer: Option<Answer>,
-    // Whether it was rejected because of the skew.
-    is_skewed: bool,
-}
+use tip_pieces::{
+    Checkpoint, Checkpoints, Pieces, Reach, Rejection, TipState, blame, is_free, is_tick, reaches,
+    rivals_of, touched,
+};
 
 /// The recordings, the pieces at the tip, and what is known of each core's next record.
 #[derive(Drop)]
@@ -37,14 +25,10 @@ pub struct Outlook<'a, R: TextSource> {
     pub(crate) lanes: Lanes<R>,
     // How many records of each core were handed out.
     handed_out: Vec<u64>,
-    pieces: Pieces<'a>,
-    // How many records of each core are taken, and the time of each core.
-    counts: Vec<u64>,
-    times: Vec<u64>,
-    known: Vec<Known>,
+    state: TipState<'a>,
+    known: KnownAnswers,
     reaches: Vec<Reach>,
     checkpoints: Checkpoints<'a>,
-    since_checkpoint: u64,
     // Why a recording could not be read on, if that was so.
     fault: Option<PlacingFault>,
 }
@@ -59,21 +43,14 @@ impl<'a, R: TextSource + Drop> Outlook<'a, R> {
         ensures { IfOk result (λ outlook. outlook.lanes ≡ lanes) }
     {
         let cores = lanes.count();
-        let known = Known {
-            answer: None,
-            is_skewed: false,
-        };
         Ok(Outlook {
             alloc,
             lanes,
             handed_out: vec![in alloc; 0u64; cores]?,
-            pieces: Pieces::start(alloc, config)?,
-            counts: vec![in alloc; 0u64; cores]?,
-            times: vec![in alloc; 0u64; cores]?,
-            known: vec![in alloc; known; cores]?,
+            state: TipState::start(alloc, config, cores)?,
+            known: KnownAnswers::none(alloc, cores)?,
             reaches: reaches(alloc, config)?,
             checkpoints: Checkpoints::new(alloc),
-            since_checkpoint: 0,
             fault: None,
         })
     }
@@ -102,19 +79,19 @@ impl<'a, R: TextSource + Drop> Outlook<'a, R> {
 
     /// The pieces.
     pub fn pieces(&self) -> &Pieces<'a> {
-        &self.pieces
+        self.state.pieces()
     }
 
     /// A core's next record with the piece that rejects it, if one does.
     pub fn rejected(&self, core: usize) -> Option<(&Ordered, Rejection)> {
         let ordered = self.next_record(core)?;
-        let rejection = self.pieces.rejection(ordered)?;
+        let rejection = self.pieces().rejection(ordered)?;
         Some((ordered, rejection))
     }
 
     // Which of a core's records that are ahead is its next one.
     fn index(&self, core: usize) -> usize {
-        let taken = self.counts.get(core).copied().unwrap_or(0);
+        let taken = self.state.taken(core);
         let handed_out = self.handed_out.get(core).copied().unwrap_or(0);
         taken.saturating_sub(handed_out) as usize
     }
@@ -158,7 +135,7 @@ impl<'a, R: TextSource + Drop> Outlook<'a, R> {
     pub fn judge(&mut self, core: usize, place: u64) -> Result<Answer, AllocError>
         ensures { OnOk result (self.new.lanes ≡ self.old.lanes) }
     {
-        if let Some(answer) = self.known_answer(core) {
+        if let Some(answer) = self.known.get(core) {
             return Ok(answer);
         }
         let is_ahead = self.look(core, place)?;
@@ -171,18 +148,8 @@ impl<'a, R: TextSource + Drop> Outlook<'a, R> {
         ensures { self.new.lanes ≡ self.old.lanes }
     {
         let (answer, is_skewed) = self.answer(core, is_ahead);
-        if core < self.known.len() {
-            self.known[core] = Known {
-                answer: Some(answer),
-                is_skewed,
-            };
-        }
+        self.known.note(core, answer, is_skewed);
         answer
-    }
-
-    // What the pieces say of a core's next record, if that is known.
-    fn known_answer(&self, core: usize) -> Option<Answer> {
-        self.known.get(core)?.answer
     }
 
     // What the pieces say of a core's next record, and whether one rejects it because of the skew.
@@ -193,7 +160,7 @@ impl<'a, R: TextSource + Drop> Outlook<'a, R> {
         let Some(ordered) = self.next_record(core) else {
             return (Answer::Ended, false);
         };
-        match self.pieces.rejection(ordered) {
+        match self.pieces().rejection(ordered) {
             Some(rejection) => (Answer::Refused, rejection.cause == Cause::Skew),
             None => (self.accepted(core, &ordered.rec.body), false),
         }
@@ -206,7 +173,7 @@ impl<'a, R: TextSource + Drop> Outlook<'a, R> {
         }
         Answer::Shared {
             is_tick: is_tick(body),
-            time: self.times.get(core).copied().unwrap_or(0),
+            time: self.state.time(core),
         }
     }
 
@@ -234,47 +201,22 @@ impl<'a, R: TextSource + Drop> Outlook<'a, R> {
         let Some(ordered) = self.lanes.get(core, index) else {
             return Ok(false);
         };
-        if !self.pieces.take(ordered)? {
-            return Ok(false);
-        }
         let is_tick = is_tick(&ordered.rec.body);
         let is_free = is_free(&self.reaches, &ordered.rec.body);
-        self.count(core, is_tick);
-        self.forget_answers(core, is_tick, is_free);
+        if !self.state.take(core, ordered)? {
+            return Ok(false);
+        }
+        self.known.forget(core, is_tick, is_free);
         Ok(true)
-    }
-
-    // Counts a record of a core.
-    fn count(&mut self, core: usize, is_tick: bool)
-        ensures { self.new.lanes ≡ self.old.lanes }
-    {
-        raise(&mut self.counts, core);
-        if is_tick {
-            raise(&mut self.times, core);
-        }
-    }
-
-    // Forgets the answers that a taken record may change.
-    fn forget_answers(&mut self, core: usize, is_tick: bool, is_free: bool)
-        ensures { self.new.lanes ≡ self.old.lanes }
-    {
-        for other in 0..self.known.len() {
-            if let Some(known) = self.known.get_mut(other) {
-                if other == core || !is_free || is_tick && known.is_skewed {
-                    known.answer = None;
-                }
-            }
-        }
     }
 
     /// Keeps a checkpoint of this level, unless there is a recent one.
     pub fn keep_some(&mut self, level: u64, decided: u64) -> Result<(), AllocError>
         ensures { self.new.lanes ≡ self.old.lanes }
     {
-        if self.checkpoints.is_empty() || self.since_checkpoint >= BETWEEN_CHECKPOINTS {
+        if self.checkpoints.is_due() {
             return self.keep(level, decided);
         }
-        self.since_checkpoint = self.since_checkpoint.saturating_add(1);
         Ok(())
     }
 
@@ -282,14 +224,8 @@ impl<'a, R: TextSource + Drop> Outlook<'a, R> {
     pub fn keep(&mut self, level: u64, decided: u64) -> Result<(), AllocError>
         ensures { self.new.lanes ≡ self.old.lanes }
     {
-        self.since_checkpoint = 0;
-        let checkpoint = Checkpoint {
-            level,
-            pieces: self.pieces.copy(self.alloc)?,
-            counts: self.counts.clone()?,
-            times: self.times.clone()?,
-        };
-        self.checkpoints.keep(checkpoint, decided)
+        let state = self.state.copy(self.alloc)?;
+        self.checkpoints.keep(Checkpoint { level, state }, decided)
     }
 
     /// Goes back to this level by way of a checkpoint, and returns how many records were taken again.
@@ -298,7 +234,7 @@ impl<'a, R: TextSource + Drop> Outlook<'a, R> {
     {
         let from = self.restore(level)?;
         self.take_again(undecided, from, level)?;
-        self.forget_all_answers();
+        self.known.forget_all();
         Ok(level.saturating_sub(from))
     }
 
@@ -318,17 +254,6 @@ impl<'a, R: TextSource + Drop> Outlook<'a, R> {
         Ok(())
     }
 
-    // Forgets every answer.
-    fn forget_all_answers(&mut self)
-        ensures { self.new.lanes ≡ self.old.lanes }
-    {
-        for core in 0..self.known.len() {
-            if let Some(known) = self.known.get_mut(core) {
-                known.answer = None;
-            }
-        }
-    }
-
     // Goes back to the last checkpoint of at most this level, and returns its level.
     fn restore(&mut self, level: u64) -> Result<u64, AllocError>
         ensures { self.new.lanes ≡ self.old.lanes }
@@ -338,13 +263,8 @@ impl<'a, R: TextSource + Drop> Outlook<'a, R> {
             return Err(AllocError);
         };
         let from = checkpoint.level;
-        let pieces = checkpoint.pieces.copy(self.alloc)?;
-        let counts = checkpoint.counts.clone()?;
-        let times = checkpoint.times.clone()?;
-        self.pieces = pieces;
-        self.counts = counts;
-        self.times = times;
-        self.since_checkpoint = 0;
+        let state = checkpoint.state.copy(self.alloc)?;
+        self.state = state;
         Ok(from)
     }
 
@@ -386,11 +306,16 @@ impl<'a, R: TextSource + Drop> Outlook<'a, R> {
         let Some(ordered) = self.next_record(core) else {
             return Ok(());
         };
-        let Some(rejection) = self.pieces.rejection(ordered) else {
+        let Some(rejection) = self.pieces().rejection(ordered) else {
             return Ok(());
         };
-        let time = self.times.get(core).copied().unwrap_or(0);
-        blame(&self.pieces, ordered, time, rejection, things)
+        blame(
+            self.pieces(),
+            ordered,
+            self.state.time(core),
+            rejection,
+            things,
+        )
     }
 
     /// Names two records because of whose order a core's next record is rejected, if the pieces can tell.
@@ -407,8 +332,8 @@ impl<'a, R: TextSource + Drop> Outlook<'a, R> {
     // Names two records because of whose order a core's next record, which is read, is rejected, if the pieces can tell.
     fn rivals_next(&self, core: usize) -> Option<Rivals> {
         let ordered = self.next_record(core)?;
-        let rejection = self.pieces.rejection(ordered)?;
-        rivals_of(&self.pieces, ordered, rejection)
+        let rejection = self.pieces().rejection(ordered)?;
+        rivals_of(self.pieces(), ordered, rejection)
     }
 }
 
@@ -417,9 +342,4 @@ fn raise(numbers: &mut Vec<u64>, core: usize) {
     if core < numbers.len() {
         numbers[core] = numbers[core].saturating_add(1);
     }
-}
-
-// Whether a record is a tick.
-fn is_tick(body: &Body) -> bool {
-    matches!(body, Body::Tick(_))
 }

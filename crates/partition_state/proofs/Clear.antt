@@ -6,6 +6,7 @@ use Rattle.apex_types.specs.declared.record.Call.{Call as CallRecord}
 use Rattle.apex_types.specs.declared.record.Claim.{Claim}
 use Rattle.apex_types.specs.declared.record.Who.{Who}
 use Rattle.apex_types.specs.declared.request.Request.{Request}
+use Rattle.apex_types.specs.declared.operation.ObjectOperation.TheVariants as on
 use Rattle.apex_types.specs.declared.request.Request.TheVariants as request
 use Rattle.apex_machine.specs.declared.condition.Condition.{Condition}
 use Rattle.apex_machine.specs.declared.state.CoreState.{CoreState}
@@ -50,34 +51,34 @@ has_size size None length e = λ same. cc
 has_size size (Some found) length e = λ same. cc
 
 pub buffer_found : (configuration : Configuration) (who : Who) (partition : Partition) (buffer : ℤ) (operation : BufferOperation)
-    → conditions_of configuration who partition (request.Buffer buffer operation) ≡ [] → given_object partition.buffers buffer ≢ None
+    → conditions_of configuration who partition (request.Object buffer (on.Buffer operation)) ≡ [] → given_object partition.buffers buffer ≢ None
 buffer_found configuration who partition buffer (BufferOperation.Send length time_out message) none =
     has_size _ (given_object partition.buffers buffer) length (nil_left _ (time_out_conditions time_out) (nil_left _ (waiting_conditions who partition time_out) none))
 buffer_found configuration who partition buffer (BufferOperation.Receive time_out) none =
     is_first (given_object partition.buffers buffer) _ (time_out_conditions time_out) (nil_left _ (waiting_conditions who partition time_out) none)
 
 pub blackboard_found : (configuration : Configuration) (who : Who) (partition : Partition) (blackboard : ℤ) (operation : BlackboardOperation)
-    → conditions_of configuration who partition (request.Blackboard blackboard operation) ≡ [] → given_object partition.blackboards blackboard ≢ None
+    → conditions_of configuration who partition (request.Object blackboard (on.Blackboard operation)) ≡ [] → given_object partition.blackboards blackboard ≢ None
 blackboard_found configuration who partition blackboard (BlackboardOperation.Display length message) none = has_size _ (given_object partition.blackboards blackboard) length none
 blackboard_found configuration who partition blackboard (BlackboardOperation.Read time_out) none =
     is_first (given_object partition.blackboards blackboard) _ (time_out_conditions time_out) (nil_left _ (waiting_conditions who partition time_out) none)
 blackboard_found configuration who partition blackboard BlackboardOperation.Clear none = is_there (given_object partition.blackboards blackboard) _ none
 
 pub semaphore_found : (configuration : Configuration) (who : Who) (partition : Partition) (semaphore : ℤ) (operation : SemaphoreOperation)
-    → conditions_of configuration who partition (request.Semaphore semaphore operation) ≡ [] → given_object partition.semaphores semaphore ≢ None
+    → conditions_of configuration who partition (request.Object semaphore (on.Semaphore operation)) ≡ [] → given_object partition.semaphores semaphore ≢ None
 semaphore_found configuration who partition semaphore (SemaphoreOperation.Wait time_out) none =
     is_first (given_object partition.semaphores semaphore) _ (time_out_conditions time_out) (nil_left _ (waiting_conditions who partition time_out) none)
 semaphore_found configuration who partition semaphore SemaphoreOperation.Signal none = is_there (given_object partition.semaphores semaphore) _ none
 
 pub event_found : (configuration : Configuration) (who : Who) (partition : Partition) (event : ℤ) (operation : EventOperation)
-    → conditions_of configuration who partition (request.Event event operation) ≡ [] → given_object partition.events event ≢ None
+    → conditions_of configuration who partition (request.Object event (on.Event operation)) ≡ [] → given_object partition.events event ≢ None
 event_found configuration who partition event (EventOperation.Wait time_out) none =
     is_first (given_object partition.events event) _ (time_out_conditions time_out) (nil_left _ (waiting_conditions who partition time_out) none)
 event_found configuration who partition event EventOperation.Set none = is_there (given_object partition.events event) _ none
 event_found configuration who partition event EventOperation.Reset none = is_there (given_object partition.events event) _ none
 
 pub mutex_found : (configuration : Configuration) (who : Who) (partition : Partition) (mutex : ℤ) (operation : MutexOperation)
-    → conditions_of configuration who partition (request.Mutex mutex operation) ≡ [] → given_object partition.mutexes mutex ≢ None
+    → conditions_of configuration who partition (request.Object mutex (on.Mutex operation)) ≡ [] → given_object partition.mutexes mutex ≢ None
 mutex_found configuration who partition mutex (MutexOperation.Acquire time_out) none =
     is_first (given_object partition.mutexes mutex) _ (time_out_conditions time_out) (nil_left _ _ (nil_left _ _ none))
 mutex_found configuration who partition mutex MutexOperation.Release none = is_there (given_object partition.mutexes mutex) _ none

@@ -1,22 +1,22 @@
 -- Which processes leave a waiting set of a partition, and which are in it then.
-use Rattle.std.proofs.Common.{◌≡◌, ℕ, List, [], ◌∷◌, ◌++◌, if◌then◌else◌, nat_eq, IsTrue, Option, Some, None, Bool, true, false, refl, sym, ap, ◌∙◌, true≢false, ◌⊎◌, inl, inr}
-use Rattle.std.proofs.lemmas.Bool.{and_parts}
+use Rattle.std.proofs.Common.{◌≡◌, ℕ, List, [], ◌∷◌, ◌++◌, if◌then◌else◌, nat_eq, IsTrue, Option, Some, None, Bool, true, false, refl, sym, ap, ◌∙◌, true≢false, ◌⊎◌, inl, inr, subst}
+use Rattle.std.proofs.lemmas.Bool.{and_parts, cases_Bool}
 use Rattle.apex_types.specs.declared.object_kind.ObjectKind.TheVariants as kind
 use Rattle.apex_types.specs.declared.record.Who.{Who}
+use Rattle.apex_types.specs.declared.shape.End.TheVariants.{Senders, Receivers}
 use Rattle.apex_machine.specs.declared.state.Entry.{Entry}
 use Rattle.apex_machine.specs.declared.state.Wait.{Wait}
 use Rattle.apex_machine.specs.declared.state.Wait.TheVariants as wait
 use Rattle.apex_machine.specs.declared.state.WaitingSet.{WaitingSet}
-use Rattle.apex_machine.specs.declared.state.WaitingSet.TheVariants as set
 use Rattle.apex_machine.specs.After.{each_set}
 use Rattle.apex_machine.specs.Demands.{has_entry_in}
-use Rattle.apex_machine.specs.State.{Buffer, Partition, Table, change_at, is_named, is_same, item_at}
+use Rattle.apex_machine.specs.State.{Buffer, Partition, Table, change_at, is_named, is_same, item_at, set_at, is_of_object, is_same_end, entries_at_end, with_ends, with_objects, objects_of, ObjectOf}
 use Rattle.apex_machine.specs.Waiting.{is_in, waits_at, without}
 use Rattle.apex_laws.specs.Laws.{AllEntries, are_distinct, entries_at}
 use Rattle.apex_laws.specs.PartLaws.{HasDistinctObjects}
-use Rattle.apex_laws.specs.PartObjects.{left_by, without_one}
+use Rattle.apex_laws.specs.PartObjects.{left_by, without_one, at_end, with_set}
 use Rattle.apex_laws.specs.PartSets.{left_if_there, named_left}
-use Rattle.apex_laws.proofs.Booleans.{cannot_hold, neither_first, neither_later, other_holds}
+use Rattle.apex_laws.proofs.Booleans.{cannot_hold, neither_first, neither_later, other_holds, same_if}
 use Rattle.apex_laws.proofs.Objects.{each_set_has}
 use Rattle.apex_laws.proofs.PartSets.{AllWaitThere, all_named_leave}
 use Rattle.apex_laws.proofs.SoundParts.{sets_distinct}
@@ -26,6 +26,9 @@ use Rattle.buffer.specs.Buffers as buffers
 use Rattle.object_table.proofs.Tables.{change-absent}
 use Rattle.partition_state.specs.Leaving.{HasEntryOnlyAt, HasEntryWhereItWaits}
 use Rattle.partition_state.proofs.Sets.{change_found}
+use Rattle.apex_laws.proofs.SetNames.{ends_agree}
+use Rattle.apex_types.specs.declared.shape.End.{End}
+use Rattle.apex_types.specs.declared.object_kind.ObjectKind.{ObjectKind}
 
 -- one set
 
@@ -45,54 +48,53 @@ stays_apart who (entry ∷ entries) apart =
     let rest = stays_apart who entries (neither_later _ _ apart) in
     rw (swap, first) (ap (λ others. entry ∷ others) rest)
 
--- who leaves both sets of a buffer leaves the one in which it waits to send
-pub senders_leave : (who : Who) (due : Option ℕ) (number : ℕ) (partition : Partition) → are_distinct partition.buffers ≡ true
-    → HasEntryOnlyAt who (wait.At (set.BufferSenders number) due) partition
-    → change_at number (buffers.without_one who) partition.buffers
-    ≡ change_at number (λ found. record found { senders = without_one who found.senders }) partition.buffers
-senders_leave who due number partition distinct alone = by (item_at partition.buffers number) refl
+-- who leaves every end of an object leaves the set that its wait names
+object_left : (who : Who) (wanted : WaitingSet) (due : Option ℕ) (partition : Partition) → HasDistinctObjects partition → HasEntryOnlyAt who (wait.At wanted due) partition
+    → with_objects wanted.kind (change_at wanted.number (with_ends wanted.kind (λ end. without_one who)) (objects_of partition wanted.kind)) partition ≡ with_set wanted (without_one who) partition
+object_left who wanted due partition has alone = ap (λ objects. with_objects wanted.kind objects partition) (by (item_at (objects_of partition wanted.kind) wanted.number) refl)
   where
-    by : (o : Option Buffer) → item_at partition.buffers number ≡ o
-        → change_at number (buffers.without_one who) partition.buffers
-        ≡ change_at number (λ found. record found { senders = without_one who found.senders }) partition.buffers
-    by None e = change-absent number _ partition.buffers e ∙ sym (change-absent number _ partition.buffers e)
-    by (Some found) e =
-        let apart : has_entry_in who found.receivers ≡ false =
-        cannot_hold (has_entry_in who found.receivers) (λ is_member. true≢false (sym (alone (set.BufferReceivers number) (rw e is_member)))) in
-        let stays = stays_apart who found.receivers apart in
-        change_found number _ _ found partition.buffers distinct e
-        (λ i. record found { senders = without_one who found.senders; receivers = stays i })
+    objects : List (ℕ × ObjectOf wanted.kind)
+    objects = objects_of partition wanted.kind
 
--- who leaves both sets of a buffer leaves the one in which it waits to receive
-pub receivers_leave : (who : Who) (due : Option ℕ) (number : ℕ) (partition : Partition) → are_distinct partition.buffers ≡ true
-    → HasEntryOnlyAt who (wait.At (set.BufferReceivers number) due) partition
-    → change_at number (buffers.without_one who) partition.buffers
-    ≡ change_at number (λ found. record found { receivers = without_one who found.receivers }) partition.buffers
-receivers_leave who due number partition distinct alone = by (item_at partition.buffers number) refl
-  where
-    by : (o : Option Buffer) → item_at partition.buffers number ≡ o
-        → change_at number (buffers.without_one who) partition.buffers
-        ≡ change_at number (λ found. record found { receivers = without_one who found.receivers }) partition.buffers
-    by None e = change-absent number _ partition.buffers e ∙ sym (change-absent number _ partition.buffers e)
-    by (Some found) e =
-        let apart : has_entry_in who found.senders ≡ false =
-        cannot_hold (has_entry_in who found.senders) (λ is_member. true≢false (sym (alone (set.BufferSenders number) (rw e is_member)))) in
-        let stays = stays_apart who found.senders apart in
-        change_found number _ _ found partition.buffers distinct e
-        (λ i. record found { senders = stays i; receivers = without_one who found.receivers })
+    by : (found : Option (ObjectOf wanted.kind)) → item_at objects wanted.number ≡ found
+        → change_at wanted.number (with_ends wanted.kind (λ end. without_one who)) objects ≡ change_at wanted.number (with_ends wanted.kind (at_end wanted.end (without_one who))) objects
+    by None none = change-absent wanted.number _ objects none ∙ sym (change-absent wanted.number _ objects none)
+    by (Some found) at =
+        change_found wanted.number _ _ found objects (has wanted.kind) at
+        (ends_agree wanted.kind (λ end. without_one who) (at_end wanted.end (without_one who)) found (λ off end. at_each end (cases_Bool (is_same_end wanted.end end))))
+      where
+        at_each : (end : End) → (is_same_end wanted.end end ≡ true) ⊎ (is_same_end wanted.end end ≡ false)
+            → without_one who (entries_at_end wanted.kind end found) ≡ at_end wanted.end (without_one who) end (entries_at_end wanted.kind end found)
+        at_each end (inl same) = rw same refl
+        at_each end (inr differs) =
+            rw differs (stays_apart who (entries_at_end wanted.kind end found) (cannot_hold (has_entry_in who (entries_at_end wanted.kind end found)) (λ is_member.
+            true≢false (sym (and_parts (is_of_object wanted.kind wanted.number (set_at wanted.kind wanted.number end)) (is_same_end wanted.end end) (alone (set_at wanted.kind wanted.number end) (rw at is_member))).1 ∙ differs))))
 
--- who leaves both sets of the buffer in one of which it waits leaves the set that its wait names
-pub buffer_left : (who : Who) (one : Wait) (wanted : WaitingSet) (due : Option ℕ) (number : ℕ) (partition : Partition) (left : List (ℕ × Buffer))
-    → HasDistinctObjects partition → HasEntryOnlyAt who one partition → one ≡ wait.At wanted due
-    → (wanted ≡ set.BufferSenders number) ⊎ (wanted ≡ set.BufferReceivers number)
-    → left ≡ change_at number (buffers.without_one who) partition.buffers
-    → record partition { buffers = left } ≡ left_by who one partition
-buffer_left who one wanted due number partition left has alone at (inl here) is =
-    let waits : one ≡ wait.At (set.BufferSenders number) due = at ∙ ap (λ found. wait.At found due) here in
-    rw (waits, is) (ap (λ found. record partition { buffers = found }) (senders_leave who due number partition (has kind.Buffer) (rw waits at alone)))
-buffer_left who one wanted due number partition left has alone at (inr here) is =
-    let waits : one ≡ wait.At (set.BufferReceivers number) due = at ∙ ap (λ found. wait.At found due) here in
-    rw (waits, is) (ap (λ found. record partition { buffers = found }) (receivers_leave who due number partition (has kind.Buffer) (rw waits at alone)))
+-- so it is with an object whose kind the wait names
+pub left_at : (kind : ObjectKind) (who : Who) (one : Wait) (wanted : WaitingSet) (due : Option ℕ) (partition : Partition) (left : List (ℕ × ObjectOf kind))
+    → HasDistinctObjects partition → HasEntryOnlyAt who one partition → one ≡ wait.At wanted due → wanted.kind ≡ kind
+    → left ≡ change_at wanted.number (with_ends kind (λ end. without_one who)) (objects_of partition kind) → with_objects kind left partition ≡ left_by who one partition
+left_at kind who one wanted due partition left has alone waits is becomes =
+    subst (λ kind. (left : List (ℕ × ObjectOf kind)) → left ≡ change_at wanted.number (with_ends kind (λ end. without_one who)) (objects_of partition kind) → with_objects kind left partition ≡ left_by who one partition) is
+    (λ left becomes. ap (λ objects. with_objects wanted.kind objects partition) becomes
+    ∙ object_left who wanted due partition has (subst (λ one. HasEntryOnlyAt who one partition) waits alone) ∙ ap (λ one. left_by who one partition) (sym waits)) left becomes
+
+-- a port has no waiting set of its own
+pub none_left : (kind : ObjectKind) (who : Who) (one : Wait) (wanted : WaitingSet) (due : Option ℕ) (partition : Partition) → HasDistinctObjects partition → HasEntryOnlyAt who one partition
+    → one ≡ wait.At wanted due → wanted.kind ≡ kind → change_at wanted.number (with_ends kind (λ end. without_one who)) (objects_of partition kind) ≡ objects_of partition kind
+    → with_objects kind (objects_of partition kind) partition ≡ left_by who one partition
+none_left kind who one wanted due partition has alone waits is stays = left_at kind who one wanted due partition (objects_of partition kind) has alone waits is (sym stays)
+
+-- a change of nothing
+pub nothing_changes : {Object : Type 0} (number : ℕ) (objects : List (ℕ × Object)) → change_at number (λ (found : Object). found) objects ≡ objects
+nothing_changes number [] = refl
+nothing_changes number (entry ∷ entries) = λ i. (entry.0, same_if (nat_eq entry.0 number) entry.1 i) ∷ nothing_changes number entries i
+
+-- so a process that waits at a channel leaves no set of the partition
+pub port_left : (who : Who) (one : Wait) (wanted : WaitingSet) (due : Option ℕ) (partition : Partition) → HasDistinctObjects partition → HasEntryOnlyAt who one partition
+    → one ≡ wait.At wanted due → (wanted.kind ≡ kind.SamplingPort) ⊎ (wanted.kind ≡ kind.QueuingPort) → partition ≡ left_by who one partition
+port_left who one wanted due partition has alone waits (inl is) = none_left kind.SamplingPort who one wanted due partition has alone waits is (nothing_changes wanted.number partition.sampling_ports)
+port_left who one wanted due partition has alone waits (inr is) = none_left kind.QueuingPort who one wanted due partition has alone waits is (nothing_changes wanted.number partition.queuing_ports)
 
 -- a process that has an entry waits
 

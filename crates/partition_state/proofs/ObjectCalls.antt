@@ -7,11 +7,12 @@ use Rattle.apex_types.specs.declared.record.Body.TheVariants.{Call}
 use Rattle.apex_types.specs.declared.record.Call.{Call as CallRecord}
 use Rattle.apex_types.specs.declared.record.Claim.{Claim}
 use Rattle.apex_types.specs.declared.record.Out.{Out}
+use Rattle.apex_types.specs.declared.operation.ObjectOperation.TheVariants as on
 use Rattle.apex_types.specs.declared.request.Request.TheVariants as request
+use Rattle.apex_types.specs.declared.shape.End.TheVariants.{Senders, Receivers}
 use Rattle.apex_machine.specs.declared.state.CoreState.{CoreState}
 use Rattle.apex_machine.specs.declared.state.Entry.{Entry}
 use Rattle.apex_machine.specs.declared.state.WaitingSet.{WaitingSet}
-use Rattle.apex_machine.specs.declared.state.WaitingSet.TheVariants as set
 use Rattle.apex_machine.specs.After.{is_done, with_sets}
 use Rattle.apex_machine.specs.Answer.{Answer}
 use Rattle.apex_machine.specs.Arguments.{natural_of}
@@ -19,10 +20,10 @@ use Rattle.apex_machine.specs.Configuration.{Configuration}
 use Rattle.apex_machine.specs.Demands.{AllHold}
 use Rattle.apex_machine.specs.Objects.{acquired_from, blackboard_effect, board_read, buffer_effect, event_effect, event_waited, handed_on, message_by, messages_by, mutex_effect, mutex_released, semaphore_effect, semaphore_waited, signalled, up_by, value_by}
 use Rattle.apex_machine.specs.Queue.{Messages, received, sent}
-use Rattle.apex_machine.specs.State.{Blackboard, Buffer, Event, Mutex, Partition, Semaphore, change_at, given_object, item_at}
+use Rattle.apex_machine.specs.State.{Blackboard, Buffer, Event, Mutex, Partition, Semaphore, change_at, given_object, item_at, set_at}
 use Rattle.apex_machine.specs.Waiting.{first_waiter, is_waiting, set_after}
 use Rattle.apex_laws.specs.Laws.{IsInOrder, are_distinct}
-use Rattle.apex_laws.specs.PartObjects.{used_by}
+use Rattle.apex_laws.specs.PartObjects.{used_by, objects_changed}
 use Rattle.apex_laws.proofs.Objects.{mutex_keeps}
 use Rattle.blackboard.specs.Blackboards as blackboards
 use Rattle.buffer.specs.Buffers as buffers
@@ -38,6 +39,7 @@ use Rattle.partition_state.specs.Calls.{IsAtWork, IsClear, actor_of, objects_ser
 use Rattle.partition_state.proofs.Clear.{at_work, blackboard_found, buffer_found, event_found, mutex_found, semaphore_found}
 use Rattle.partition_state.proofs.Found.{with_false, with_true}
 use Rattle.partition_state.proofs.Sets.{change_given, either_way, in_order, is_new, same_number, set_joined, set_joined_plainly, set_left, set_left_plainly}
+use Rattle.apex_types.specs.declared.operation.ObjectOperation.{ObjectOperation}
 
 -- the caller is new in the waiting sets of the object, if it is in those of each object
 pub new_there : {Object : Type 0} (actor : Actor) (sets : Object → List (List Entry)) (objects : List (ℕ × Object)) (given : ℤ)
@@ -55,33 +57,33 @@ pub buffer_new : (place : ℕ) (partition : Partition) (call : CallRecord) (give
 buffer_new place partition call given at_work =
     new_there (actor_of place call) buffers.sets partition.buffers given
     (λ n found at. (
-      is_new place partition call.who call.claim.prio [] at_work (set.BufferSenders n) found.senders (rw at refl),
-      (is_new place partition call.who call.claim.prio [] at_work (set.BufferReceivers n) found.receivers (rw at refl), tt),
+      is_new place partition call.who call.claim.prio [] at_work (set_at kind.Buffer n Senders) found.senders (rw at refl),
+      (is_new place partition call.who call.claim.prio [] at_work (set_at kind.Buffer n Receivers) found.receivers (rw at refl), tt),
     ))
 
 pub blackboard_new : (place : ℕ) (partition : Partition) (call : CallRecord) (given : ℤ) → IsAtWork place partition call.who
     → IfSome (given_object partition.blackboards given) (λ found. IsNewInEach (entry_with (actor_of place call) []) (found.readers ∷ []))
 blackboard_new place partition call given at_work =
     new_there (actor_of place call) (λ found. found.readers ∷ []) partition.blackboards given
-    (λ n found at. (is_new place partition call.who call.claim.prio [] at_work (set.BlackboardReaders n) found.readers (rw at refl), tt))
+    (λ n found at. (is_new place partition call.who call.claim.prio [] at_work (set_at kind.Blackboard n Receivers) found.readers (rw at refl), tt))
 
 pub semaphore_new : (place : ℕ) (partition : Partition) (call : CallRecord) (given : ℤ) → IsAtWork place partition call.who
     → IfSome (given_object partition.semaphores given) (λ found. IsNewInEach (entry_with (actor_of place call) []) (found.waiters ∷ []))
 semaphore_new place partition call given at_work =
     new_there (actor_of place call) (λ found. found.waiters ∷ []) partition.semaphores given
-    (λ n found at. (is_new place partition call.who call.claim.prio [] at_work (set.SemaphoreWaiters n) found.waiters (rw at refl), tt))
+    (λ n found at. (is_new place partition call.who call.claim.prio [] at_work (set_at kind.Semaphore n Receivers) found.waiters (rw at refl), tt))
 
 pub event_new : (place : ℕ) (partition : Partition) (call : CallRecord) (given : ℤ) → IsAtWork place partition call.who
     → IfSome (given_object partition.events given) (λ found. IsNewInEach (entry_with (actor_of place call) []) (found.waiters ∷ []))
 event_new place partition call given at_work =
     new_there (actor_of place call) (λ found. found.waiters ∷ []) partition.events given
-    (λ n found at. (is_new place partition call.who call.claim.prio [] at_work (set.EventWaiters n) found.waiters (rw at refl), tt))
+    (λ n found at. (is_new place partition call.who call.claim.prio [] at_work (set_at kind.Event n Receivers) found.waiters (rw at refl), tt))
 
 pub mutex_new : (place : ℕ) (partition : Partition) (call : CallRecord) (given : ℤ) → IsAtWork place partition call.who
     → IfSome (given_object partition.mutexes given) (λ found. IsNewInEach (entry_with (actor_of place call) []) (found.waiters ∷ []))
 mutex_new place partition call given at_work =
     new_there (actor_of place call) (λ found. found.waiters ∷ []) partition.mutexes given
-    (λ n found at. (is_new place partition call.who call.claim.prio [] at_work (set.MutexWaiters n) found.waiters (rw at refl), tt))
+    (λ n found at. (is_new place partition call.who call.claim.prio [] at_work (set_at kind.Mutex n Receivers) found.waiters (rw at refl), tt))
 
 -- what an operation on the mutex asks of it: its count is not above the place
 pub owes_there : (actor : Actor) (operation : MutexOperation) (given : Option Mutex) → IfSome given (λ found. found.count ≤ actor.place) → IfSome given (λ found. mutexes.Owes actor operation found)
@@ -194,7 +196,7 @@ mutex_whole out caller MutexOperation.Release found is = done_released out (firs
 
 -- the object after the call, by its kind
 
-buffer_becomes : (place : ℕ) (call : CallRecord) (buffer : ℤ) (operation : BufferOperation) (found : Buffer) → call.request ≡ request.Buffer buffer operation
+buffer_becomes : (place : ℕ) (call : CallRecord) (buffer : ℤ) (operation : BufferOperation) (found : Buffer) → call.request ≡ request.Object buffer (on.Buffer operation)
     → IsInOrder place found.senders → IsInOrder place found.receivers → call.claim.out ≡ (buffer_effect operation found).answer.out
     → buffers.after (actor_of place call) operation call.claim found
     ≡ used_by kind.Buffer place call (natural_of buffer) (λ found. (buffer_effect operation found).next) found
@@ -203,24 +205,24 @@ buffer_becomes place call buffer operation found asked sends receives is =
     ∙ sym (ap (with_sets kind.Buffer (set_after place (Call call)) (natural_of buffer))
     (whole (λ messages. record found { messages = messages }) (is_done call.claim.out) found.messages (messages_by operation found).next (messages_whole call.claim.out operation found is)))
   where
-    sending : (operation : BufferOperation) → call.request ≡ request.Buffer buffer operation
-        → set_after place (Call call) (set.BufferSenders (natural_of buffer)) found.senders ≡ buffers.senders_after (actor_of place call) operation call.claim found.senders
+    sending : (operation : BufferOperation) → call.request ≡ request.Object buffer (on.Buffer operation)
+        → set_after place (Call call) (set_at kind.Buffer (natural_of buffer) Senders) found.senders ≡ buffers.senders_after (actor_of place call) operation call.claim found.senders
     sending (BufferOperation.Send size time_out message) asked =
-        set_joined place call (set.BufferSenders (natural_of buffer)) found.senders (rw asked refl) (rw asked refl) sends
+        set_joined place call (set_at kind.Buffer (natural_of buffer) Senders) found.senders (rw asked refl) (rw asked refl) sends
         (rw (asked, same_number (natural_of buffer)) (with_true (is_waiting call.claim.out)))
         ∙ ap (λ bytes. joined_by (actor_of place call) call.claim bytes found.senders) (rw asked refl)
     sending (BufferOperation.Receive time_out) asked =
-        set_left place call (set.BufferSenders (natural_of buffer)) found.senders (rw asked refl) (rw asked refl) (rw asked (with_false (is_waiting call.claim.out)))
+        set_left place call (set_at kind.Buffer (natural_of buffer) Senders) found.senders (rw asked refl) (rw asked refl) (rw (asked, same_number (natural_of buffer)) (with_false (is_waiting call.claim.out)))
 
-    receiving : (operation : BufferOperation) → call.request ≡ request.Buffer buffer operation
-        → set_after place (Call call) (set.BufferReceivers (natural_of buffer)) found.receivers ≡ buffers.receivers_after (actor_of place call) operation call.claim found.receivers
+    receiving : (operation : BufferOperation) → call.request ≡ request.Object buffer (on.Buffer operation)
+        → set_after place (Call call) (set_at kind.Buffer (natural_of buffer) Receivers) found.receivers ≡ buffers.receivers_after (actor_of place call) operation call.claim found.receivers
     receiving (BufferOperation.Send size time_out message) asked =
-        set_left place call (set.BufferReceivers (natural_of buffer)) found.receivers (rw asked refl) (rw asked refl) (rw asked (with_false (is_waiting call.claim.out)))
+        set_left place call (set_at kind.Buffer (natural_of buffer) Receivers) found.receivers (rw asked refl) (rw asked refl) (rw (asked, same_number (natural_of buffer)) (with_false (is_waiting call.claim.out)))
     receiving (BufferOperation.Receive time_out) asked =
-        set_joined_plainly place call (set.BufferReceivers (natural_of buffer)) found.receivers (rw asked refl) (rw asked refl) (rw asked refl)
-        (rw asked (same_number (natural_of buffer))) receives
+        set_joined_plainly place call (set_at kind.Buffer (natural_of buffer) Receivers) found.receivers (rw asked refl) (rw asked refl) (rw asked refl)
+        (rw (asked, same_number (natural_of buffer)) refl) receives
 
-blackboard_becomes : (place : ℕ) (call : CallRecord) (blackboard : ℤ) (operation : BlackboardOperation) (found : Blackboard) → call.request ≡ request.Blackboard blackboard operation
+blackboard_becomes : (place : ℕ) (call : CallRecord) (blackboard : ℤ) (operation : BlackboardOperation) (found : Blackboard) → call.request ≡ request.Object blackboard (on.Blackboard operation)
     → IsInOrder place found.readers → call.claim.out ≡ (blackboard_effect operation found).answer.out
     → blackboards.after (actor_of place call) operation call.claim found
     ≡ used_by kind.Blackboard place call (natural_of blackboard) (λ found. (blackboard_effect operation found).next) found
@@ -230,16 +232,16 @@ blackboard_becomes place call blackboard operation found asked order is =
     (whole (λ message. record found { message = message }) (is_done call.claim.out) found.message (message_by operation found).next (message_whole call.claim.out operation found is)))
   where
     wanted : WaitingSet
-    wanted = set.BlackboardReaders (natural_of blackboard)
+    wanted = set_at kind.Blackboard (natural_of blackboard) Receivers
 
-    reading : (operation : BlackboardOperation) → call.request ≡ request.Blackboard blackboard operation
+    reading : (operation : BlackboardOperation) → call.request ≡ request.Object blackboard (on.Blackboard operation)
         → set_after place (Call call) wanted found.readers ≡ blackboards.readers_after (actor_of place call) operation call.claim found.readers
     reading (BlackboardOperation.Read time_out) asked =
-        set_joined_plainly place call wanted found.readers (rw asked refl) (rw asked refl) (rw asked refl) (rw asked (same_number (natural_of blackboard))) order
+        set_joined_plainly place call wanted found.readers (rw asked refl) (rw asked refl) (rw asked refl) (rw (asked, same_number (natural_of blackboard)) refl) order
     reading (BlackboardOperation.Display length message) asked = set_left_plainly place call wanted found.readers (rw asked refl) (rw asked refl) (rw asked refl)
     reading BlackboardOperation.Clear asked = set_left_plainly place call wanted found.readers (rw asked refl) (rw asked refl) (rw asked refl)
 
-semaphore_becomes : (place : ℕ) (call : CallRecord) (semaphore : ℤ) (operation : SemaphoreOperation) (found : Semaphore) → call.request ≡ request.Semaphore semaphore operation
+semaphore_becomes : (place : ℕ) (call : CallRecord) (semaphore : ℤ) (operation : SemaphoreOperation) (found : Semaphore) → call.request ≡ request.Object semaphore (on.Semaphore operation)
     → IsInOrder place found.waiters → call.claim.out ≡ (semaphore_effect operation found).answer.out
     → semaphores.after (actor_of place call) operation call.claim found
     ≡ used_by kind.Semaphore place call (natural_of semaphore) (λ found. (semaphore_effect operation found).next) found
@@ -249,15 +251,15 @@ semaphore_becomes place call semaphore operation found asked order is =
     (whole (λ value. record found { value = value }) (is_done call.claim.out) found.value (value_by operation found).next (value_whole call.claim.out operation found is)))
   where
     wanted : WaitingSet
-    wanted = set.SemaphoreWaiters (natural_of semaphore)
+    wanted = set_at kind.Semaphore (natural_of semaphore) Receivers
 
-    waiting : (operation : SemaphoreOperation) → call.request ≡ request.Semaphore semaphore operation
+    waiting : (operation : SemaphoreOperation) → call.request ≡ request.Object semaphore (on.Semaphore operation)
         → set_after place (Call call) wanted found.waiters ≡ semaphores.waiters_after (actor_of place call) operation call.claim found.waiters
     waiting (SemaphoreOperation.Wait time_out) asked =
-        set_joined_plainly place call wanted found.waiters (rw asked refl) (rw asked refl) (rw asked refl) (rw asked (same_number (natural_of semaphore))) order
+        set_joined_plainly place call wanted found.waiters (rw asked refl) (rw asked refl) (rw asked refl) (rw (asked, same_number (natural_of semaphore)) refl) order
     waiting SemaphoreOperation.Signal asked = set_left_plainly place call wanted found.waiters (rw asked refl) (rw asked refl) (rw asked refl)
 
-event_becomes : (place : ℕ) (call : CallRecord) (event : ℤ) (operation : EventOperation) (found : Event) → call.request ≡ request.Event event operation
+event_becomes : (place : ℕ) (call : CallRecord) (event : ℤ) (operation : EventOperation) (found : Event) → call.request ≡ request.Object event (on.Event operation)
     → IsInOrder place found.waiters → call.claim.out ≡ (event_effect operation found).answer.out
     → events.after (actor_of place call) operation call.claim found
     ≡ used_by kind.Event place call (natural_of event) (λ found. (event_effect operation found).next) found
@@ -267,16 +269,16 @@ event_becomes place call event operation found asked order is =
     (whole (λ up. record found { up = up }) (is_done call.claim.out) found.up (up_by operation found).next (up_whole call.claim.out operation found is)))
   where
     wanted : WaitingSet
-    wanted = set.EventWaiters (natural_of event)
+    wanted = set_at kind.Event (natural_of event) Receivers
 
-    waiting : (operation : EventOperation) → call.request ≡ request.Event event operation
+    waiting : (operation : EventOperation) → call.request ≡ request.Object event (on.Event operation)
         → set_after place (Call call) wanted found.waiters ≡ events.waiters_after (actor_of place call) operation call.claim found.waiters
     waiting (EventOperation.Wait time_out) asked =
-        set_joined_plainly place call wanted found.waiters (rw asked refl) (rw asked refl) (rw asked refl) (rw asked (same_number (natural_of event))) order
+        set_joined_plainly place call wanted found.waiters (rw asked refl) (rw asked refl) (rw asked refl) (rw (asked, same_number (natural_of event)) refl) order
     waiting EventOperation.Set asked = set_left_plainly place call wanted found.waiters (rw asked refl) (rw asked refl) (rw asked refl)
     waiting EventOperation.Reset asked = set_left_plainly place call wanted found.waiters (rw asked refl) (rw asked refl) (rw asked refl)
 
-mutex_becomes : (place : ℕ) (call : CallRecord) (mutex : ℤ) (operation : MutexOperation) (found : Mutex) → call.request ≡ request.Mutex mutex operation
+mutex_becomes : (place : ℕ) (call : CallRecord) (mutex : ℤ) (operation : MutexOperation) (found : Mutex) → call.request ≡ request.Object mutex (on.Mutex operation)
     → IsInOrder place found.waiters → call.claim.out ≡ (mutex_effect call.who.proc operation found).answer.out
     → mutexes.after (actor_of place call) operation call.claim found
     ≡ used_by kind.Mutex place call (natural_of mutex) (λ found. (mutex_effect call.who.proc operation found).next) found
@@ -286,12 +288,12 @@ mutex_becomes place call mutex operation found asked order is =
     ∙ sym (ap (with_sets kind.Mutex (set_after place (Call call)) (natural_of mutex)) (mutex_whole call.claim.out call.who.proc operation found is))
   where
     wanted : WaitingSet
-    wanted = set.MutexWaiters (natural_of mutex)
+    wanted = set_at kind.Mutex (natural_of mutex) Receivers
 
-    waiting : (operation : MutexOperation) → call.request ≡ request.Mutex mutex operation
+    waiting : (operation : MutexOperation) → call.request ≡ request.Object mutex (on.Mutex operation)
         → set_after place (Call call) wanted found.waiters ≡ mutexes.waiters_after (actor_of place call) operation call.claim found.waiters
     waiting (MutexOperation.Acquire time_out) asked =
-        set_joined_plainly place call wanted found.waiters (rw asked refl) (rw asked refl) (rw asked refl) (rw asked (same_number (natural_of mutex))) order
+        set_joined_plainly place call wanted found.waiters (rw asked refl) (rw asked refl) (rw asked refl) (rw (asked, same_number (natural_of mutex)) refl) order
     waiting MutexOperation.Release asked = set_left_plainly place call wanted found.waiters (rw asked refl) (rw asked refl) (rw asked refl)
 
 -- so the objects of a kind are after the call
@@ -304,66 +306,79 @@ becomes_there given objects gives after used claim distinct there holds becomes 
     change_given given after used objects distinct there (λ found here at. becomes found at (rw here at holds).0)
 
 pub buffers_served : (configuration : Configuration) (cores : List CoreState) (place core : ℕ) (partition : Partition) (call : CallRecord) (given : ℤ) (operation : BufferOperation)
-    → IsClear configuration cores place core partition call → call.request ≡ request.Buffer given operation → (result : Result Transfer ObjFault) (next : List (ℕ × Buffer))
+    → IsClear configuration cores place core partition call → call.request ≡ request.Object given (on.Buffer operation) → (result : Result Transfer ObjFault) (next : List (ℕ × Buffer))
     → OnOk result (AllHold (used_demands partition.buffers given (buffers.answer (actor_of place call) operation) call.claim))
     → OnOk result (next ≡ change_at (natural_of given) (buffers.after (actor_of place call) operation call.claim) partition.buffers)
-    → OnOk result (record partition { buffers = next } ≡ objects_served configuration place call (request.Buffer given operation) partition)
+    → OnOk result (record partition { buffers = next } ≡ objects_served configuration place call (request.Object given (on.Buffer operation)) partition)
 buffers_served configuration cores place core partition call given operation clear asked (Err fault) next holds is = tt
 buffers_served configuration cores place core partition call given operation clear asked (Ok transfer) next holds is =
     let work = at_work configuration cores place core partition call clear in
     ap (λ buffers. record partition { buffers = buffers })
     (is ∙ becomes_there given partition.buffers (buffers.answer (actor_of place call) operation) _ _ call.claim (work.sound.objects kind.Buffer)
     (buffer_found configuration call.who partition given operation (rw asked at clear.conditions)) holds
-    (λ found at same. buffer_becomes place call given operation found asked (in_order place partition call.who work (set.BufferSenders (natural_of given)) found.senders (rw at refl)) (in_order place partition call.who work (set.BufferReceivers (natural_of given)) found.receivers (rw at refl)) same))
+    (λ found at same. buffer_becomes place call given operation found asked (in_order place partition call.who work (set_at kind.Buffer (natural_of given) Senders) found.senders (rw at refl)) (in_order place partition call.who work (set_at kind.Buffer (natural_of given) Receivers) found.receivers (rw at refl)) same))
 
 pub blackboards_served : (configuration : Configuration) (cores : List CoreState) (place core : ℕ) (partition : Partition) (call : CallRecord) (given : ℤ) (operation : BlackboardOperation)
-    → IsClear configuration cores place core partition call → call.request ≡ request.Blackboard given operation → (result : Result Transfer ObjFault) (next : List (ℕ × Blackboard))
+    → IsClear configuration cores place core partition call → call.request ≡ request.Object given (on.Blackboard operation) → (result : Result Transfer ObjFault) (next : List (ℕ × Blackboard))
     → OnOk result (AllHold (used_demands partition.blackboards given (λ found. (blackboard_effect operation found).answer) call.claim))
     → OnOk result (next ≡ change_at (natural_of given) (blackboards.after (actor_of place call) operation call.claim) partition.blackboards)
-    → OnOk result (record partition { blackboards = next } ≡ objects_served configuration place call (request.Blackboard given operation) partition)
+    → OnOk result (record partition { blackboards = next } ≡ objects_served configuration place call (request.Object given (on.Blackboard operation)) partition)
 blackboards_served configuration cores place core partition call given operation clear asked (Err fault) next holds is = tt
 blackboards_served configuration cores place core partition call given operation clear asked (Ok transfer) next holds is =
     let work = at_work configuration cores place core partition call clear in
     ap (λ blackboards. record partition { blackboards = blackboards })
     (is ∙ becomes_there given partition.blackboards (λ found. (blackboard_effect operation found).answer) _ _ call.claim (work.sound.objects kind.Blackboard)
     (blackboard_found configuration call.who partition given operation (rw asked at clear.conditions)) holds
-    (λ found at same. blackboard_becomes place call given operation found asked (in_order place partition call.who work (set.BlackboardReaders (natural_of given)) found.readers (rw at refl)) same))
+    (λ found at same. blackboard_becomes place call given operation found asked (in_order place partition call.who work (set_at kind.Blackboard (natural_of given) Receivers) found.readers (rw at refl)) same))
 
 pub semaphores_served : (configuration : Configuration) (cores : List CoreState) (place core : ℕ) (partition : Partition) (call : CallRecord) (given : ℤ) (operation : SemaphoreOperation)
-    → IsClear configuration cores place core partition call → call.request ≡ request.Semaphore given operation → (result : Result Transfer ObjFault) (next : List (ℕ × Semaphore))
+    → IsClear configuration cores place core partition call → call.request ≡ request.Object given (on.Semaphore operation) → (result : Result Transfer ObjFault) (next : List (ℕ × Semaphore))
     → OnOk result (AllHold (used_demands partition.semaphores given (λ found. (semaphore_effect operation found).answer) call.claim))
     → OnOk result (next ≡ change_at (natural_of given) (semaphores.after (actor_of place call) operation call.claim) partition.semaphores)
-    → OnOk result (record partition { semaphores = next } ≡ objects_served configuration place call (request.Semaphore given operation) partition)
+    → OnOk result (record partition { semaphores = next } ≡ objects_served configuration place call (request.Object given (on.Semaphore operation)) partition)
 semaphores_served configuration cores place core partition call given operation clear asked (Err fault) next holds is = tt
 semaphores_served configuration cores place core partition call given operation clear asked (Ok transfer) next holds is =
     let work = at_work configuration cores place core partition call clear in
     ap (λ semaphores. record partition { semaphores = semaphores })
     (is ∙ becomes_there given partition.semaphores (λ found. (semaphore_effect operation found).answer) _ _ call.claim (work.sound.objects kind.Semaphore)
     (semaphore_found configuration call.who partition given operation (rw asked at clear.conditions)) holds
-    (λ found at same. semaphore_becomes place call given operation found asked (in_order place partition call.who work (set.SemaphoreWaiters (natural_of given)) found.waiters (rw at refl)) same))
+    (λ found at same. semaphore_becomes place call given operation found asked (in_order place partition call.who work (set_at kind.Semaphore (natural_of given) Receivers) found.waiters (rw at refl)) same))
 
 pub events_served : (configuration : Configuration) (cores : List CoreState) (place core : ℕ) (partition : Partition) (call : CallRecord) (given : ℤ) (operation : EventOperation)
-    → IsClear configuration cores place core partition call → call.request ≡ request.Event given operation → (result : Result Transfer ObjFault) (next : List (ℕ × Event))
+    → IsClear configuration cores place core partition call → call.request ≡ request.Object given (on.Event operation) → (result : Result Transfer ObjFault) (next : List (ℕ × Event))
     → OnOk result (AllHold (used_demands partition.events given (λ found. (event_effect operation found).answer) call.claim))
     → OnOk result (next ≡ change_at (natural_of given) (events.after (actor_of place call) operation call.claim) partition.events)
-    → OnOk result (record partition { events = next } ≡ objects_served configuration place call (request.Event given operation) partition)
+    → OnOk result (record partition { events = next } ≡ objects_served configuration place call (request.Object given (on.Event operation)) partition)
 events_served configuration cores place core partition call given operation clear asked (Err fault) next holds is = tt
 events_served configuration cores place core partition call given operation clear asked (Ok transfer) next holds is =
     let work = at_work configuration cores place core partition call clear in
     ap (λ events. record partition { events = events })
     (is ∙ becomes_there given partition.events (λ found. (event_effect operation found).answer) _ _ call.claim (work.sound.objects kind.Event)
     (event_found configuration call.who partition given operation (rw asked at clear.conditions)) holds
-    (λ found at same. event_becomes place call given operation found asked (in_order place partition call.who work (set.EventWaiters (natural_of given)) found.waiters (rw at refl)) same))
+    (λ found at same. event_becomes place call given operation found asked (in_order place partition call.who work (set_at kind.Event (natural_of given) Receivers) found.waiters (rw at refl)) same))
 
 pub mutexes_served : (configuration : Configuration) (cores : List CoreState) (place core : ℕ) (partition : Partition) (call : CallRecord) (given : ℤ) (operation : MutexOperation)
-    → IsClear configuration cores place core partition call → call.request ≡ request.Mutex given operation → (result : Result Transfer ObjFault) (next : List (ℕ × Mutex))
+    → IsClear configuration cores place core partition call → call.request ≡ request.Object given (on.Mutex operation) → (result : Result Transfer ObjFault) (next : List (ℕ × Mutex))
     → OnOk result (AllHold (used_demands partition.mutexes given (λ found. (mutex_effect call.who.proc operation found).answer) call.claim))
     → OnOk result (next ≡ change_at (natural_of given) (mutexes.after (actor_of place call) operation call.claim) partition.mutexes)
-    → OnOk result (record partition { mutexes = next } ≡ objects_served configuration place call (request.Mutex given operation) partition)
+    → OnOk result (record partition { mutexes = next } ≡ objects_served configuration place call (request.Object given (on.Mutex operation)) partition)
 mutexes_served configuration cores place core partition call given operation clear asked (Err fault) next holds is = tt
 mutexes_served configuration cores place core partition call given operation clear asked (Ok transfer) next holds is =
     let work = at_work configuration cores place core partition call clear in
     ap (λ mutexes. record partition { mutexes = mutexes })
     (is ∙ becomes_there given partition.mutexes (λ found. (mutex_effect call.who.proc operation found).answer) _ _ call.claim (work.sound.objects kind.Mutex)
     (mutex_found configuration call.who partition given operation (rw asked at clear.conditions)) holds
-    (λ found at same. mutex_becomes place call given operation found asked (in_order place partition call.who work (set.MutexWaiters (natural_of given)) found.waiters (rw at refl)) same))
+    (λ found at same. mutex_becomes place call given operation found asked (in_order place partition call.who work (set_at kind.Mutex (natural_of given) Receivers) found.waiters (rw at refl)) same))
+
+-- the configuration says nothing of an operation on an object
+pub in_any : (configuration : Configuration) (place : ℕ) (call : CallRecord) (given : ℤ) (operation : ObjectOperation) (partition new : Partition) (result : Result Transfer ObjFault)
+    → OnOk result (new ≡ objects_served configuration place call (request.Object given operation) partition)
+    → OnOk result ((any : Configuration) → new ≡ objects_changed any place call (request.Object given operation) partition)
+in_any configuration place call given operation partition new (Ok transfer) is = λ any. is
+in_any configuration place call given operation partition new (Err fault) is = tt
+
+pub of_any : (configuration : Configuration) (place : ℕ) (call : CallRecord) (given : ℤ) (operation : ObjectOperation) (partition new : Partition) (result : Result Transfer ObjFault)
+    → OnOk result ((any : Configuration) → new ≡ objects_changed any place call (request.Object given operation) partition)
+    → OnOk result (new ≡ objects_served configuration place call (request.Object given operation) partition)
+of_any configuration place call given operation partition new (Ok transfer) is = is configuration
+of_any configuration place call given operation partition new (Err fault) is = tt

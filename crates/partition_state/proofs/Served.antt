@@ -1,21 +1,22 @@
 -- What a call that was served makes of the objects is what it makes of the partition's.
 use Rattle.std.proofs.Common.{◌≡◌, ℕ, List, Option, Some, None, Result, Ok, Err, Bool, true, false, IfErr, OnOk, refl}
+use Rattle.apex_types.specs.declared.object_kind.ObjectKind.TheVariants as kind
 use Rattle.apex_types.specs.declared.cause.Cause.{Cause}
 use Rattle.apex_types.specs.declared.operation.{NewObject.NewObject, ProcessOperation.ProcessOperation, SamplingOperation.SamplingOperation}
 use Rattle.apex_types.specs.declared.record.Call.{Call as CallRecord}
 use Rattle.apex_types.specs.declared.record.Who.{Who}
 use Rattle.apex_types.specs.declared.request.Request.{Request}
 use Rattle.apex_types.specs.declared.request.Request.TheVariants as request
+use Rattle.apex_types.specs.declared.shape.End.TheVariants.{Senders, Receivers}
 use Rattle.apex_machine.specs.declared.state.CoreState.{CoreState}
 use Rattle.apex_machine.specs.declared.state.Process.{Process}
 use Rattle.apex_machine.specs.declared.state.Wait.{Wait}
 use Rattle.apex_machine.specs.declared.state.Wait.TheVariants as wait
-use Rattle.apex_machine.specs.declared.state.WaitingSet.TheVariants as set
 use Rattle.apex_machine.specs.After.{objects_called, partition_called}
 use Rattle.apex_machine.specs.Configuration.{Configuration}
 use Rattle.apex_machine.specs.Demands.{AllHold, Demand, Judges}
 use Rattle.apex_machine.specs.Services.{peer}
-use Rattle.apex_machine.specs.State.{Partition, created, time_of}
+use Rattle.apex_machine.specs.State.{Partition, created, time_of, channel_set, set_at, with_objects, ObjectOf}
 use Rattle.apex_machine.specs.Waiting.{is_no_error, restart_of}
 use Rattle.apex_laws.specs.PartLaws.{IsOwnCall}
 use Rattle.apex_laws.specs.PartObjects.{left_by, objects_changed}
@@ -29,6 +30,9 @@ use Rattle.wait_set.specs.declared.object.ObjFault.TheVariants.{Unlawful, Memory
 use Rattle.wait_set.specs.Actors.{Refuses}
 use Rattle.partition_state.specs.Calls.{IsClear, IsJudged, ReadsAtPort, RefusesOrWants, objects_noted, objects_served, served_demands}
 use Rattle.partition_state.proofs.Clear.{own_call, target_found}
+use Rattle.apex_types.specs.Shapes.{kind_used}
+use Rattle.apex_types.specs.Requested.{kind_of}
+use Rattle.apex_types.specs.declared.object_kind.ObjectKind.{ObjectKind}
 
 -- whether a request is STOP
 abbrev pub is_stop : Request → Bool
@@ -89,15 +93,12 @@ refuses_or_wants demands Memory refuses = tt
 
 -- the mode and the processes stay
 
+put_keeps : (kind : ObjectKind) (objects : List (ℕ × ObjectOf kind)) (partition : Partition) → processes_of (with_objects kind objects partition) ≡ processes_of partition
+put_keeps kind.Buffer objects partition = refl
+put_keeps _ objects partition = refl
+
 left_keeps : (who : Who) (waited : Wait) (partition : Partition) → processes_of (left_by who waited partition) ≡ processes_of partition
-left_keeps who (wait.At (set.BufferSenders number) due) partition = refl
-left_keeps who (wait.At (set.BufferReceivers number) due) partition = refl
-left_keeps who (wait.At (set.BlackboardReaders number) due) partition = refl
-left_keeps who (wait.At (set.SemaphoreWaiters number) due) partition = refl
-left_keeps who (wait.At (set.EventWaiters number) due) partition = refl
-left_keeps who (wait.At (set.MutexWaiters number) due) partition = refl
-left_keeps who (wait.At (set.ChannelSenders channel) due) partition = refl
-left_keeps who (wait.At (set.ChannelReceivers channel) due) partition = refl
+left_keeps who (wait.At wanted due) partition = put_keeps wanted.kind _ partition
 left_keeps who _ partition = refl
 
 pub served_keeps : (configuration : Configuration) (place : ℕ) (call : CallRecord) (partition : Partition) (asked : Request)
@@ -107,16 +108,8 @@ served_keeps configuration place call partition (request.Process process Process
     by : (target : Option Process) → processes_of (left_if_there (peer call.who process) target partition) ≡ processes_of partition
     by None = refl
     by (Some target) = left_keeps (peer call.who process) target.wait partition
-served_keeps configuration place call partition (request.Create name object) = created object
-  where
-    created : (object : NewObject) → processes_of (objects_served configuration place call (request.Create name object) partition) ≡ processes_of partition
-    created (NewObject.Buffer size capacity discipline) = refl
-    created (NewObject.Blackboard size) = refl
-    created (NewObject.Semaphore value maximum discipline) = refl
-    created NewObject.Event = refl
-    created (NewObject.Mutex priority discipline) = refl
-    created (NewObject.SamplingPort size way refresh) = refl
-    created (NewObject.QueuingPort size capacity way order) = refl
+served_keeps configuration place call partition (request.Create name object) = put_keeps (kind_of object) _ partition
+served_keeps configuration place call partition (request.Object number operation) = put_keeps (kind_used operation) _ partition
 served_keeps configuration place call partition (request.SamplingPort port SamplingOperation.Read) = refl
 served_keeps configuration place call partition _ = refl
 

@@ -8,6 +8,7 @@ use Rattle.apex_types.specs.declared.record.Out.{Out}
 use Rattle.apex_types.specs.declared.record.Out.TheVariants as out
 use Rattle.apex_types.specs.declared.record.Who.{Who}
 use Rattle.apex_types.specs.declared.request.Request.{Request}
+use Rattle.apex_types.specs.declared.operation.ObjectOperation.TheVariants as on
 use Rattle.apex_types.specs.declared.request.Request.TheVariants as request
 use Rattle.apex_machine.specs.declared.state.CoreState.{CoreState}
 use Rattle.apex_machine.specs.After.{is_done}
@@ -78,16 +79,16 @@ given_fits objects (negsuc n) fit found = absurd (found refl)
 
 waits_soundly : (configuration : Configuration) (who : Who) (partition : Partition) (asked : Request) → NumbersAreKept partition
     → conditions_of configuration who partition asked ≡ [] → WaitsSoundly asked
-waits_soundly configuration who partition (request.Buffer buffer operation) kept none =
-    given_fits partition.buffers buffer kept.buffers (buffer_found configuration who partition buffer operation none)
-waits_soundly configuration who partition (request.Blackboard blackboard (BlackboardOperation.Read time_out)) kept none =
-    given_fits partition.blackboards blackboard kept.blackboards (blackboard_found configuration who partition blackboard (BlackboardOperation.Read time_out) none)
-waits_soundly configuration who partition (request.Semaphore semaphore (SemaphoreOperation.Wait time_out)) kept none =
-    given_fits partition.semaphores semaphore kept.semaphores (semaphore_found configuration who partition semaphore (SemaphoreOperation.Wait time_out) none)
-waits_soundly configuration who partition (request.Event event (EventOperation.Wait time_out)) kept none =
-    given_fits partition.events event kept.events (event_found configuration who partition event (EventOperation.Wait time_out) none)
-waits_soundly configuration who partition (request.Mutex mutex (MutexOperation.Acquire time_out)) kept none =
-    given_fits partition.mutexes mutex kept.mutexes (mutex_found configuration who partition mutex (MutexOperation.Acquire time_out) none)
+waits_soundly configuration who partition (request.Object number (on.Buffer operation)) kept none =
+    given_fits partition.buffers number kept.buffers (buffer_found configuration who partition number operation none)
+waits_soundly configuration who partition (request.Object number (on.Blackboard operation)) kept none =
+    given_fits partition.blackboards number kept.blackboards (blackboard_found configuration who partition number operation none)
+waits_soundly configuration who partition (request.Object number (on.Semaphore operation)) kept none =
+    given_fits partition.semaphores number kept.semaphores (semaphore_found configuration who partition number operation none)
+waits_soundly configuration who partition (request.Object number (on.Event operation)) kept none =
+    given_fits partition.events number kept.events (event_found configuration who partition number operation none)
+waits_soundly configuration who partition (request.Object number (on.Mutex operation)) kept none =
+    given_fits partition.mutexes number kept.mutexes (mutex_found configuration who partition number operation none)
 waits_soundly configuration who partition _ kept none = tt
 
 -- releases

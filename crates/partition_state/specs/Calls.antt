@@ -17,7 +17,7 @@ use Rattle.apex_machine.specs.Demands.{AllHold, Demand, FirstFails, answer_deman
 use Rattle.apex_machine.specs.Ports.{channel_of, use_of}
 use Rattle.apex_machine.specs.ServiceConditions.{conditions_of}
 use Rattle.apex_machine.specs.Services.{NewNumber, answer_by, answer_of, done_with, peer}
-use Rattle.apex_machine.specs.State.{Partition, change_at, created, given_object, is_free}
+use Rattle.apex_machine.specs.State.{Partition, change_at, created, given_object, is_free, objects_of}
 use Rattle.apex_laws.specs.Laws.{entries_at}
 use Rattle.apex_laws.specs.PartLaws.{IsSoundPart}
 use Rattle.apex_laws.specs.PartBounds.{IsBoundedPart}
@@ -29,6 +29,9 @@ use Rattle.process_state.specs.declared.transfer.Transfer.{Transfer}
 use Rattle.wait_set.specs.declared.object.Actor.{Actor}
 use Rattle.wait_set.specs.declared.object.ObjFault.{ObjFault}
 use Rattle.wait_set.specs.declared.object.ObjFault.TheVariants.{Unlawful, Memory}
+use Rattle.apex_machine.specs.Objects.{object_effect}
+use Rattle.apex_types.specs.Shapes.{kind_used}
+use Rattle.apex_types.specs.declared.operation.ObjectOperation.{ObjectOperation}
 
 -- the numbers of all objects fit 32 bits
 pub record NumbersAreKept (partition : Partition) : Type 0 where
@@ -53,6 +56,10 @@ pub record IsClear (configuration : Configuration) (cores : List CoreState) (pla
   pub through : channel_of partition call.request ≡ None
   pub apart : call.claim.chan ≡ None
 
+-- a call that is ready to be served, in some configuration, on some core at some times of the cores
+abbrev pub IsReady : ℕ → Partition → CallRecord → Type 0
+IsReady place partition call = (configuration : Configuration) × (cores : List CoreState) × (core : ℕ) × IsClear configuration cores place core partition call
+
 -- what is demanded of the claim of a call on which no error condition holds and that goes through no channel: it is what the service gives
 -- its caller, at this time of its core
 abbrev pub served_demands : ℕ → Partition → CallRecord → List {1} Demand
@@ -71,6 +78,11 @@ actor_of place call = record { who = call.who; priority = call.claim.prio; place
 -- what is demanded of the claim of an operation on an object: it is what the object gives
 abbrev pub used_demands : {Object : Type 0} → List (ℕ × Object) → ℤ → (Object → Answer) → Claim → List {1} Demand
 used_demands objects given gives claim = answer_demands (answer_by (given_object objects given) gives) claim
+
+-- what is demanded of the claim of an operation of this process on the object of its kind and this number: it is what the rule gives
+abbrev pub object_demands : Partition → ℕ → ℤ → ObjectOperation → Claim → List {1} Demand
+object_demands partition caller given operation claim =
+    used_demands (objects_of partition (kind_used operation)) given (λ found. (object_effect caller operation found).answer) claim
 
 -- what is demanded of the claim of a creation: it is a new number
 abbrev pub created_demands : {Object : Type 0} → List (ℕ × Object) → Claim → List {1} Demand

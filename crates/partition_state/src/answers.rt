@@ -17,7 +17,8 @@ use crate::objects::caller_of;
 use crate::state::PartitionState;
 use apex_machine::Wait;
 use apex_types::{
-    Call, CallerOperation, Cause, Name, ObjectKind, Place, ProcessOperation, Request, Who,
+    Call, CallerOperation, Cause, Name, ObjectKind, ObjectOperation, Place, ProcessOperation,
+    Request, Who,
 };
 use object_table::ObjectTable;
 use wait_set::{Actor, ApexObject, Given, judge_value};
@@ -37,20 +38,8 @@ impl PartitionState {
             }
             Request::Caller(operation) => Some(self.own_answer(now, call.who, operation)),
             Request::SetPartitionMode(..) => Some(Given::never()),
-            Request::Buffer(buffer, operation) => {
-                Some(answer_by(&self.buffers, *buffer, &caller, operation))
-            }
-            Request::Blackboard(blackboard, operation) => {
-                Some(answer_by(&self.blackboards, *blackboard, &caller, operation))
-            }
-            Request::Semaphore(semaphore, operation) => {
-                Some(answer_by(&self.semaphores, *semaphore, &caller, operation))
-            }
-            Request::Event(event, operation) => {
-                Some(answer_by(&self.events, *event, &caller, operation))
-            }
-            Request::Mutex(mutex, operation) => {
-                Some(answer_by(&self.mutexes, *mutex, &caller, operation))
+            Request::Object(number, operation) => {
+                Some(self.object_answer(*number, &caller, operation))
             }
             Request::SamplingPort(..) | Request::QueuingPort(..) => Some(Given::done()),
             Request::GetId(kind, name) => Some(self.id_answer(*kind, name)),
@@ -83,11 +72,7 @@ impl PartitionState {
             Request::Process(..)
             | Request::Caller(..)
             | Request::SetPartitionMode(..)
-            | Request::Buffer(..)
-            | Request::Blackboard(..)
-            | Request::Semaphore(..)
-            | Request::Event(..)
-            | Request::Mutex(..)
+            | Request::Object(..)
             | Request::SamplingPort(..)
             | Request::QueuingPort(..)
             | Request::GetId(..)
@@ -107,6 +92,29 @@ impl PartitionState {
             ObjectKind::Mutex => self.mutexes.is_new_number(claimed),
             ObjectKind::SamplingPort => self.sampling_ports.is_new_number(claimed),
             ObjectKind::QueuingPort => self.queuing_ports.is_new_number(claimed),
+        }
+    }
+
+    // What an operation on the object of this number gives its caller; done, if there is none.
+    fn object_answer(&self, number: i64, caller: &Actor, operation: &ObjectOperation) -> Given<'_>
+        ensures { (now : ℕ) → answer_given result ≡ services.answer_of now caller.now.who self.now (request.Object number operation.now) }
+    {
+        match operation {
+            ObjectOperation::Buffer(operation) => {
+                answer_by(&self.buffers, number, caller, operation)
+            }
+            ObjectOperation::Blackboard(operation) => {
+                answer_by(&self.blackboards, number, caller, operation)
+            }
+            ObjectOperation::Semaphore(operation) => {
+                answer_by(&self.semaphores, number, caller, operation)
+            }
+            ObjectOperation::Event(operation) => {
+                answer_by(&self.events, number, caller, operation)
+            }
+            ObjectOperation::Mutex(operation) => {
+                answer_by(&self.mutexes, number, caller, operation)
+            }
         }
     }
 

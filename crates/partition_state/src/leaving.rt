@@ -17,8 +17,8 @@ ghost use Rattle.partition_state.specs.Calls.{IsAtWork, served_demands};
 ghost use Rattle.partition_state.specs.Leaving.{HasEntryWhereItWaits, HasEntryOnlyAt};
 
 use crate::state::PartitionState;
-use apex_machine::{Wait, WaitingSet};
-use apex_types::{Call, Code, Out, PartId, Place, ProcId, Who, Woken};
+use apex_machine::Wait;
+use apex_types::{Call, Code, ObjectKind, Out, PartId, Place, ProcId, Who, Woken};
 use std::alloc::AllocError;
 use wait_set::{ObjFault, judge_outcome};
 
@@ -32,15 +32,13 @@ impl PartitionState {
         let Wait::At(wanted, _) = wait else {
             return;
         };
-        match wanted {
-            WaitingSet::BufferSenders(number) | WaitingSet::BufferReceivers(number) => {
-                self.buffers.leave(number, who)
-            }
-            WaitingSet::BlackboardReaders(number) => self.blackboards.leave(number, who),
-            WaitingSet::SemaphoreWaiters(number) => self.semaphores.leave(number, who),
-            WaitingSet::EventWaiters(number) => self.events.leave(number, who),
-            WaitingSet::MutexWaiters(number) => self.mutexes.leave(number, who),
-            WaitingSet::ChannelSenders(_) | WaitingSet::ChannelReceivers(_) => {}
+        match wanted.kind {
+            ObjectKind::Buffer => self.buffers.leave(wanted.number, who),
+            ObjectKind::Blackboard => self.blackboards.leave(wanted.number, who),
+            ObjectKind::Semaphore => self.semaphores.leave(wanted.number, who),
+            ObjectKind::Event => self.events.leave(wanted.number, who),
+            ObjectKind::Mutex => self.mutexes.leave(wanted.number, who),
+            ObjectKind::SamplingPort | ObjectKind::QueuingPort => {}
         }
     }
 

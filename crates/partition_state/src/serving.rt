@@ -5,19 +5,21 @@ ghost use Rattle.apex_types.specs.declared.operation.NewObject.{NewObject};
 ghost use Rattle.apex_types.specs.declared.request.Request.TheVariants as request;
 ghost use Rattle.apex_machine.specs.After.{own_partition, partition_called};
 ghost use Rattle.apex_machine.specs.Demands.{AllHold, Judges, own_call_demands};
+ghost use Rattle.apex_machine.specs.Configuration.{Configuration};
 ghost use Rattle.apex_machine.specs.State.{time_of};
 ghost use Rattle.apex_machine.specs.Waiting.{restart_of as restarted_by};
 ghost use Rattle.apex_laws.specs.PartBounds.{IsBoundedPart};
 ghost use Rattle.apex_laws.specs.PartLaws.{IsSoundPart};
+ghost use Rattle.apex_laws.specs.PartObjects.{objects_changed};
 ghost use Rattle.process_state.specs.Timely.{TimesFit};
 ghost use Rattle.process_state.specs.Transfers.{IsTransferOf};
 ghost use Rattle.wait_set.specs.Actors.{Refuses};
-ghost use Rattle.partition_state.specs.Calls.{IsClear, IsJudged, LeavesObjects, RefusesOrWants, objects_served, served_demands};
+ghost use Rattle.partition_state.specs.Calls.{IsClear, IsJudged, IsReady, LeavesObjects, RefusesOrWants, object_demands, objects_served, served_demands};
 
 use crate::objects::{caller_of, use_object};
 use crate::restarting::restart_of;
 use crate::state::PartitionState;
-use apex_types::{Call, Cause, Out, ProcessOperation, Request};
+use apex_types::{Call, Cause, ObjectOperation, Out, Place, ProcessOperation, Request};
 use module_config::Config;
 use process_state::{Moment, Transfer};
 use std::alloc::AllocError;
@@ -135,31 +137,17 @@ impl PartitionState {
         ensures refused { IfErr result (Refuses (served_demands now self.old call.now)) }
         ensures unchanged { OnErr result (self.new ≡ self.old) }
     {
-        let claim = &call.claim;
-        let caller = caller_of(moment.place, call);
         match &call.request {
             Request::Process(process, ProcessOperation::Stop) => {
                 self.stop(moment.place, call, *process)?;
                 Ok(Transfer::none())
             }
             Request::Create(name, object) => {
-                self.create(config, call.who, name, object, claim)?;
+                self.create(config, call.who, name, object, &call.claim)?;
                 Ok(Transfer::none())
             }
-            Request::Buffer(buffer, operation) => {
-                use_object(&mut self.buffers, *buffer, caller, operation, claim)
-            }
-            Request::Blackboard(blackboard, operation) => {
-                use_object(&mut self.blackboards, *blackboard, caller, operation, claim)
-            }
-            Request::Semaphore(semaphore, operation) => {
-                use_object(&mut self.semaphores, *semaphore, caller, operation, claim)
-            }
-            Request::Event(event, operation) => {
-                use_object(&mut self.events, *event, caller, operation, claim)
-            }
-            Request::Mutex(mutex, operation) => {
-                use_object(&mut self.mutexes, *mutex, caller, operation, claim)
+            Request::Object(number, operation) => {
+                self.use_one(moment.place, call, *number, operation)
             }
             Request::SamplingPort(..) | Request::QueuingPort(..) => unreachable!(),
             Request::CreateProcess { .. }
@@ -168,6 +156,43 @@ impl PartitionState {
             | Request::SetPartitionMode(..)
             | Request::GetId(..)
             | Request::GetStatus(..) => accepted(self.judge(now, moment.place, call)),
+        }
+    }
+
+    // Carries out an operation on the object of this number. Returns what becomes of the owner of a mutex.
+    fn use_one(
+        &mut self,
+        place: Place,
+        call: &Call,
+        number: i64,
+        operation: &ObjectOperation,
+    ) -> Result<Transfer, ObjFault>
+        requires ready { IsReady place self.old call.now }
+        requires asked { call.now.request ≡ request.Object number operation.now }
+        ensures ok { OnOk result (AllHold (object_demands self.old call.now.who.proc number operation.now call.now.claim)) }
+        ensures after { OnOk result ((configuration : Configuration) → self.new ≡ objects_changed configuration place call.now (request.Object number operation.now) self.old) }
+        ensures transfer { IfOk result (IsTransferOf self.old call.now.who.proc (request.Object number operation.now)) }
+        ensures refused { IfErr result (Refuses (object_demands self.old call.now.who.proc number operation.now call.now.claim)) }
+        ensures unchanged { OnErr result (self.new ≡ self.old) }
+    {
+        let claim = &call.claim;
+        let caller = caller_of(place, call);
+        match operation {
+            ObjectOperation::Buffer(operation) => {
+                use_object(&mut self.buffers, number, caller, operation, claim)
+            }
+            ObjectOperation::Blackboard(operation) => {
+                use_object(&mut self.blackboards, number, caller, operation, claim)
+            }
+            ObjectOperation::Semaphore(operation) => {
+                use_object(&mut self.semaphores, number, caller, operation, claim)
+            }
+            ObjectOperation::Event(operation) => {
+                use_object(&mut self.events, number, caller, operation, claim)
+            }
+            ObjectOperation::Mutex(operation) => {
+                use_object(&mut self.mutexes, number, caller, operation, claim)
+            }
         }
     }
 }

@@ -6,12 +6,12 @@ use Rattle.apex_types.specs.declared.limits.TheConstants.{PLACE_COUNT}
 use Rattle.apex_types.specs.declared.record.Body.{Body}
 use Rattle.apex_types.specs.declared.record.Body.TheVariants.{Call, Ret, Disp, Tick}
 use Rattle.apex_types.specs.declared.record.Ordered.{Ordered}
+use Rattle.apex_types.specs.declared.shape.End.TheVariants.{Senders, Receivers}
 use Rattle.apex_machine.specs.declared.state.CoreState.{CoreState}
 use Rattle.apex_machine.specs.declared.state.Entry.{Entry}
 use Rattle.apex_machine.specs.declared.state.WaitingSet.{WaitingSet}
-use Rattle.apex_machine.specs.declared.state.WaitingSet.TheVariants as set
 use Rattle.apex_machine.specs.Configuration.{Configuration}
-use Rattle.apex_machine.specs.State.{time_of, at_core, cold_core, cold_partition, cold_state, is_named}
+use Rattle.apex_machine.specs.State.{time_of, at_core, cold_core, cold_partition, cold_state, is_named, channel_set}
 use Rattle.apex_machine.specs.Waiting.{ends_wait, enters, entry_of, set_after, without}
 use Rattle.apex_machine.specs.After.{cores_by}
 use Rattle.apex_machine.specs.Pieces.{Module, OfChannel, OfPartition, Part, Piece, ChannelPart, ModulePart, PartitionPart, one_more, part, part_after, time_at, times_by, times_of}
@@ -183,8 +183,8 @@ kept_after configuration (PartitionPart number cores partition) ordered holds_be
   bounded = part_stays_bounded.1 configuration number cores partition ordered holds_before.kept.sound holds_before.kept.bounded holds_before.times fits hold;
 }
 kept_after configuration (ChannelPart number times channel) ordered holds_before hold fits caller = record {
-  senders = set_before ordered.pos ordered.rec.body (set.ChannelSenders number) channel.senders caller holds_before.kept.senders;
-  receivers = set_before ordered.pos ordered.rec.body (set.ChannelReceivers number) channel.receivers caller holds_before.kept.receivers;
+  senders = set_before ordered.pos ordered.rec.body (channel_set number Senders) channel.senders caller holds_before.kept.senders;
+  receivers = set_before ordered.pos ordered.rec.body (channel_set number Receivers) channel.receivers caller holds_before.kept.receivers;
 }
 
 -- a record whose demands hold leaves a part after the next place

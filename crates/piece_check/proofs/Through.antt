@@ -8,14 +8,15 @@ use Rattle.apex_types.specs.declared.record.Call.{Call as CallRecord}
 use Rattle.apex_types.specs.declared.record.Ordered.{Ordered}
 use Rattle.apex_types.specs.declared.record.Who.{Who}
 use Rattle.apex_types.specs.declared.request.Request.{Request}
+use Rattle.apex_types.specs.declared.operation.ObjectOperation.TheVariants as on
 use Rattle.apex_types.specs.declared.request.Request.TheVariants as request
+use Rattle.apex_types.specs.declared.shape.End.TheVariants.{Senders, Receivers}
 use Rattle.apex_machine.specs.declared.state.Entry.{Entry}
 use Rattle.apex_machine.specs.declared.state.Mode.{Mode}
-use Rattle.apex_machine.specs.declared.state.WaitingSet.TheVariants as set
 use Rattle.apex_machine.specs.After.{channel_after, is_channel}
 use Rattle.apex_machine.specs.Configuration.{Configuration}
 use Rattle.apex_machine.specs.Demands.{AllHold, Judges, channel_demands, through_demands}
-use Rattle.apex_machine.specs.State.{Channel, is_named}
+use Rattle.apex_machine.specs.State.{Channel, is_named, channel_set}
 use Rattle.apex_machine.specs.Waiting.{ends_wait, enters, is_the_set, is_waiting, restart_of, set_of, stops, without}
 use Rattle.apex_laws.specs.Laws.{AllEntries}
 use Rattle.apex_laws.proofs.Booleans.{cannot_hold, is_itself, neither_first, neither_later, not_second}
@@ -66,16 +67,16 @@ stays_configured (Err fault) configuration place now call old new configured aft
 
 -- their callers enter neither of its sets
 enters_neither : (number : ℕ) (asked : Request) (chan : Option ℕ) → is_channel number chan ≡ false
-    → (is_the_set (set.ChannelSenders number) (set_of asked chan) || is_the_set (set.ChannelReceivers number) (set_of asked chan)) ≡ false
+    → (is_the_set (channel_set number Senders) (set_of asked chan) || is_the_set (channel_set number Receivers) (set_of asked chan)) ≡ false
 enters_neither number (request.QueuingPort port (QueuingOperation.Send length time_out message)) (Some channel) apart = rw apart refl
 enters_neither number (request.QueuingPort port (QueuingOperation.Send length time_out message)) None apart = refl
-enters_neither number (request.QueuingPort port (QueuingOperation.Receive time_out)) (Some channel) apart = apart
+enters_neither number (request.QueuingPort port (QueuingOperation.Receive time_out)) (Some channel) apart = rw apart refl
 enters_neither number (request.QueuingPort port (QueuingOperation.Receive time_out)) None apart = refl
-enters_neither number (request.Buffer buffer (BufferOperation.Receive time_out)) chan apart = refl
-enters_neither number (request.Blackboard blackboard (BlackboardOperation.Read time_out)) chan apart = refl
-enters_neither number (request.Semaphore semaphore (SemaphoreOperation.Wait time_out)) chan apart = refl
-enters_neither number (request.Event event (EventOperation.Wait time_out)) chan apart = refl
-enters_neither number (request.Mutex mutex (MutexOperation.Acquire time_out)) chan apart = refl
+enters_neither number (request.Object buffer (on.Buffer (BufferOperation.Receive time_out))) chan apart = refl
+enters_neither number (request.Object blackboard (on.Blackboard (BlackboardOperation.Read time_out))) chan apart = refl
+enters_neither number (request.Object semaphore (on.Semaphore (SemaphoreOperation.Wait time_out))) chan apart = refl
+enters_neither number (request.Object event (on.Event (EventOperation.Wait time_out))) chan apart = refl
+enters_neither number (request.Object mutex (on.Mutex (MutexOperation.Acquire time_out))) chan apart = refl
 enters_neither number _ chan apart = refl
 
 -- so that only those leave whose waits they end, and the others are left
@@ -86,8 +87,8 @@ pub after_letting_go : (configuration : Configuration) (now place number : ℕ) 
 after_letting_go configuration now place number call channel ordered left other body before are =
     let apart = elsewhere number call.claim.chan other in
     let neither = enters_neither number call.request call.claim.chan apart in
-    let senders : enters call (set.ChannelSenders number) ≡ false = not_second (is_waiting call.claim.out) _ (neither_first _ _ neither) in
-    let receivers : enters call (set.ChannelReceivers number) ≡ false = not_second (is_waiting call.claim.out) _ (neither_later _ _ neither) in
+    let senders : enters call (channel_set number Senders) ≡ false = not_second (is_waiting call.claim.out) _ (neither_first _ _ neither) in
+    let receivers : enters call (channel_set number Receivers) ≡ false = not_second (is_waiting call.claim.out) _ (neither_later _ _ neither) in
     rw (body, apart, senders, receivers, are channel.senders before.senders, are channel.receivers before.receivers) refl
 
 -- those who leave

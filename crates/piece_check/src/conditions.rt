@@ -16,10 +16,7 @@ use apex_machine::{Condition, Mode};
 use apex_types::{Call, Request, Who};
 use creations::create_conditions;
 use module_config::Config;
-use objects::{
-    blackboard_conditions, buffer_conditions, event_conditions, mutex_conditions,
-    semaphore_conditions,
-};
+use objects::object_conditions;
 use partition_state::PartitionState;
 use port_services::{queuing_conditions, sampling_conditions};
 use processes::{caller_conditions, create_process, process_conditions, set_mode};
@@ -43,18 +40,7 @@ pub(crate) fn conditions_of(config: &Config, state: &PartitionState, call: &Call
         Request::Caller(operation) => caller_conditions(state, who, operation),
         Request::SetPartitionMode(mode) => set_mode(state.processes().mode(), *mode),
         Request::Create(name, object) => create_conditions(config, who.part, state, name, object),
-        Request::Buffer(buffer, operation) => buffer_conditions(state, who, *buffer, operation),
-        Request::Blackboard(blackboard, operation) => blackboard_conditions(
-            state,
-            who,
-            *blackboard,
-            operation,
-        ),
-        Request::Semaphore(semaphore, operation) => semaphore_conditions(
-            state, who, *semaphore, operation,
-        ),
-        Request::Event(event, operation) => event_conditions(state, who, *event, operation),
-        Request::Mutex(mutex, operation) => mutex_conditions(state, who, *mutex, operation),
+        Request::Object(number, operation) => object_conditions(state, who, *number, operation),
         Request::SamplingPort(port, operation) => sampling_conditions(state, *port, operation),
         Request::QueuingPort(port, operation) => {
             queuing_conditions(state, who, *port, operation)

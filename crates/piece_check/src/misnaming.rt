@@ -12,7 +12,7 @@ use crate::held::Held;
 use crate::partition_piece::PartitionPiece;
 use crate::piece::Piece;
 use apex_machine::{Process, Wait, WaitingSet};
-use apex_types::{Call, CoreId, ProcId, QueuingOperation, Request, Who, Woken};
+use apex_types::{Call, CoreId, End, ProcId, QueuingOperation, Request, Who, Woken};
 use wait_set::{Given, WaitSet};
 
 /// How a record names a process wrongly.
@@ -84,10 +84,11 @@ impl PartitionPiece {
         let Some(channel) = call.claim.chan else {
             return false;
         };
-        let wanted = match operation {
-            QueuingOperation::Send { .. } => WaitingSet::ChannelReceivers(channel),
-            QueuingOperation::Receive { .. } => WaitingSet::ChannelSenders(channel),
+        let end = match operation {
+            QueuingOperation::Send { .. } => End::Receivers,
+            QueuingOperation::Receive { .. } => End::Senders,
         };
+        let wanted = WaitingSet::of_channel(channel, end);
         let who = Who {
             part: self.number,
             proc: process,

@@ -26,8 +26,8 @@ use crate::views::{call_view, return_view};
 use crate::windows::{WindowAt, window_by};
 use apex_machine::{Outcome, WaitingSet};
 use apex_types::{
-    Body, Call, Cause, CoreId, Ordered, PartId, ProcId, QueuingOperation, Request, Return, Service,
-    View, Who, Woken,
+    Body, Call, Cause, CoreId, End, Ordered, PartId, ProcId, QueuingOperation, Request, Return,
+    Service, View, Who, Woken,
 };
 use dispatch_rule::Clock;
 use module_config::Config;
@@ -427,10 +427,11 @@ impl PartitionPiece {
         let Some(channel) = call.claim.chan else {
             return false;
         };
-        let wanted = match operation {
-            QueuingOperation::Send { .. } => WaitingSet::ChannelReceivers(channel),
-            QueuingOperation::Receive { .. } => WaitingSet::ChannelSenders(channel),
+        let end = match operation {
+            QueuingOperation::Send { .. } => End::Receivers,
+            QueuingOperation::Receive { .. } => End::Senders,
         };
+        let wanted = WaitingSet::of_channel(channel, end);
         self.state
             .processes()
             .all_wait_at(wanted, self.number, call.claim.woken.as_slice())

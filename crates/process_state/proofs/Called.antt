@@ -16,8 +16,8 @@ use Rattle.apex_machine.specs.Configuration.{Configuration, first_core, period_o
 use Rattle.apex_machine.specs.State.{Partition, Table, each_item, is_free, is_named, item_at, time_of}
 use Rattle.apex_machine.specs.Answer.{is_new}
 use Rattle.apex_machine.specs.DueTimes.{next_release}
-use Rattle.apex_machine.specs.Processes.{caller_after, message_handed_over, new_process, set_by, stopped, woken_by}
-use Rattle.apex_machine.specs.Waiting.{is_no_error, stop_of, stops}
+use Rattle.apex_machine.specs.Processes.{caller_after, new_process, set_by, stopped, woken_by}
+use Rattle.apex_machine.specs.Waiting.{is_no_error, stop_of, stops, message_of}
 use Rattle.apex_machine.specs.After.{adjusted, called, created_by, is_done, mode_by, numbered, partition_called}
 use Rattle.process_state.specs.Changes.{only, with_each}
 use Rattle.process_state.specs.Peers.{peer_at, peer_woken, is_peer, stopped_by, wakes}
@@ -113,9 +113,9 @@ peers-are place now period cores call partition number process =
   where
     by : (c s n : Bool) (x : Process)
         → (if (not c && not s) && n
-        then woken_by place (message_handed_over call.request) (if not c && s then stopped (if c then caller_after place now call x else x) else (if c then caller_after place now call x else x))
+        then woken_by place (message_of call.request) (if not c && s then stopped (if c then caller_after place now call x else x) else (if c then caller_after place now call x else x))
         else (if not c && s then stopped (if c then caller_after place now call x else x) else (if c then caller_after place now call x else x)))
-        ≡ (if c then caller_after place now call x else if s then stopped x else if n then woken_by place (message_handed_over call.request) x else x)
+        ≡ (if c then caller_after place now call x else if s then stopped x else if n then woken_by place (message_of call.request) x else x)
     by true s n x = refl
     by false true n x = refl
     by false false true x = refl

@@ -4,6 +4,7 @@ use Rattle.std.proofs.lemmas.Bool.Decides.{nat_tests}
 use Rattle.apex_types.specs.declared.record.Call.{Call as CallRecord}
 use Rattle.apex_types.specs.declared.operation.{MutexOperation.MutexOperation, ProcessOperation.ProcessOperation}
 use Rattle.apex_types.specs.declared.request.Request.{Request}
+use Rattle.apex_types.specs.declared.operation.ObjectOperation.TheVariants as on
 use Rattle.apex_types.specs.declared.request.Request.TheVariants as request
 use Rattle.apex_machine.specs.declared.state.CoreState.{CoreState}
 use Rattle.apex_machine.specs.declared.state.Process.{Process}
@@ -17,6 +18,9 @@ use Rattle.process_state.specs.Numbers.{NumbersFit, number_of}
 use Rattle.process_state.specs.Processes.{Processes}
 use Rattle.process_state.specs.Sound.{AsksSoundly}
 use Rattle.process_state.proofs.Tables.{each_item-congr, each_item-same, nat_eq-swap, with_table}
+use Rattle.process_state.specs.declared.transfer.Transfer.{Transfer}
+use Rattle.process_state.specs.Transfers.{IsTransferOf, passed_on}
+use Rattle.apex_types.specs.declared.operation.ObjectOperation.{ObjectOperation}
 
 pub append-nothing : (table : Table) → table ++ [] ≡ table
 append-nothing [] = refl
@@ -57,14 +61,23 @@ pub carried-none : (place period first : ℕ) (cores : List CoreState) (call : C
     → ((name : List ℕ) (priority own : ℤ) → asked ≡ request.CreateProcess name priority own → ⊥)
     → ((process : ℤ) (operation : ProcessOperation) → asked ≡ request.Process process operation → ⊥)
     → ((mode : ℤ) → asked ≡ request.SetPartitionMode mode → ⊥)
-    → ((mutex : ℤ) (operation : MutexOperation) → asked ≡ request.Mutex mutex operation → ⊥)
+    → ((number : ℤ) (operation : ObjectOperation) → asked ≡ request.Object number operation → ⊥)
     → old ≡ carried place period first cores call asked partition old
 carried-none place period first cores call (request.CreateProcess name priority own) partition old create target mode mutex = absurd (create name priority own refl)
 carried-none place period first cores call (request.Process process operation) partition old create target mode mutex = absurd (target process operation refl)
 carried-none place period first cores call (request.SetPartitionMode given) partition old create target mode mutex = absurd (mode given refl)
-carried-none place period first cores call (request.Mutex given operation) partition old create target mode mutex = absurd (mutex given operation refl)
+carried-none place period first cores call (request.Object given operation) partition old create target mode object = absurd (object given operation refl)
 carried-none place period first cores call _ partition old create target mode mutex =
     ap (with_table old) (sym (append-nothing _ ∙ each_item-same _ (λ number process. refl) old.table))
+
+-- a service of an object
+pub carried-object : (place period first : ℕ) (cores : List CoreState) (call : CallRecord) (given : ℤ) (operation : ObjectOperation) (transfer : Transfer) (partition : Partition) (old new : Processes)
+    → IsTransferOf partition call.who.proc (request.Object given operation) transfer → new ≡ passed_on transfer operation old
+    → new ≡ carried place period first cores call (request.Object given operation) partition old
+carried-object place period first cores call given (on.Mutex operation) transfer partition old new passes is =
+    is ∙ ap (with_table old) (each_item-congr _ _ (λ number process. sym (passes number process)) old.table ∙ sym (append-nothing _))
+carried-object place period first cores call given _ transfer partition old new passes is =
+    is ∙ ap (with_table old) (sym (append-nothing _ ∙ each_item-same _ (λ number process. refl) old.table))
 
 -- CREATE_PROCESS
 

@@ -3,9 +3,9 @@ use Rattle.std.specs.Prelude.{ℕ, Bool, not, nat_eq, ◌&&◌, if◌then◌else
 use Rattle.apex_types.specs.declared.record.Call.{Call as CallRecord}
 use Rattle.apex_types.specs.declared.record.Who.{Who}
 use Rattle.apex_machine.specs.declared.state.Process.{Process}
-use Rattle.apex_machine.specs.Processes.{message_handed_over, stopped, woken_by}
+use Rattle.apex_machine.specs.Processes.{stopped, woken_by}
 use Rattle.apex_machine.specs.State.{is_named}
-use Rattle.apex_machine.specs.Waiting.{stops}
+use Rattle.apex_machine.specs.Waiting.{stops, message_of}
 
 -- the process of this number of the caller's partition
 abbrev pub peer_at : CallRecord → ℕ → Who
@@ -26,4 +26,4 @@ wakes call number = is_peer call number && not (stops call (peer_at call number)
 -- such a process, whose wait the call may end
 abbrev pub peer_woken : ℕ → CallRecord → ℕ → Process → Process
 peer_woken place call number process =
-    if wakes call number && is_named (peer_at call number) call.claim.woken then woken_by place (message_handed_over call.request) process else process
+    if wakes call number && is_named (peer_at call number) call.claim.woken then woken_by place (message_of call.request) process else process

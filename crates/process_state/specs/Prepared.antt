@@ -6,8 +6,9 @@ use Rattle.apex_types.specs.declared.record.Out.TheVariants as out
 use Rattle.apex_types.specs.declared.request.Request.{Request}
 use Rattle.apex_types.specs.declared.request.Request.TheVariants as request
 use Rattle.apex_machine.specs.declared.state.Outcome.{Outcome}
-use Rattle.apex_machine.specs.Processes.{message_handed_over, outcome_of}
+use Rattle.apex_machine.specs.Processes.{outcome_of}
 use Rattle.process_state.specs.HandedOver.{AreCopies}
+use Rattle.apex_machine.specs.Waiting.{message_of}
 
 -- what is prepared for a call: the outcome that becomes due to its caller, if one does, and messages for the processes whose waits it ends
 pub record Preparation : Type 0 where
@@ -28,7 +29,7 @@ outcome_due call _ = None
 pub record IsPreparedFor (call : CallRecord) (prepared : Preparation) : Type 0 where
   pub outcome : prepared.outcome ≡ outcome_due call call.claim.out
   pub enough : length prepared.messages ≡ length call.claim.woken
-  pub alike : AreCopies (message_handed_over call.request) prepared.messages
+  pub alike : AreCopies (message_of call.request) prepared.messages
 
 -- whether a request is CREATE_PROCESS: no other request takes memory once its call is prepared
 abbrev pub creates_process : Request → Bool

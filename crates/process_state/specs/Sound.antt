@@ -1,7 +1,7 @@
 -- What a call must satisfy so that a table can hold what it requests.
 use Rattle.std.specs.Prelude.{◌≡◌, ◌<◌, ℕ, Some, [], IsTrue, Bool, true, false, nat_lt, ℤ, pos, negsuc}
 use Rattle.apex_types.specs.declared.record.Call.{Call as CallRecord}
-use Rattle.apex_types.specs.declared.operation.{BlackboardOperation.BlackboardOperation, CallerOperation.CallerOperation, EventOperation.EventOperation, MutexOperation.MutexOperation, ProcessOperation.ProcessOperation, SemaphoreOperation.SemaphoreOperation}
+use Rattle.apex_types.specs.declared.operation.{CallerOperation.CallerOperation, ProcessOperation.ProcessOperation}
 use Rattle.apex_types.specs.declared.request.Request.{Request}
 use Rattle.apex_types.specs.declared.request.Request.TheVariants as request
 use Rattle.apex_machine.specs.declared.state.Process.{Process}
@@ -37,11 +37,7 @@ IsObjectNumber given = natural_of given < 4294967296
 
 -- if a call waits at an object, the object's number fits
 abbrev pub WaitsSoundly : Request → Type 0
-WaitsSoundly (request.Buffer buffer operation) = IsObjectNumber buffer
-WaitsSoundly (request.Blackboard blackboard (BlackboardOperation.Read time_out)) = IsObjectNumber blackboard
-WaitsSoundly (request.Semaphore semaphore (SemaphoreOperation.Wait time_out)) = IsObjectNumber semaphore
-WaitsSoundly (request.Event event (EventOperation.Wait time_out)) = IsObjectNumber event
-WaitsSoundly (request.Mutex mutex (MutexOperation.Acquire time_out)) = IsObjectNumber mutex
+WaitsSoundly (request.Object number operation) = IsObjectNumber number
 WaitsSoundly _ = Unit {0}
 
 -- whether a request is PERIODIC_WAIT

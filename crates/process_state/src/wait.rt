@@ -9,7 +9,7 @@ ghost use Rattle.apex_machine.specs.Waiting as waiting;
 ghost use Rattle.process_state.specs.Ranks as ranks;
 
 use apex_machine::{Wait, WaitingSet};
-use apex_types::{Code, Service};
+use apex_types::{Code, ObjectKind, Service};
 
 /// Whether a wait is for nothing.
 pub fn is_none(wait: Wait) -> bool
@@ -29,7 +29,16 @@ pub fn is_for_normal(wait: Wait) -> bool
 pub fn is_for_mutex(wait: Wait) -> bool
     ensures { result ≡ due_times.is_for_mutex wait }
 {
-    matches!(wait, Wait::At(WaitingSet::MutexWaiters(_), _))
+    matches!(
+        wait,
+        Wait::At(
+            WaitingSet {
+                kind: ObjectKind::Mutex,
+                ..
+            },
+            _
+        )
+    )
 }
 
 /// When a wait is over, in ticks of the process's core, if time ends it.
@@ -62,24 +71,8 @@ pub fn service_of(wait: Wait) -> Option<Service>
         Wait::Until(_) => Some(Service::TimedWait),
         Wait::PeriodicRelease(_) => Some(Service::PeriodicWait),
         Wait::Suspended(_) => Some(Service::SuspendSelf),
-        Wait::At(set, _) => Some(service_at(set)),
+        Wait::At(set, _) => set.service(),
         Wait::Nothing | Wait::NormalMode | Wait::FirstRelease(_) => None,
-    }
-}
-
-// The service for which the processes of a set wait.
-fn service_at(set: WaitingSet) -> Service
-    ensures { result ≡ waiting.service_at set }
-{
-    match set {
-        WaitingSet::BufferSenders(_) => Service::SendBuffer,
-        WaitingSet::BufferReceivers(_) => Service::ReceiveBuffer,
-        WaitingSet::BlackboardReaders(_) => Service::ReadBlackboard,
-        WaitingSet::SemaphoreWaiters(_) => Service::WaitSemaphore,
-        WaitingSet::EventWaiters(_) => Service::WaitEvent,
-        WaitingSet::MutexWaiters(_) => Service::AcquireMutex,
-        WaitingSet::ChannelSenders(_) => Service::SendQueuingMessage,
-        WaitingSet::ChannelReceivers(_) => Service::ReceiveQueuingMessage,
     }
 }
 

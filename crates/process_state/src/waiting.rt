@@ -11,10 +11,7 @@ ghost use Rattle.process_state.specs.Sound as sound;
 ghost use Rattle.process_state.specs.Sound.{WaitsSoundly};
 
 use apex_machine::{Wait, WaitingSet};
-use apex_types::{
-    BlackboardOperation, BufferOperation, CallerOperation, ChanId, EventOperation, MutexOperation,
-    QueuingOperation, Request, SemaphoreOperation,
-};
+use apex_types::{CallerOperation, ChanId, Request};
 
 /// What a caller waits for, if it began to wait when its core's time was `now`. `next` is its next release, in ticks, which only
 /// PERIODIC_WAIT uses. A port's set is that of its channel.
@@ -58,39 +55,19 @@ fn set_of(request: &Request, channel: Option<ChanId>) -> Option<WaitingSet>
     ensures { result ≡ waiting.set_of request.now channel }
 {
     match request {
-        Request::Buffer(buffer, operation) => Some(set_at_buffer(
-            object_number(*buffer),
-            operation,
-        )),
-        Request::Blackboard(blackboard, BlackboardOperation::Read { .. }) => Some(
-            WaitingSet::BlackboardReaders(object_number(*blackboard)),
-        ),
-        Request::Semaphore(semaphore, SemaphoreOperation::Wait { .. }) => Some(
-            WaitingSet::SemaphoreWaiters(object_number(*semaphore)),
-        ),
-        Request::Event(event, EventOperation::Wait { .. }) => Some(WaitingSet::EventWaiters(
-            object_number(*event),
-        )),
-        Request::Mutex(mutex, MutexOperation::Acquire { .. }) => Some(WaitingSet::MutexWaiters(
-            object_number(*mutex),
-        )),
-        Request::QueuingPort(_, QueuingOperation::Send { .. }) => Some(WaitingSet::ChannelSenders(
-            channel?,
-        )),
-        Request::QueuingPort(_, QueuingOperation::Receive { .. }) => Some(
-            WaitingSet::ChannelReceivers(channel?),
-        ),
+        Request::Object(number, operation) => {
+            let wait = operation.shape().wait?;
+            Some(WaitingSet {
+                kind: operation.kind(),
+                number: object_number(*number),
+                end: wait.end,
+            })
+        }
+        Request::QueuingPort(_, operation) => {
+            let wait = operation.shape().wait?;
+            Some(WaitingSet::of_channel(channel?, wait.end))
+        }
         _ => None,
-    }
-}
-
-// The set of the buffer of this number in which a caller waits.
-fn set_at_buffer(buffer: u32, operation: &BufferOperation) -> WaitingSet
-    ensures { (given : ℤ) (channel : Option ℕ) → natural_of given ≡ buffer → Some result ≡ waiting.set_of (request.Buffer given operation.now) channel }
-{
-    match operation {
-        BufferOperation::Send { .. } => WaitingSet::BufferSenders(buffer),
-        BufferOperation::Receive { .. } => WaitingSet::BufferReceivers(buffer),
     }
 }
 
@@ -107,15 +84,9 @@ fn time_out_of(request: &Request) -> Option<i64>
     ensures { result ≡ due_times.time_out_of request.now }
 {
     match request {
-        Request::Caller(CallerOperation::SuspendSelf { time_out })
-        | Request::Buffer(_, BufferOperation::Send { time_out, .. })
-        | Request::Buffer(_, BufferOperation::Receive { time_out })
-        | Request::Blackboard(_, BlackboardOperation::Read { time_out })
-        | Request::Semaphore(_, SemaphoreOperation::Wait { time_out })
-        | Request::Event(_, EventOperation::Wait { time_out })
-        | Request::Mutex(_, MutexOperation::Acquire { time_out })
-        | Request::QueuingPort(_, QueuingOperation::Send { time_out, .. })
-        | Request::QueuingPort(_, QueuingOperation::Receive { time_out }) => Some(*time_out),
+        Request::Caller(CallerOperation::SuspendSelf { time_out }) => Some(*time_out),
+        Request::Object(_, operation) => Some(operation.shape().wait?.time_out),
+        Request::QueuingPort(_, operation) => Some(operation.shape().wait?.time_out),
         _ => None,
     }
 }

@@ -4,16 +4,23 @@ use Rattle.std.proofs.lemmas.Bool.{false≢true}
 use Rattle.std.proofs.lemmas.Bool.Decides.{Decides-and, Decides-eqb}
 use Rattle.std.specs.Option.{option_eq}
 use denote.Enum.Bare.{same_true}
+use Rattle.apex_types.specs.declared.object_kind.ObjectKind.TheVariants as kind
+use Rattle.apex_types.specs.contracts.object_kind.ObjectKind.{the_type as kind_type}
+use Rattle.apex_types.specs.contracts.object_kind.ObjectKindPartialEq.TheImpl as kinds
 use Rattle.apex_types.specs.contracts.service.Service.{the_type}
 use Rattle.apex_types.specs.contracts.service.ServicePartialEq.TheImpl as services
+use Rattle.apex_types.specs.contracts.shape.End.{the_type as end_type}
+use Rattle.apex_types.specs.contracts.shape.EndPartialEq.TheImpl as ends
+use Rattle.apex_types.specs.declared.object_kind.ObjectKind.{ObjectKind}
 use Rattle.apex_types.specs.declared.service.Service.{Service}
+use Rattle.apex_types.specs.declared.shape.End.{End}
 use Rattle.apex_types.specs.declared.service.Service.TheVariants as service
+use Rattle.apex_types.specs.declared.shape.End.TheVariants.{Senders, Receivers}
 use Rattle.apex_machine.specs.contracts.state.WaitPartialEq.TheImpl as waits
 use Rattle.apex_machine.specs.contracts.state.WaitingSetPartialEq.TheImpl as sets
 use Rattle.apex_machine.specs.declared.state.Wait.{Wait}
 use Rattle.apex_machine.specs.declared.state.Wait.TheVariants as wait
 use Rattle.apex_machine.specs.declared.state.WaitingSet.{WaitingSet}
-use Rattle.apex_machine.specs.declared.state.WaitingSet.TheVariants as set
 
 -- options are equal exactly if what they hold is shown alike
 pub same_shown_option : {Item Image : Type 0} (equal : Item → Item → Bool) (image : Item → Image) → ((a b : Item) → Decides (equal a b) (image a ≡ image b)) → (a b : Option Item)
@@ -40,16 +47,28 @@ service_itself _ = refl
 pub same_service : (a b : Service) → Decides (services.eq-value.it a b) (a ≡ b)
 same_service a b = (λ holds. same_true the_type (search rules) a b holds, λ same. subst (λ one. services.eq-value.it a one ≡ true) same (service_itself a))
 
+kind_itself : (one : ObjectKind) → kinds.eq-value.it one one ≡ true
+kind_itself kind.Buffer = refl
+kind_itself _ = refl
+
+end_itself : (one : End) → ends.eq-value.it one one ≡ true
+end_itself Senders = refl
+end_itself Receivers = refl
+
+-- kinds of objects, and ends, are equal exactly if they are the same
+same_kind : (a b : ObjectKind) → Decides (kinds.eq-value.it a b) (a ≡ b)
+same_kind a b = (λ holds. same_true kind_type (search rules) a b holds, λ same. subst (λ one. kinds.eq-value.it a one ≡ true) same (kind_itself a))
+
+same_end : (a b : End) → Decides (ends.eq-value.it a b) (a ≡ b)
+same_end a b = (λ holds. same_true end_type (search rules) a b holds, λ same. subst (λ one. ends.eq-value.it a one ≡ true) same (end_itself a))
+
+-- so are waiting sets
 same_set : (a b : WaitingSet) → Decides (sets.eq-value.it a b) (a ≡ b)
-same_set (set.BufferSenders a) (set.BufferSenders b) = (λ holds. ap set.BufferSenders ((Decides-eqb a b).0 holds), λ same. (Decides-eqb a b).1 cc)
-same_set (set.BufferReceivers a) (set.BufferReceivers b) = (λ holds. ap set.BufferReceivers ((Decides-eqb a b).0 holds), λ same. (Decides-eqb a b).1 cc)
-same_set (set.BlackboardReaders a) (set.BlackboardReaders b) = (λ holds. ap set.BlackboardReaders ((Decides-eqb a b).0 holds), λ same. (Decides-eqb a b).1 cc)
-same_set (set.SemaphoreWaiters a) (set.SemaphoreWaiters b) = (λ holds. ap set.SemaphoreWaiters ((Decides-eqb a b).0 holds), λ same. (Decides-eqb a b).1 cc)
-same_set (set.EventWaiters a) (set.EventWaiters b) = (λ holds. ap set.EventWaiters ((Decides-eqb a b).0 holds), λ same. (Decides-eqb a b).1 cc)
-same_set (set.MutexWaiters a) (set.MutexWaiters b) = (λ holds. ap set.MutexWaiters ((Decides-eqb a b).0 holds), λ same. (Decides-eqb a b).1 cc)
-same_set (set.ChannelSenders a) (set.ChannelSenders b) = (λ holds. ap set.ChannelSenders ((Decides-eqb a b).0 holds), λ same. (Decides-eqb a b).1 cc)
-same_set (set.ChannelReceivers a) (set.ChannelReceivers b) = (λ holds. ap set.ChannelReceivers ((Decides-eqb a b).0 holds), λ same. (Decides-eqb a b).1 cc)
-same_set a b = (λ holds. cc, λ same. cc)
+same_set a b =
+    let both = Decides-and _ _ (same_kind a.kind b.kind) (Decides-and _ _ (Decides-eqb a.number b.number) (same_end a.end b.end)) in (
+      λ holds. (let found = both.0 holds in λ i. record { kind = found.0 i; number = found.1.0 i; end = found.1.1 i }),
+      λ same. both.1 (ap (λ one. one.kind) same, (ap (λ one. one.number) same, ap (λ one. one.end) same)),
+    )
 
 -- waits are equal exactly if they are the same
 pub same_wait : (a b : Wait) → Decides (waits.eq-value.it a b) (a ≡ b)

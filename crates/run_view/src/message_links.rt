@@ -5,8 +5,8 @@ ghost use Rattle.std.specs.Prelude.{◌≡◌, OnOk, length};
 use crate::thing::{Contents, ThingKey, ThingView, view_of};
 use crate::waiter::Waiter;
 use apex_types::{
-    BlackboardOperation, Body, BufferOperation, Call, Code, ObjectKind, Ordered, Out, PartId,
-    Place, QueuingOperation, Request, SamplingOperation, Who,
+    BlackboardOperation, Body, BufferOperation, Call, Code, ObjectKind, ObjectOperation, Ordered,
+    Out, PartId, Place, QueuingOperation, Request, SamplingOperation, Who,
 };
 use partition_state::restart_of;
 use piece_check::Piece;
@@ -282,6 +282,20 @@ fn received_by(sent: Option<Sent>, call: &Call, stays: bool) -> Option<Received>
     })
 }
 
+// What an operation on an object does with a message, if it does anything.
+fn use_of_object(operation: &ObjectOperation) -> Option<Use> {
+    match operation {
+        ObjectOperation::Buffer(BufferOperation::Send { .. }) => Some(Use::Sends),
+        ObjectOperation::Buffer(BufferOperation::Receive { .. }) => Some(Use::Receives),
+        ObjectOperation::Blackboard(BlackboardOperation::Display { .. }) => Some(Use::Shows),
+        ObjectOperation::Blackboard(BlackboardOperation::Read { .. }) => Some(Use::Reads),
+        ObjectOperation::Blackboard(BlackboardOperation::Clear) => Some(Use::Clears),
+        ObjectOperation::Semaphore(_) | ObjectOperation::Event(_) | ObjectOperation::Mutex(_) => {
+            None
+        }
+    }
+}
+
 // What a call does with a message, and with which object or channel.
 fn used_by(call: &Call) -> Option<(ThingKey, Use)> {
     let part = call.who.part;
@@ -290,20 +304,9 @@ fn used_by(call: &Call) -> Option<(ThingKey, Use)> {
         Err(_) => None,
     };
     match &call.request {
-        Request::Buffer(number, operation) => Some((
-            object(ObjectKind::Buffer, *number)?,
-            match operation {
-                BufferOperation::Send { .. } => Use::Sends,
-                BufferOperation::Receive { .. } => Use::Receives,
-            },
-        )),
-        Request::Blackboard(number, operation) => Some((
-            object(ObjectKind::Blackboard, *number)?,
-            match operation {
-                BlackboardOperation::Display { .. } => Use::Shows,
-                BlackboardOperation::Read { .. } => Use::Reads,
-                BlackboardOperation::Clear => Use::Clears,
-            },
+        Request::Object(number, operation) => Some((
+            object(operation.kind(), *number)?,
+            use_of_object(operation)?,
         )),
         Request::SamplingPort(_, operation) => Some((
             ThingKey::Channel(call.claim.chan?),

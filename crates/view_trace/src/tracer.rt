@@ -1,6 +1,6 @@
 // A run as a trace, record by record.
 
-ghost use Rattle.std.specs.Prelude.{◌≡◌, ◌<◌, IfSome, OnOk, length};
+ghost use Rattle.std.specs.Prelude.{◌≡◌, ◌<◌, [], IfSome, OnOk, length, true};
 ghost use Rattle.view_trace.specs.Trace.{AddsOthers};
 ghost use Rattle.view_trace.specs.declared.events.TheConstants.{MOST_HELD};
 
@@ -40,7 +40,9 @@ impl<'a, W: Sink> Tracer<'a, W> {
     ghost use Rattle.view_trace.specs.Traced.{traced};
 
     /// A trace without an event, which goes to this sink.
-    pub fn new(alloc: Global, output: &'a mut W) -> Tracer<'a, W> {
+    pub fn new(alloc: Global, output: &'a mut W) -> Tracer<'a, W>
+        ensures { traced W.bytes result ≡ record { taken = W.bytes output.old; held = []; is_first = true } }
+    {
         Tracer {
             alloc,
             events: Events::new(alloc, output),

@@ -1,7 +1,7 @@
 // How things are named: processes, texts, messages, outcomes and waiting sets.
 
 use apex_machine::WaitingSet;
-use apex_types::{Code, ObjectKind, Out, Who};
+use apex_types::{Code, End, ObjectKind, Out, Who};
 use std::fmt::Write;
 use std::{fmt, str};
 
@@ -156,19 +156,19 @@ pub struct Set(pub WaitingSet);
 
 impl fmt::Display for Set {
     fn fmt<W: fmt::Write>(&self, f: &mut fmt::Formatter<W>) -> fmt::Result {
-        match self.0 {
-            WaitingSet::BufferSenders(number) => write!(f, "to send to buffer {number}"),
-            WaitingSet::BufferReceivers(number) => write!(f, "to receive from buffer {number}"),
-            WaitingSet::BlackboardReaders(number) => write!(f, "to read blackboard {number}"),
-            WaitingSet::SemaphoreWaiters(number) => write!(f, "for semaphore {number}"),
-            WaitingSet::EventWaiters(number) => write!(f, "for event {number}"),
-            WaitingSet::MutexWaiters(number) => write!(f, "for mutex {number}"),
-            WaitingSet::ChannelSenders(channel) => {
-                write!(f, "to send through channel {}", channel.number())
+        let WaitingSet { kind, number, end } = self.0;
+        let name = kind_name(kind);
+        match (kind, end) {
+            (ObjectKind::QueuingPort, End::Senders) => {
+                write!(f, "to send through channel {number}")
             }
-            WaitingSet::ChannelReceivers(channel) => {
-                write!(f, "to receive through channel {}", channel.number())
+            (ObjectKind::QueuingPort, End::Receivers) => {
+                write!(f, "to receive through channel {number}")
             }
+            (_, End::Senders) => write!(f, "to send to {name} {number}"),
+            (ObjectKind::Buffer, End::Receivers) => write!(f, "to receive from {name} {number}"),
+            (ObjectKind::Blackboard, End::Receivers) => write!(f, "to read {name} {number}"),
+            (_, End::Receivers) => write!(f, "for {name} {number}"),
         }
     }
 }

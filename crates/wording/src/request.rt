@@ -4,7 +4,8 @@ use crate::naming::{Ascii, Bytes, kind_name};
 use crate::words::Words;
 use apex_types::{
     BlackboardOperation, BufferOperation, CallerOperation, EventOperation, MutexOperation,
-    NewObject, ProcessOperation, QueuingOperation, Request, SamplingOperation, SemaphoreOperation,
+    NewObject, ObjectOperation, ProcessOperation, QueuingOperation, Request, SamplingOperation,
+    SemaphoreOperation,
 };
 
 /// Reports a service and the arguments that its caller gave.
@@ -29,15 +30,7 @@ pub fn tell_request(words: &mut Words, request: &Request) {
             words.say(format_args!(" for \"{}\"", Ascii(name.as_bytes())));
             tell_creation(words, object);
         }
-        Request::Buffer(buffer, operation) => tell_buffer(words, *buffer, operation),
-        Request::Blackboard(blackboard, operation) => tell_blackboard(
-            words,
-            *blackboard,
-            operation,
-        ),
-        Request::Semaphore(semaphore, operation) => tell_semaphore(words, *semaphore, operation),
-        Request::Event(event, operation) => tell_event(words, *event, operation),
-        Request::Mutex(mutex, operation) => tell_mutex(words, *mutex, operation),
+        Request::Object(number, operation) => tell_object(words, *number, operation),
         Request::SamplingPort(port, operation) => tell_sampling(words, *port, operation),
         Request::QueuingPort(port, operation) => tell_queuing(words, *port, operation),
         Request::GetId(_, name) => {
@@ -46,6 +39,17 @@ pub fn tell_request(words: &mut Words, request: &Request) {
         Request::GetStatus(kind, object) => {
             words.say(format_args!(" for {} {object}", kind_name(*kind)));
         }
+    }
+}
+
+// Reports which object an operation uses, and what it gives.
+fn tell_object(words: &mut Words, number: i64, operation: &ObjectOperation) {
+    match operation {
+        ObjectOperation::Buffer(operation) => tell_buffer(words, number, operation),
+        ObjectOperation::Blackboard(operation) => tell_blackboard(words, number, operation),
+        ObjectOperation::Semaphore(operation) => tell_semaphore(words, number, operation),
+        ObjectOperation::Event(operation) => tell_event(words, number, operation),
+        ObjectOperation::Mutex(operation) => tell_mutex(words, number, operation),
     }
 }
 

@@ -2,6 +2,7 @@
 
 ghost use Rattle.std.specs.Prelude.{◌≡◌, ◌≤◌, [], length as count_of, nat_lt, option_map};
 ghost use Rattle.std.specs.Option.{option_copied};
+ghost use Rattle.apex_types.specs.declared.operation.ObjectOperation.TheVariants as on;
 ghost use Rattle.apex_types.specs.declared.request.Request.TheVariants as request;
 ghost use Rattle.apex_machine.specs.Configuration.{Configuration};
 ghost use Rattle.apex_machine.specs.Conditions as shared;
@@ -15,7 +16,8 @@ use super::with_wait;
 use crate::arguments::{is_length, is_longer, is_time_out};
 use apex_machine::{Condition, Process};
 use apex_types::{
-    BlackboardOperation, BufferOperation, EventOperation, MutexOperation, SemaphoreOperation, Who,
+    BlackboardOperation, BufferOperation, EventOperation, MutexOperation, ObjectOperation,
+    SemaphoreOperation, Who,
 };
 use blackboard::Blackboard;
 use buffer::Buffer;
@@ -23,15 +25,37 @@ use mutex_ceiling::Mutex653;
 use partition_state::PartitionState;
 use wait_set::Conditions;
 
-/// SEND_BUFFER and RECEIVE_BUFFER: a created buffer; to send, a message that is not empty and fits; a time-out in range; a caller that may
-/// wait.
-pub(super) fn buffer_conditions(
+/// The services of objects.
+pub(super) fn object_conditions(
+    state: &PartitionState,
+    who: Who,
+    number: i64,
+    operation: &ObjectOperation,
+) -> Conditions
+    ensures { (configuration : Configuration) → result ≡ conditions_of configuration who state.now (request.Object number operation.now) }
+{
+    match operation {
+        ObjectOperation::Buffer(operation) => buffer_conditions(state, who, number, operation),
+        ObjectOperation::Blackboard(operation) => {
+            blackboard_conditions(state, who, number, operation)
+        }
+        ObjectOperation::Semaphore(operation) => {
+            semaphore_conditions(state, who, number, operation)
+        }
+        ObjectOperation::Event(operation) => event_conditions(state, who, number, operation),
+        ObjectOperation::Mutex(operation) => mutex_conditions(state, who, number, operation),
+    }
+}
+
+// SEND_BUFFER and RECEIVE_BUFFER: a created buffer; to send, a message that is not empty and fits; a time-out in range; a caller that may
+// wait.
+fn buffer_conditions(
     state: &PartitionState,
     who: Who,
     buffer: i64,
     operation: &BufferOperation,
 ) -> Conditions
-    ensures { (configuration : Configuration) → result ≡ conditions_of configuration who state.now (request.Buffer buffer operation.now) }
+    ensures { (configuration : Configuration) → result ≡ conditions_of configuration who state.now (request.Object buffer (on.Buffer operation.now)) }
 {
     let found = state.buffers().given(buffer);
     match operation {
@@ -44,15 +68,15 @@ pub(super) fn buffer_conditions(
     }
 }
 
-/// DISPLAY_BLACKBOARD, READ_BLACKBOARD and CLEAR_BLACKBOARD: a created blackboard; to display, a message that is not empty and fits; to
-/// read, a time-out in range and a caller that may wait.
-pub(super) fn blackboard_conditions(
+// DISPLAY_BLACKBOARD, READ_BLACKBOARD and CLEAR_BLACKBOARD: a created blackboard; to display, a message that is not empty and fits; to
+// read, a time-out in range and a caller that may wait.
+fn blackboard_conditions(
     state: &PartitionState,
     who: Who,
     blackboard: i64,
     operation: &BlackboardOperation,
 ) -> Conditions
-    ensures { (configuration : Configuration) → result ≡ conditions_of configuration who state.now (request.Blackboard blackboard operation.now) }
+    ensures { (configuration : Configuration) → result ≡ conditions_of configuration who state.now (request.Object blackboard (on.Blackboard operation.now)) }
 {
     let found = state.blackboards().given(blackboard);
     match operation {
@@ -62,14 +86,14 @@ pub(super) fn blackboard_conditions(
     }
 }
 
-/// WAIT_SEMAPHORE and SIGNAL_SEMAPHORE: a created semaphore; to wait, a time-out in range and a caller that may wait.
-pub(super) fn semaphore_conditions(
+// WAIT_SEMAPHORE and SIGNAL_SEMAPHORE: a created semaphore; to wait, a time-out in range and a caller that may wait.
+fn semaphore_conditions(
     state: &PartitionState,
     who: Who,
     semaphore: i64,
     operation: &SemaphoreOperation,
 ) -> Conditions
-    ensures { (configuration : Configuration) → result ≡ conditions_of configuration who state.now (request.Semaphore semaphore operation.now) }
+    ensures { (configuration : Configuration) → result ≡ conditions_of configuration who state.now (request.Object semaphore (on.Semaphore operation.now)) }
 {
     let found = state.semaphores().given(semaphore);
     match operation {
@@ -78,14 +102,14 @@ pub(super) fn semaphore_conditions(
     }
 }
 
-/// SET_EVENT, RESET_EVENT and WAIT_EVENT: a created event; to wait, a time-out in range and a caller that may wait.
-pub(super) fn event_conditions(
+// SET_EVENT, RESET_EVENT and WAIT_EVENT: a created event; to wait, a time-out in range and a caller that may wait.
+fn event_conditions(
     state: &PartitionState,
     who: Who,
     event: i64,
     operation: &EventOperation,
 ) -> Conditions
-    ensures { (configuration : Configuration) → result ≡ conditions_of configuration who state.now (request.Event event operation.now) }
+    ensures { (configuration : Configuration) → result ≡ conditions_of configuration who state.now (request.Object event (on.Event operation.now)) }
 {
     let found = state.events().given(event);
     match operation {
@@ -94,14 +118,14 @@ pub(super) fn event_conditions(
     }
 }
 
-/// ACQUIRE_MUTEX and RELEASE_MUTEX.
-pub(super) fn mutex_conditions(
+// ACQUIRE_MUTEX and RELEASE_MUTEX.
+fn mutex_conditions(
     state: &PartitionState,
     who: Who,
     mutex: i64,
     operation: &MutexOperation,
 ) -> Conditions
-    ensures { (configuration : Configuration) → result ≡ conditions_of configuration who state.now (request.Mutex mutex operation.now) }
+    ensures { (configuration : Configuration) → result ≡ conditions_of configuration who state.now (request.Object mutex (on.Mutex operation.now)) }
 {
     match operation {
         MutexOperation::Acquire { time_out } => acquire_mutex(who, state, mutex, *time_out),

@@ -8,7 +8,8 @@ ghost use Rattle.std.specs.Map.{keys_of};
 ghost use Rattle.apex_machine.specs.declared.state.Process.{Process as ProcessValue};
 ghost use Rattle.apex_machine.specs.DueTimes as due_times;
 ghost use Rattle.apex_machine.specs.State.{Partition, each_item, item_at, time_of};
-ghost use Rattle.apex_machine.specs.Processes.{message_handed_over, set_by, set_in};
+ghost use Rattle.apex_machine.specs.Processes.{set_by, set_in};
+ghost use Rattle.apex_machine.specs.Waiting.{message_of};
 ghost use Rattle.apex_machine.specs.After as after;
 ghost use Rattle.process_state.specs.Changes.{named, only, with_each};
 ghost use Rattle.process_state.specs.Peers.{peer_woken, stopped_by};
@@ -18,7 +19,7 @@ ghost use Rattle.process_state.specs.Processes.{processes_of};
 ghost use Rattle.process_state.specs.Settled.{settled};
 ghost use Rattle.process_state.specs.Sound.{GivesSoundly, IsSound, ReleasesSoundly, is_periodic_wait};
 ghost use Rattle.process_state.specs.Timely.{IsTimely};
-ghost use Rattle.process_state.specs.Transfers.{IsTransferOf};
+ghost use Rattle.process_state.specs.Transfers.{IsTransferOf, passed_on};
 
 use super::ProcTable;
 use super::changes::time_at;
@@ -32,7 +33,8 @@ use crate::prepared::{Prepared, prepared_for};
 use crate::process;
 use crate::transfer::Transfer;
 use apex_types::{
-    Call, CallerOperation, CoreId, Message, PartId, Place, ProcId, ProcessOperation, Request, Woken,
+    Call, CallerOperation, CoreId, Message, ObjectOperation, PartId, Place, ProcId,
+    ProcessOperation, Request, Woken,
 };
 use std::alloc::AllocError;
 
@@ -153,10 +155,23 @@ impl ProcTable {
                 self.serve_target(*process, operation, period, moment)
             }
             Request::SetPartitionMode(..) => self.normal(period, moment),
-            Request::Mutex(..) => self.transfer(transfer),
+            Request::Object(_, operation) => self.pass_on(operation, transfer),
             _ => {}
         }
         Ok(())
+    }
+
+    // An operation on a mutex changes the priorities of its owners, an operation on any other object those of no process.
+    fn pass_on(&mut self, operation: &ObjectOperation, transfer: Transfer)
+        ensures { self.new ≡ passed_on transfer operation.now self.old }
+    {
+        match operation {
+            ObjectOperation::Mutex(_) => self.transfer(transfer),
+            ObjectOperation::Buffer(_)
+            | ObjectOperation::Blackboard(_)
+            | ObjectOperation::Semaphore(_)
+            | ObjectOperation::Event(_) => {}
+        }
     }
 
     // What a service sets in the process that it names; if there is none, nothing changes. STOP sets nothing here: `stop_peer` does.
@@ -194,7 +209,7 @@ impl ProcTable {
     // Ends the waits of the caller's peers that the call names and does not stop: each gets one of these messages.
     fn wake_peers(&mut self, place: Place, call: &Call, messages: Vec<Message>)
         requires enough { length call.now.claim.woken ≤ vec_len messages }
-        requires alike { AreCopies (message_handed_over call.now.request) messages.items }
+        requires alike { AreCopies (message_of call.now.request) messages.items }
         ensures { self.new ≡ with_each (peer_woken place call.now) self.old }
     {
         let mut messages = messages;

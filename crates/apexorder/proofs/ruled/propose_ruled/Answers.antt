@@ -1,5 +1,6 @@
-use Rattle.std.proofs.Common.{inl, inr}
+use Rattle.std.proofs.Common.{inl, inr, length}
 use Rattle.module_config.specs.Reading.{configuration_of}
+use Rattle.apexorder.proofs.Searched.{memory_ends}
 use Rattle.apexorder.proofs.Written.{none_received}
 use Rattle.apexorder.proofs.ruled.propose_ruled.Goals as goal
 
@@ -10,5 +11,6 @@ returns-in-Ok-clause-certified g c = λ configuration texts read known.
 pub returns-in-Err : goal.returns-in-Err
 returns-in-Err g c = record {
   rows = none_received (configuration_of c.args.text.now) _ c.args.output.now.bytes;
+  ended = memory_ends (configuration_of c.args.text.now) (length c.args.cores.items) c.out_of_memory.result c.out_of_memory.ensures;
   certified = λ configuration texts read known. inl c.out_of_memory.ensures;
 }

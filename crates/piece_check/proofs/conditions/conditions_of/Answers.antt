@@ -8,20 +8,8 @@ returns-in-Create c = rw c.in-Create.is c.create_conditions.ensures
 pub returns-in-Caller : goal.returns-in-Caller
 returns-in-Caller c = search (rules, c.caller_conditions.ensures c.args.config.now)
 
-pub returns-in-Buffer : goal.returns-in-Buffer
-returns-in-Buffer c = search (rules, c.buffer_conditions.ensures c.args.config.now)
-
-pub returns-in-Blackboard : goal.returns-in-Blackboard
-returns-in-Blackboard c = search (rules, c.blackboard_conditions.ensures c.args.config.now)
-
-pub returns-in-Semaphore : goal.returns-in-Semaphore
-returns-in-Semaphore c = search (rules, c.semaphore_conditions.ensures c.args.config.now)
-
-pub returns-in-Event : goal.returns-in-Event
-returns-in-Event c = search (rules, c.event_conditions.ensures c.args.config.now)
-
-pub returns-in-Mutex : goal.returns-in-Mutex
-returns-in-Mutex c = search (rules, c.mutex_conditions.ensures c.args.config.now)
+pub returns-in-Object : goal.returns-in-Object
+returns-in-Object c = search (rules, c.object_conditions.ensures c.args.config.now)
 
 pub returns-in-QueuingPort : goal.returns-in-QueuingPort
 returns-in-QueuingPort c = search (rules, c.queuing_conditions.ensures c.args.config.now)

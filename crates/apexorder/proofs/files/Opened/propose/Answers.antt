@@ -18,4 +18,5 @@ returns g c =
     (map said c.in-Ok-read_rules.rules.items) c.in-Ok.options.items
     (ap rules_given (sym c.as_deref-rules_text.ensures.value) ∙ ap (λ walked. without_key walked) c.in-Ok-read_rules.ensures) c.in-Ok.ensures
     (rw c.deref-2.ensures.value at c.propose_ruled-ending.ensures.rows)
+    (rw c.deref-2.ensures.value at c.propose_ruled-ending.ensures.ended)
     (rw (c.deref-2.ensures.value, c.deref-3.ensures.value, c.deref-4.ensures.value) at c.propose_ruled-ending.ensures.certified)

@@ -82,3 +82,13 @@ returns-in-Some-queuing_port-clause-ok c = rw (← c.self.view_is, c.in-QueuingP
 
 pub returns-in-Some-queuing_port-clause-refused : goal.returns-in-Some-queuing_port-clause-refused
 returns-in-Some-queuing_port-clause-refused c = rw (← c.self.view_is, c.in-QueuingPort.is) c.create-in-QueuingPort.ensures.refused
+
+pub returns-in-Some-clause-after : goal.returns-in-Some-clause-after
+returns-in-Some-clause-after c =
+    rw (← c.self.view_is, c.in-SamplingPort.is, ← c.sampling_port.ensures, c.in-Some.is)
+    (on_ok c.create.result _ _ (ap (λ ports. record (the_view c.self.inside) { sampling_ports = ports })) (rw c.settings_of-settings.ensures at c.create.ensures.created))
+
+pub returns-in-Some-queuing_port-clause-after : goal.returns-in-Some-queuing_port-clause-after
+returns-in-Some-queuing_port-clause-after c =
+    rw (← c.self.view_is, c.in-QueuingPort.is, ← c.queuing_port.ensures, c.in-Some-queuing_port.is)
+    (on_ok c.create-in-QueuingPort.result _ _ (ap (λ ports. record (the_view c.self.inside) { queuing_ports = ports })) (rw c.settings_of-settings-in-QueuingPort.ensures at c.create-in-QueuingPort.ensures.created))

@@ -1,7 +1,7 @@
-use Rattle.std.proofs.Common.{ap, refl, rules, FitsSigned, w64}
+use Rattle.std.proofs.Common.{ap, refl, rules, FitsSigned, w64, Some}
 use Rattle.std.proofs.lemmas.Int.{to_z-of_z}
 use Rattle.process_state.specs.Processes.{Processes}
-use Rattle.process_state.proofs.Carried.{carried-create, carried-none, carried-target}
+use Rattle.process_state.proofs.Carried.{carried-create, carried-none, carried-object, carried-target}
 use Rattle.process_state.proofs.table.ProcTable.carry_out.Goals as goal
 
 pub returns-in_ok-create-in-CreateProcess-clause-ok :
@@ -23,11 +23,17 @@ returns-in-Process-clause-ok c = λ partition seen tied.
     (carried-target c.args.moment.now.place c.args.period c.args.first_core c.args.moment.now.cores.now c.args.call.now c.in-Process.process c.in-Process.operation partition c.args.self.now _
     (ap (λ (processes : Processes). processes.mode) seen) served)
 
+pub returns-in-Object-clause-ok : goal.returns-in-Object-clause-ok
+returns-in-Object-clause-ok c = λ partition seen tied.
+    rw c.in-Object.is
+    (carried-object c.args.moment.now.place c.args.period c.args.first_core c.args.moment.now.cores.now c.args.call.now _ c.in-Object.operation c.args.transfer partition c.args.self.now _
+    (rw c.in-Object.is at tied) c.pass_on.ensures)
+
 pub returns-in_default : goal.returns-in_default
 returns-in_default c =
     record {
       ok = λ partition seen tied. carried-none c.args.moment.now.place c.args.period c.args.first_core c.args.moment.now.cores.now c.args.call.now c.args.call.now.request partition c.args.self.now
-          c.in_default.not-CreateProcess c.in_default.not-Process c.in_default.not-SetPartitionMode c.in_default.not-Mutex;
+          c.in_default.not-CreateProcess c.in_default.not-Process c.in_default.not-SetPartitionMode c.in_default.not-Object;
       unchanged = tt;
       memory = tt;
     }

@@ -1,15 +1,16 @@
 -- Each peer that is named and not stopped gets one copy of the message.
-use Rattle.std.proofs.Common.{ap, sym, ◌∙◌, length, arith}
-use Rattle.apex_machine.specs.Processes.{message_handed_over, woken_by}
+use Rattle.std.proofs.Common.{ap, sym, ◌∙◌, length, arith, Some}
+use Rattle.apex_machine.specs.Processes.{woken_by}
 use Rattle.process_state.specs.Peers.{wakes}
 use Rattle.process_state.proofs.HandedOver.{handed-more, handed-same}
 use Rattle.process_state.proofs.Ticks.{let-none-yet}
 use Rattle.process_state.proofs.table.ProcTable.wake_peers.Goals as goal
 use Rattle.process_state.proofs.table.ProcTable.wake_peers.Goals.{then-wakes+in-Some, then-wakes+in_default, else-wakes}
+use Rattle.apex_machine.specs.Waiting.{message_of}
 
 pub loop-who-init : goal.loop-who-init
 loop-who-init c = record {
-  named = let-none-yet c.args.call.now.who.part (wakes c.args.call.now) (woken_by c.args.place (message_handed_over c.args.call.now.request)) c.args.self.now;
+  named = let-none-yet c.args.call.now.who.part (wakes c.args.call.now) (woken_by c.args.place (message_of c.args.call.now.request)) c.args.self.now;
   alike = c.requires.alike;
   enough = omega (arith, c.requires.enough, ap length c.as_slice-woken.ensures.list);
 }

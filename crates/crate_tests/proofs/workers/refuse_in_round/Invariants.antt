@@ -1,7 +1,0 @@
-use Rattle.std.proofs.Common.{[]}
-use Rattle.partition_workers.specs.Contents.{content_of, parts_held}
-use Rattle.crate_tests.proofs.workers.refuse_in_round.Given as goal
-
--- the round is of what is lent to these pieces
-abbrev pub ghosts-refuse_all : goal.ghosts-refuse_all
-ghosts-refuse_all a = record { round = content_of a.lent.now [] (parts_held a.pieces.items) }

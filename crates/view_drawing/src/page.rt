@@ -1,0 +1,455 @@
+// A run as a picture.
+
+ghost use Rattle.std.specs.Prelude.{◌≡◌, ◌⊎◌, ◌<◌, ◌+◌, ◌∷◌, [], Err, IfOk, List, Ok, OnOk, false, length};
+ghost use Rattle.order_cert.specs.Kept.{place_of};
+ghost use Rattle.apex_types.specs.declared.record.Ordered.{Ordered};
+ghost use Rattle.placement.specs.Lanes.{AreHonest};
+ghost use Rattle.user_rules.specs.Rules.{relations_of};
+ghost use Rattle.verdict_merge.specs.Rounds.{AllRun, AreGoing, parts_in};
+ghost use Rattle.run_walk.specs.Kept.{IsKept};
+ghost use Rattle.run_walk.specs.Walks.{EachRuns};
+ghost use Rattle.shown_run.specs.Stretches.{IsWhole};
+ghost use Rattle.view_ending.specs.declared.ending.Ending.TheVariants.{Checked, Unwritten};
+ghost use Rattle.view_ending.specs.Endings.{out_of_memory};
+ghost use Rattle.shown_files.specs.Shown.{IsShown};
+
+use crate::picture_witness::PictureWitness;
+use crate::rows::ShownRows;
+use crate::viewing::{Format, ViewAsked};
+use answer_words::{Explainer, InputNames, RunFiles, note_broken};
+use apex_types::Ordered;
+use csv_rows::TextSource;
+use module_config::Config;
+use piece_check::Piece;
+use placement::Placer;
+use report::{CheckFault, Verdict};
+use run_view::{Change, Followed, LastSeen, Lawful, MessageLinks, Received, Sent};
+use run_walk::Walk;
+use sarif_report::name_of_cause;
+use shown_files::Shown;
+use shown_run::{Asked, Stretch, gather};
+use sink::Sink;
+use std::alloc::{AllocError, Global};
+use std::collections::VecDeque;
+use std::fs::{File, Files};
+use std::sync::Wait;
+use user_rules::Rule;
+use view_ending::{Ending, Line, out_of_memory};
+use view_page::{PageFault, PageTexts, Strip, strips_of, write_html, write_svg};
+use view_picture::{Added, Picture, Status};
+use wording::{Count, Look, Words};
+
+/// Shows the requested stretch of a run. Nothing is written if an input is refused.
+pub fn show_picture<R, S: TextSource, C: TextSource, W: Sink>(
+    rt: &R,
+    alloc: Global,
+    asked: ViewAsked,
+    shown: &Shown<'_>,
+    rules: &[Rule],
+    placer: &mut Placer<S, C>,
+    explainer: &mut Explainer,
+    output: &mut W,
+) -> Ending
+where
+    R: Files<File = File> + Wait,
+    requires going { placer.old.ended ≡ false }
+    requires first { place_of placer.old.kept ≡ 0 }
+    requires cores { length placer.old.lanes ≡ shown.now.config.now.cores }
+    ensures shown { AreHonest S.can_fail placer.new.lanes → IsShown (record { recordings = S.can_fail; certificate = C.can_fail }) shown.now.config.now (relations_of rules.now) placer.old result }
+    ensures failed { result ≡ Unwritten → W.failures output.old < W.failures output.new }
+{
+    let stretch = Asked {
+        at: asked.at,
+        span: asked.span,
+    };
+    let mut witness = PictureWitness::new(alloc, explainer);
+    let gathered = gather(
+        rt,
+        alloc,
+        shown.config,
+        rules,
+        stretch,
+        placer,
+        &mut witness,
+    );
+    let lawful = witness.into_lawful();
+    match gathered {
+        Ok((verdict, stretch)) => match lawful {
+            Ok(lawful) => {
+                let gathered = Gathered {
+                    verdict,
+                    stretch,
+                    lawful,
+                };
+                show_stretch(rt, alloc, asked, shown, gathered, explainer, output)
+            }
+            Err(_) => out_of_memory(),
+        },
+        Err(fault) => Ending::Checked(Err(fault)),
+    }
+}
+
+// What a picture shows of a run: its verdict, the stretch before its end, and what would have been lawful there.
+#[derive(Drop)]
+struct Gathered {
+    verdict: Verdict,
+    stretch: Stretch,
+    lawful: Vec<Lawful>,
+}
+
+// Shows the stretch that was gathered of a run.
+fn show_stretch<R, W: Sink>(
+    rt: &R,
+    alloc: Global,
+    asked: ViewAsked,
+    shown: &Shown<'_>,
+    gathered: Gathered,
+    explainer: &mut Explainer,
+    output: &mut W,
+) -> Ending
+where
+    R: Files<File = File>,
+    requires { IsWhole shown.now.config.now gathered.stretch }
+    ensures end { (result ≡ Unwritten) ⊎ (result ≡ out_of_memory) ⊎ (result ≡ Checked (Ok gathered.verdict)) }
+    ensures failed { result ≡ Unwritten → W.failures output.old < W.failures output.new }
+{
+    let outcome = Ok(gathered.verdict);
+    note_broken(explainer, alloc, shown.options, shown.rules, &outcome);
+    match write_picture(rt, alloc, asked, shown, gathered, explainer, output) {
+        Ok(()) => Ending::Checked(outcome),
+        Err(PageFault::Memory) => out_of_memory(),
+        Err(PageFault::Unwritten) => Ending::Unwritten,
+    }
+}
+
+// Writes the picture of the stretch that was gathered of a run.
+fn write_picture<R, W: Sink>(
+    rt: &R,
+    alloc: Global,
+    asked: ViewAsked,
+    shown: &Shown<'_>,
+    gathered: Gathered,
+    explainer: &Explainer,
+    output: &mut W,
+) -> Result<(), PageFault>
+where
+    R: Files<File = File>,
+    requires { IsWhole shown.now.config.now gathered.stretch }
+    ensures failed { result ≡ Err PageFault.Unwritten → W.failures output.old < W.failures output.new }
+{
+    let heading = heading_of(alloc, asked.at, &gathered.verdict, &gathered.stretch)?;
+    let outcome = Ok(gathered.verdict);
+    let names = shown.names;
+    let files = RunFiles { rt, alloc, names };
+    let explanation = explanation_of(alloc, &files, &outcome, explainer)?;
+    let ending = Ending::Checked(outcome);
+    let line = Line::of(&ending);
+    let picture = picture_of(rt, alloc, shown, gathered)?;
+    let strips = strips_of(&picture)?;
+    let files = files_in_words(alloc, names)?;
+    let texts = PageTexts {
+        heading: heading.as_str(),
+        line: line.text(),
+        explanation: explanation.as_str(),
+        files: files.as_str(),
+    };
+    write_in(
+        alloc,
+        asked.format,
+        &picture,
+        strips.as_slice(),
+        &texts,
+        output,
+    )
+}
+
+// Writes a picture in this format.
+fn write_in<W: Sink>(
+    alloc: Global,
+    format: Format,
+    picture: &Picture,
+    strips: &[Strip],
+    texts: &PageTexts<'_>,
+    output: &mut W,
+) -> Result<(), PageFault>
+    ensures failed { result ≡ Err PageFault.Unwritten → W.failures output.old < W.failures output.new }
+{
+    match format {
+        Format::Svg => write_svg(alloc, picture, strips, texts, output),
+        Format::Html | Format::Trace => write_html(alloc, picture, strips, texts, output),
+    }
+}
+
+// What the picture shows, in one sentence.
+fn heading_of(
+    alloc: Global,
+    at: Option<u64>,
+    verdict: &Verdict,
+    stretch: &Stretch,
+) -> Result<String, AllocError> {
+    let ends_before = stretch.rejected.is_none() && !stretch.is_broken;
+    match (verdict, at) {
+        (_, Some(at)) if ends_before => { format!(in alloc; "The records up to place {at}") }
+        (Verdict::Yes { records }, _) => {
+            let all = Count(usize::try_from(*records).unwrap_or(usize::MAX), "record");
+            let shown = stretch.kept.len();
+            if shown as u64 == *records {
+                format!(in alloc; "A lawful recording of {all}")
+            } else {
+                format!(in alloc; "The last {shown} of a lawful recording of {all}")
+            }
+        }
+        (Verdict::No { pos, .. }, _) => {
+            format!(in alloc; "The record at place {} is rejected", pos.number())
+        }
+        (Verdict::Broken { pos, .. }, _) => {
+            format!(in alloc; "The record at place {} breaks a rule", pos.number())
+        }
+    }
+}
+
+// Why the answer is not Yes, as apexcheck explains it; empty if it is.
+fn explanation_of<R: Files<File = File>>(
+    alloc: Global,
+    files: &RunFiles<'_, R>,
+    outcome: &Result<Verdict, CheckFault>,
+    explainer: &Explainer,
+) -> Result<String, AllocError> {
+    let mut words = Words::new(alloc);
+    words.append(explainer.noted());
+    if let Some(told) = files.told_of(outcome, explainer) {
+        if !words.is_empty() {
+            words.next_line();
+        }
+        words.append(&told.words);
+    }
+    if words.lacks_memory() {
+        return Err(AllocError);
+    }
+    format!(in alloc; "{}", words.shown(Look::plain()))
+}
+
+// The files, in words.
+fn files_in_words(alloc: Global, names: &InputNames) -> Result<String, AllocError> {
+    let mut text = format!(in alloc; "{}, {}", names.config, names.order)?;
+    for name in names.cores.iter() {
+        write!(text, ", {name}")?;
+    }
+    Ok(text)
+}
+
+// The picture of a stretch.
+fn picture_of<R: Files<File = File>>(
+    rt: &R,
+    alloc: Global,
+    shown: &Shown<'_>,
+    gathered: Gathered,
+) -> Result<Picture, AllocError>
+    requires { IsWhole shown.now.config.now gathered.stretch }
+{
+    let Gathered {
+        verdict: _,
+        stretch,
+        lawful,
+    } = gathered;
+    let rows = rows_of(rt, alloc, shown, &stretch)?;
+    let Stretch {
+        before,
+        kept,
+        rejected,
+        is_broken,
+        after,
+    } = stretch;
+    let mut drawing = Drawing::begin(alloc, shown.config, before)?;
+    drawing.accept_all(&rows, kept, is_broken)?;
+    let mut picture = drawing.end();
+    let is_judged = rejected.is_none() && !is_broken;
+    if let Some(rejected) = rejected {
+        let added = added(&rows, &rejected.ordered, Status::Rejected);
+        picture.reject(&added, name_of_cause(rejected.cause), lawful.as_slice())?;
+    }
+    follow_all(&mut picture, &rows, after.as_slice(), is_judged)?;
+    Ok(picture)
+}
+
+// Adds the records after those that were judged, or after the one that decided.
+fn follow_all<'a>(
+    picture: &mut Picture,
+    rows: &'a ShownRows<'a>,
+    after: &'a [Ordered],
+    is_judged: bool,
+) -> Result<(), AllocError> {
+    let status = if is_judged {
+        Status::Beyond
+    } else {
+        Status::After
+    };
+    for ordered in after {
+        picture.follow(&added(rows, ordered, status))?;
+    }
+    Ok(())
+}
+
+// The rows of the records of a stretch.
+fn rows_of<'a, R: Files<File = File>>(
+    rt: &R,
+    alloc: Global,
+    shown: &Shown<'a>,
+    stretch: &Stretch,
+) -> Result<ShownRows<'a>, AllocError> {
+    let mut records: Vec<&Ordered> = Vec::new(alloc);
+    for ordered in stretch.kept.iter() {
+        records.push(ordered)?;
+    }
+    if let Some(rejected) = &stretch.rejected {
+        records.push(&rejected.ordered)?;
+    }
+    for ordered in stretch.after.iter() {
+        records.push(ordered)?;
+    }
+    ShownRows::find(rt, alloc, shown.names, records.as_slice())
+}
+
+// A picture that grows record by record, and the pieces that take the records.
+#[derive(Drop)]
+struct Drawing<'a> {
+    config: &'a Config,
+    walk: Walk,
+    seen: LastSeen,
+    links: MessageLinks,
+    changes: Vec<Change>,
+    picture: Picture,
+}
+
+impl<'a> Drawing<'a> {
+    // The picture of these pieces before the first record.
+    fn begin(alloc: Global, config: &'a Config, walk: Walk) -> Result<Drawing<'a>, AllocError>
+        ensures config { IfOk result (λ drawing. drawing.config.now ≡ config.now) }
+        ensures walk { IfOk result (λ drawing. drawing.walk ≡ walk) }
+    {
+        let mut seen = LastSeen::new(alloc);
+        let mut changes = Vec::new(alloc);
+        let mut picture = Picture::new(alloc);
+        let pieces = walk.pieces();
+        seen.look(config, pieces, None, &mut changes)?;
+        picture.begin(pieces, changes.as_slice())?;
+        Ok(Drawing {
+            config,
+            walk,
+            seen,
+            links: MessageLinks::new(alloc),
+            changes,
+            picture,
+        })
+    }
+
+    // The picture of the records so far.
+    fn end(self) -> Picture {
+        let Drawing {
+            config: _,
+            walk: _,
+            seen: _,
+            links: _,
+            changes: _,
+            picture,
+        } = self;
+        picture
+    }
+
+    // Adds records that follow one another and were accepted. The last of them may break a rule.
+    #[tactic(auto, using(run_walk::proofs::Kept::first_going, run_walk::proofs::Kept::first_core, run_walk::proofs::Kept::first_taken, run_walk::proofs::Kept::kept_on))]
+    fn accept_all(
+        &mut self,
+        rows: &ShownRows<'_>,
+        mut kept: VecDeque<Ordered>,
+        is_broken: bool,
+    ) -> Result<(), AllocError>
+        requires { (taken : List Ordered) × IsKept self.old.config.now taken self.old.walk kept.items }
+    {
+        'records: for _ in 0..kept.len() {
+            let Some(ordered) = kept.pop_front() else {
+                break;
+            };
+            let status = status_of(is_broken, kept.is_empty());
+            self.accept(rows, &ordered, status)?;
+        }
+        Ok(())
+    }
+
+    // Adds a record that was accepted, or that breaks a rule.
+    fn accept(
+        &mut self,
+        rows: &ShownRows<'_>,
+        ordered: &Ordered,
+        status: Status,
+    ) -> Result<(), AllocError>
+        requires going { AreGoing self.old.config.now ordered.now.pos self.old.walk }
+        requires core { ordered.now.core < self.old.config.now.cores }
+        requires accepted { EachRuns self.old.config.now (parts_in self.old.walk) (ordered.now ∷ []) }
+        ensures config { self.new.config ≡ self.old.config }
+        ensures going { OnOk result (AreGoing self.old.config.now (ordered.now.pos + 1) self.new.walk) }
+        ensures taken { OnOk result (AllRun self.old.config.now (parts_in self.old.walk) (ordered.now ∷ []) (parts_in self.new.walk)) }
+    {
+        let Ok(()) = self.walk.take_again(self.config, ordered) else {
+            return Err(AllocError);
+        };
+        let pieces = self.walk.pieces();
+        self.changes.clear();
+        self.seen
+            .look(self.config, pieces, Some(ordered), &mut self.changes)?;
+        let added = added(rows, ordered, status);
+        let changes = self.changes.as_slice();
+        draw(
+            &mut self.picture,
+            &mut self.links,
+            pieces,
+            ordered,
+            &added,
+            changes,
+        )
+    }
+}
+
+// Draws a record that was accepted: what it changed, and what it did with messages.
+fn draw(
+    picture: &mut Picture,
+    links: &mut MessageLinks,
+    pieces: &[Piece],
+    ordered: &Ordered,
+    added: &Added<'_>,
+    changes: &[Change],
+) -> Result<(), AllocError> {
+    let Followed {
+        is_sent,
+        received,
+        ended,
+    } = links.follow(pieces, ordered)?;
+    // The prover looks for the types of these values in this file.
+    let received: Option<Received> = received;
+    let ended: Option<Sent> = ended;
+    let followed = Followed {
+        is_sent,
+        received,
+        ended,
+    };
+    picture.accept(pieces, added, changes, &followed)?;
+    Ok(())
+}
+
+// How a record was judged that a stretch keeps.
+fn status_of(is_broken: bool, is_last: bool) -> Status {
+    if is_broken && is_last {
+        Status::Broken
+    } else {
+        Status::Accepted
+    }
+}
+
+// Where a record is, and how it was judged.
+fn added<'a>(rows: &'a ShownRows<'a>, ordered: &'a Ordered, status: Status) -> Added<'a> {
+    Added {
+        ordered,
+        source: rows.source(ordered.core, ordered.rec.seq),
+        status,
+    }
+}

@@ -1,0 +1,63 @@
+// How a run is shown.
+
+ghost use Rattle.std.specs.Prelude.{◌≡◌, false, length};
+ghost use Rattle.order_cert.specs.Kept.{place_of};
+ghost use Rattle.placement.specs.Lanes.{AreHonest};
+ghost use Rattle.user_rules.specs.Rules.{relations_of};
+ghost use Rattle.shown_files.specs.Shown.{IsShown};
+
+use crate::page::show_picture;
+use crate::traced::show_trace;
+use answer_words::Explainer;
+use csv_rows::TextSource;
+use placement::Placer;
+use shown_files::{Shown, Viewer};
+use sink::Sink;
+use std::alloc::Global;
+use std::fs::{File, Files};
+use std::sync::Wait;
+use user_rules::Rule;
+use view_ending::Ending;
+
+/// What is written.
+#[derive(Clone, Copy, Debug, PartialEq, Eq)]
+pub enum Format {
+    Html,
+    Svg,
+    Trace,
+}
+
+/// How a run should be shown.
+#[derive(Clone, Copy, Debug)]
+pub struct ViewAsked {
+    pub format: Format,
+    /// The last place that the picture may show with its states.
+    pub at: Option<u64>,
+    /// How many records before its end it shows.
+    pub span: usize,
+}
+
+impl Viewer for ViewAsked {
+    fn show<R, S: TextSource, C: TextSource, W: Sink>(
+        &self,
+        rt: &R,
+        alloc: Global,
+        shown: &Shown<'_>,
+        rules: &[Rule],
+        placer: &mut Placer<S, C>,
+        explainer: &mut Explainer,
+        output: &mut W,
+    ) -> Ending
+    where
+        R: Files<File = File> + Wait,
+    {
+        match self.format {
+            Format::Html | Format::Svg => show_picture(
+                rt, alloc, *self, shown, rules, placer, explainer, output,
+            ),
+            Format::Trace => show_trace(
+                rt, alloc, self.at, shown, rules, placer, explainer, output,
+            ),
+        }
+    }
+}
