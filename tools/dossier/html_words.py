@@ -2,11 +2,12 @@
 import re
 from html import escape
 
-STYLE = """body{font:16px/1.5 sans-serif;max-width:62em;margin:1em auto;padding:0 1em}code,pre{font-size:.9em;background:#f2f2f2}
-pre{overflow-x:auto;margin:.2em 0;padding:.3em;line-height:1.3}pre.lines a{display:inline-block;width:4em;color:#888}pre.lines a:target{background:#fd6}
+STYLE = """:root{color-scheme:light dark}body{font:16px/1.5 sans-serif;max-width:62em;margin:1em auto;padding:0 1em}code,pre{font-size:.9em;background:#f2f2f2}
+pre{overflow-x:auto;margin:.2em 0;padding:.3em;line-height:1.3}pre.lines a{display:inline-block;width:4em;color:#555}pre.lines a:target{background:#fd6}
 section{border-top:1px solid #bbb;margin-top:1.2em}h3{margin:.6em 0 .2em}dt{font-weight:bold;float:left;width:8.5em}
 dd{margin:0 0 .3em 9em}b.none{color:#a00}i{color:#444}summary{color:#444}
-a,code{overflow-wrap:anywhere}@media(max-width:40em){dt{float:none}dd{margin-left:0}ul{padding-left:1.2em}}"""
+a,code{overflow-wrap:anywhere}@media(max-width:40em){dt{float:none}dd{margin-left:0}ul{padding-left:1.2em}}
+@media(prefers-color-scheme:dark){code,pre{background:#2a2a2a}pre.lines a{color:#bbb}pre.lines a:target{background:#420}b.none{color:#f99}i,summary{color:#bbb}section{border-color:#666}}"""
 
 
 def text(words: str) -> str:
