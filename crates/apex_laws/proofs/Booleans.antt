@@ -1,6 +1,30 @@
 -- Plain facts about tests, which the other lemmas take.
-use Rattle.std.proofs.Common.{◌≡◌, ℕ, Bool, true, false, ◌||◌, ◌&&◌, nat_eq, refl, sym, ◌∙◌, true≢false, cond}
+use Rattle.std.proofs.Common.{◌≡◌, ℕ, Bool, true, false, ◌||◌, ◌&&◌, nat_eq, refl, sym, ◌∙◌, true≢false, cond, Some, Option, None, List, [], ◌∷◌}
 use Rattle.std.proofs.lemmas.Bool.{eq-eqb, eqb-true}
+use Rattle.std.proofs.lemmas.List.Elements.{Contains-append_left, Contains-append_right, Contains-push}
+use Rattle.std.specs.Prelude.{Contains}
+
+-- what fails does not hold
+pub impossible : {Fact : Type 0} → false ≡ true → Fact
+impossible holds = absurd (true≢false (sym holds))
+
+-- a fact that follows whichever way a test comes out
+pub either_way : {Fact : Type 0} (test : Bool) → (test ≡ true → Fact) → (test ≡ false → Fact) → Fact
+either_way true holds fails = holds refl
+either_way false holds fails = fails refl
+
+-- a fact about the value that a test chooses
+pub by_test : {Value : Type 0} (Fact : Value → Type 0) (test : Bool) (one other : Value) → (test ≡ true → Fact one) → (test ≡ false → Fact other) → Fact (cond test one other)
+by_test Fact true one other holds fails = holds refl
+by_test Fact false one other holds fails = fails refl
+
+-- nothing is no item
+pub never_found : {Item Fact : Type 0} {item : Item} → ◌≡◌ {A = Option Item} None (Some item) → Fact
+never_found is = cc
+
+-- two items that are found at once are one
+pub one_item : {Item : Type 0} {one other : Item} → ◌≡◌ {A = Option Item} (Some one) (Some other) → one ≡ other
+one_item same = cc
 
 -- a number is equal to itself
 pub is_itself : (number : ℕ) → nat_eq number number ≡ true
@@ -14,7 +38,7 @@ neither_first false other neither = refl
 -- if the first of two tests holds, one of them does
 pub first_holds : (one other : Bool) → one ≡ true → (one || other) ≡ true
 first_holds true other holds = refl
-first_holds false other holds = absurd (true≢false (sym holds))
+first_holds false other holds = impossible holds
 
 -- a test that cannot hold doesn't
 pub cannot_hold : (test : Bool) → (test ≡ true → ⊥) → test ≡ false
@@ -67,3 +91,10 @@ same_if false value = refl
 -- numbers that differ, the other way round
 pub differs_back : (one other : ℕ) → nat_eq one other ≡ false → nat_eq other one ≡ false
 differs_back one other differ = cannot_hold (nat_eq other one) (λ same. true≢false (sym (eq-eqb one other (sym (eqb-true other one same))) ∙ differ))
+
+-- an element is at the head of its list, or after the head
+pub member_first : {X : Type 0} (x : X) (xs : List X) → Contains (x ∷ xs) x
+member_first x xs = Contains-append_left (x ∷ []) xs x (Contains-push [] x)
+
+pub member_later : {X : Type 0} (x y : X) (xs : List X) → Contains xs y → Contains (x ∷ xs) y
+member_later x y xs is_member = Contains-append_right (x ∷ []) xs y is_member

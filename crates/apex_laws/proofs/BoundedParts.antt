@@ -1,52 +1,24 @@
 -- The numbers of a partition stay bounded, by its own demands.
-use Rattle.std.proofs.Common.{◌≡◌, ◌⊎◌, ℕ, ◌+◌, ◌<◌, ◌≤◌, List, [], ◌∷◌, ◌++◌, Bool, true, false, cond, nat_eq, nat_lt, ◌&&◌, ℤ, pos, negsuc, Option, Some, None, option_map, refl, sym, ap, subst, ◌∙◌, inl, inr, arith, true≢false}
-use Rattle.std.proofs.lemmas.Bool.{and_parts, cases_Bool, eqb-true, leb-true}
+use Rattle.std.proofs.Common.{◌≡◌, ◌⊎◌, ℕ, ◌+◌, ◌<◌, ◌≤◌, List, [], ◌∷◌, ◌++◌, true, false, cond, nat_eq, nat_lt, ◌&&◌, ℤ, pos, negsuc, Option, Some, None, option_map, refl, sym, ap, subst, ◌∙◌, inl, inr, arith, true≢false}
+use Rattle.std.proofs.lemmas.Bool.{and_parts, eqb-true, leb-true}
+use Rattle.apex_laws.specs.PartBounds.{GivesPeriod, IsBoundedPart, PartStaysBounded, period_limit, PeriodFits, place_limit, ReleasesFit, word_limit}
 use Rattle.apex_types.specs.declared.object_kind.ObjectKind.TheVariants as kind
-use Rattle.apex_types.specs.declared.record.Body.{Body}
-use Rattle.apex_types.specs.declared.record.Body.TheVariants.{Call, Ret, Disp, Tick}
-use Rattle.apex_types.specs.declared.record.Call.{Call as CallRecord}
-use Rattle.apex_types.specs.declared.record.Claim.{Claim}
-use Rattle.apex_types.specs.declared.record.Out.{Out}
-use Rattle.apex_types.specs.declared.record.Out.TheVariants as out
-use Rattle.apex_types.specs.declared.record.Who.{Who}
-use Rattle.apex_types.specs.declared.operation.{CallerOperation.CallerOperation, MutexOperation.MutexOperation, NewObject.NewObject, ProcessOperation.ProcessOperation, SamplingOperation.SamplingOperation}
-use Rattle.apex_types.specs.declared.request.Request.{Request}
 use Rattle.apex_types.specs.declared.operation.ObjectOperation.TheVariants as on
-use Rattle.apex_types.specs.declared.request.Request.TheVariants as request
-use Rattle.apex_machine.specs.declared.condition.Condition.{Condition}
-use Rattle.apex_machine.specs.declared.state.CoreState.{CoreState}
-use Rattle.apex_machine.specs.declared.state.Entry.{Entry}
-use Rattle.apex_machine.specs.declared.state.Mode.{Mode}
-use Rattle.apex_machine.specs.declared.state.Mode.TheVariants as mode
-use Rattle.apex_machine.specs.declared.state.Process.{Process}
-use Rattle.apex_machine.specs.declared.state.Wait.{Wait}
-use Rattle.apex_machine.specs.declared.state.Wait.TheVariants as wait
-use Rattle.apex_machine.specs.declared.state.WaitingSet.{WaitingSet}
-use Rattle.apex_machine.specs.After.{adjusted, called, caller_after, caller_with, created_by, each_set, is_done, numbered, objects_by, partition_by, returned, ticked, with_sets, woken_if_named}
-use Rattle.apex_machine.specs.Answer.{done, waiting}
-use Rattle.apex_machine.specs.Arguments.{is_number, natural_of, period_given}
-use Rattle.apex_machine.specs.Configuration.{Configuration, first_core, period_of}
-use Rattle.apex_machine.specs.Demands.{AllHold, WakesHere, call_demands, outcome_demands, partition_demands}
-use Rattle.apex_machine.specs.DueTimes.{NamesThoseDue, due_by, entry_wait, falls_due, is_released, is_suspension, next_release, release_after, waits_for_normal}
-use Rattle.apex_machine.specs.Objects.{acquired, acquired_again, acquired_from, handed_on, is_owner, mutex_released, not_acquired, released_once}
-use Rattle.apex_machine.specs.Ports.{channel_of}
-use Rattle.apex_machine.specs.Processes.{by_mutex, new_process, on_ownership, release_reached, release_taken, released, set_by, stopped, woken_by, set_in}
-use Rattle.apex_machine.specs.ServiceConditions.{conditions_of}
-use Rattle.apex_machine.specs.Services.{answer_of}
-use Rattle.apex_machine.specs.State.{Mutex, Partition, Table, change_at, cold_partition, each_item, first_processes, given_object, initialising_process, is_named, item_at, names_one_of, time_of}
-use Rattle.apex_machine.specs.Waiting.{first_waiter, is_in, is_no_error, set_after, stops, waits_at, message_of}
-use Rattle.apex_laws.specs.Laws.{entries_at}
-use Rattle.apex_laws.specs.PartBounds.{GivesPeriod, IsBoundedPart, PartStaysBounded, PeriodFits, ReleasesFit, period_limit, place_limit, word_limit}
-use Rattle.apex_laws.specs.PartLaws.{IsSoundPart}
+use Rattle.apex_laws.proofs.Common.{AllHold, Body, Call, CallerOperation, CallRecord, Claim, Condition, Configuration, CoreState, Disp, Effect, Entry, IsSoundPart, Mode, Mutex, MutexOperation, NamesThoseDue, NewObject, Out, Partition}
+use Rattle.apex_laws.proofs.Common.{Process, ProcessOperation, Request, Ret, SamplingOperation, Table, Tick, Wait, WaitingSet, WakesHere, Who, acquired, acquired_again, acquired_from, adjusted, answer_of, call_demands, called, caller_after}
+use Rattle.apex_laws.proofs.Common.{caller_with, change_at, channel_of, cold_partition, conditions_of, created_by, done, due_by, each_item, each_set, entries_at, falls_due, first_core, first_processes, first_waiter, handed_on}
+use Rattle.apex_laws.proofs.Common.{initialising_process, is_done, is_in, is_named, is_no_error, is_released, is_suspension, item_at, message_of, mutex_released, names_one_of, natural_of, new_process, next_release, not_acquired, numbered}
+use Rattle.apex_laws.proofs.Common.{objects_by, outcome_demands, partition_by, partition_demands, period_given, period_of, release_after, release_reached, release_taken, released, released_once, returned, set_after, set_by, stopped, stops}
+use Rattle.apex_laws.proofs.Common.{ticked, time_of, waiting, waits_at, waits_for_normal, with_sets, woken_by, woken_if_named}
+use Rattle.apex_laws.proofs.Booleans.{by_test, either_way, impossible, never_found, one_item}
 use Rattle.apex_laws.proofs.Codes.{no_error_is_done, not_done}
-use Rattle.apex_laws.proofs.Keeps.{set_by_wait}
+use Rattle.apex_laws.proofs.Keeps.{set_by_wait, set_case}
 use Rattle.apex_laws.proofs.Restarts.{call_case, done_case, return_case}
-use Rattle.apex_laws.proofs.SoundParts.{WaitsInSet, named_across, own_holds}
+use Rattle.apex_laws.proofs.SoundParts.{named_across, own_holds, WaitsInSet}
 use Rattle.apex_laws.proofs.Tables.{at_each}
 use Rattle.apex_laws.proofs.Waiters.{all_weaker}
-use Rattle.apex_laws.proofs.Wakes.{answer_wakes, nobody}
 use Rattle.apex_laws.proofs.WaitersOf.{not_named}
-use Rattle.apex_laws.proofs.Woken.{created_is}
+use Rattle.apex_laws.proofs.Wakes.{answer_wakes, created_is, nobody}
 
 -- lists of processes and objects
 
@@ -60,19 +32,15 @@ each_has : {Item : Type 0} (Fact : Item → Type 0) (change : ℕ → Item → I
 each_has {Item} Fact change items has number item at = by (item_at items number) refl (sym (at_each change items number) ∙ at)
   where
     by : (found : Option Item) → item_at items number ≡ found → option_map (change number) found ≡ Some item → Fact item
-    by None none is = let no : ◌≡◌ {A = Option Item} None (Some item) = is in cc
-    by (Some old) some is = let both : ◌≡◌ {A = Option Item} (Some (change number old)) (Some item) = is in let same : change number old ≡ item = cc in subst Fact same (has number old some)
+    by None none is = never_found is
+    by (Some old) some is = subst Fact (one_item is) (has number old some)
 
 -- what is found in two lists is found in one of them
 found_either : {Item : Type 0} (items more : List (ℕ × Item)) (number : ℕ) (item : Item) → item_at (items ++ more) number ≡ Some item
     → (item_at items number ≡ Some item) ⊎ (item_at more number ≡ Some item)
 found_either [] more number item at = inr at
 found_either (entry ∷ entries) more number item at =
-    elim (nat_eq number entry.0) as (λ same. cond same (Some entry.1) (item_at (entries ++ more) number) ≡ Some item
-    → (cond same (Some entry.1) (item_at entries number) ≡ Some item) ⊎ (item_at more number ≡ Some item)) [
-      | true ↦ λ at. inl at
-      | false ↦ λ at. found_either entries more number item at
-    ] at
+    either_way (nat_eq number entry.0) (λ same. inl (rw same (rw same at at))) (λ other. rw other (found_either entries more number item (rw other at at)))
 
 -- so each of two lists has what each of either has
 joined_has : {Item : Type 0} (Fact : Item → Type 0) (items more : List (ℕ × Item)) → AllFound Fact items → AllFound Fact more → AllFound Fact (items ++ more)
@@ -84,13 +52,10 @@ joined_has Fact items more first second number item at =
 
 -- what is created is the new one
 numbered_has : {Item : Type 0} (Fact : Item → Type 0) (claimed : Option ℤ) (new : Item) → Fact new → AllFound Fact (numbered claimed new)
-numbered_has {Item} Fact None new has number item at = let no : ◌≡◌ {A = Option Item} None (Some item) = at in cc
-numbered_has {Item} Fact (Some (negsuc n)) new has number item at = let no : ◌≡◌ {A = Option Item} None (Some item) = at in cc
-numbered_has {Item} Fact (Some (pos n)) new has number item at =
-    elim (nat_eq number n) as (λ same. cond same (Some new) None ≡ Some item → Fact item) [
-      | true ↦ λ at. (let both : ◌≡◌ {A = Option Item} (Some new) (Some item) = at in let same : new ≡ item = cc in subst Fact same has)
-      | false ↦ λ at. (let no : ◌≡◌ {A = Option Item} None (Some item) = at in cc)
-    ] at
+numbered_has Fact None new has number item at = never_found at
+numbered_has Fact (Some (negsuc n)) new has number item at = never_found at
+numbered_has Fact (Some (pos n)) new has number item at =
+    by_test (λ found. found ≡ Some item → Fact item) (nat_eq number n) (Some new) None (λ same at. subst Fact (one_item at) has) (λ other at. never_found at) at
 
 -- mutexes
 
@@ -102,10 +67,7 @@ CountsTo most mutex = mutex.count ≤ most
 acquired_counts : (place : ℕ) (owner : Option ℕ) (caller : ℕ) (time_out : ℤ) (mutex : Mutex) → CountsTo place mutex → CountsTo (place + 1) (acquired_from owner caller time_out mutex).next
 acquired_counts place None caller time_out mutex most = omega arith
 acquired_counts place (Some owner) caller time_out mutex most =
-    elim (nat_eq owner caller) as (λ own. CountsTo (place + 1) (cond own (acquired_again mutex) (not_acquired time_out mutex)).next) [
-      | true ↦ omega (arith, most)
-      | false ↦ omega (arith, most)
-    ]
+    by_test (λ (effect : Effect Mutex). CountsTo (place + 1) effect.next) (nat_eq owner caller) (acquired_again mutex) (not_acquired time_out mutex) (λ own. omega (arith, most)) (λ other. omega (arith, most))
 
 handed_on_counts : (place : ℕ) (first : Option Entry) (mutex : Mutex) → CountsTo (place + 1) (handed_on first mutex).next
 handed_on_counts place None mutex = omega arith
@@ -113,21 +75,15 @@ handed_on_counts place (Some waiter) mutex = omega arith
 
 released_counts : (place : ℕ) (first : Option Entry) (mutex : Mutex) → CountsTo place mutex → CountsTo (place + 1) (mutex_released first mutex).next
 released_counts place first mutex most =
-    elim (nat_lt 1 mutex.count) as (λ more. CountsTo (place + 1) (cond more (released_once mutex) (handed_on first mutex)).next) [
-      | true ↦ omega (arith, most)
-      | false ↦ handed_on_counts place first mutex
-    ]
+    by_test (λ (effect : Effect Mutex). CountsTo (place + 1) effect.next) (nat_lt 1 mutex.count) (released_once mutex) (handed_on first mutex) (λ more. omega (arith, most)) (λ last. handed_on_counts place first mutex)
 
 -- a change of one mutex
 change_counts : (place number : ℕ) (change : Mutex → Mutex) (mutexes : List (ℕ × Mutex)) → ((mutex : Mutex) → CountsTo place mutex → CountsTo (place + 1) (change mutex))
     → AllFound (CountsTo place) mutexes → AllFound (CountsTo (place + 1)) (change_at number change mutexes)
 change_counts place number change mutexes counts all =
     each_has (CountsTo (place + 1)) (λ other mutex. cond (nat_eq other number) (change mutex) mutex) mutexes
-    (λ other mutex at. one (nat_eq other number) mutex (all other mutex at))
-  where
-    one : (here : Bool) (mutex : Mutex) → CountsTo place mutex → CountsTo (place + 1) (cond here (change mutex) mutex)
-    one true mutex most = counts mutex most
-    one false mutex most = omega (arith, most)
+    (λ other mutex at. (let most = all other mutex at in
+    by_test (CountsTo (place + 1)) (nat_eq other number) (change mutex) mutex (λ here. counts mutex most) (λ elsewhere. omega (arith, most))))
 
 counts_later : (place : ℕ) (mutexes : List (ℕ × Mutex)) → AllFound (CountsTo place) mutexes → AllFound (CountsTo (place + 1)) mutexes
 counts_later place mutexes all number mutex at = let most = all number mutex at in omega (arith, most)
@@ -135,15 +91,15 @@ counts_later place mutexes all number mutex at = let most = all number mutex at 
 -- the mutexes that a call uses or creates
 used_counts : (configuration : Configuration) (place : ℕ) (who : Who) (claimed : Option ℤ) (asked : Request) (partition : Partition) → AllFound (CountsTo place) partition.mutexes
     → AllFound (CountsTo (place + 1)) (objects_by configuration who claimed asked partition).mutexes
-used_counts configuration place who claimed (request.Create name (NewObject.Mutex priority discipline)) partition all =
+used_counts configuration place who claimed (Request.Create name (NewObject.Mutex priority discipline)) partition all =
     joined_has (CountsTo (place + 1)) partition.mutexes _ (counts_later place partition.mutexes all) (numbered_has (CountsTo (place + 1)) claimed _ (omega arith))
-used_counts configuration place who claimed (request.Object mutex (on.Mutex (MutexOperation.Acquire time_out))) partition all =
+used_counts configuration place who claimed (Request.Object mutex (on.Mutex (MutexOperation.Acquire time_out))) partition all =
     change_counts place (natural_of mutex) (λ found. (acquired who.proc time_out found).next) partition.mutexes
     (λ found most. acquired_counts place found.owner who.proc time_out found most) all
-used_counts configuration place who claimed (request.Object mutex (on.Mutex MutexOperation.Release)) partition all =
+used_counts configuration place who claimed (Request.Object mutex (on.Mutex MutexOperation.Release)) partition all =
     change_counts place (natural_of mutex) (λ found. (mutex_released (first_waiter found.discipline found.waiters) found).next) partition.mutexes
     (λ found most. released_counts place (first_waiter found.discipline found.waiters) found most) all
-used_counts configuration place who claimed (request.SamplingPort port SamplingOperation.Read) partition all = counts_later place partition.mutexes all
+used_counts configuration place who claimed (Request.SamplingPort port SamplingOperation.Read) partition all = counts_later place partition.mutexes all
 used_counts configuration place who claimed _ partition all = counts_later place partition.mutexes all
 
 -- a change of the waiting sets leaves the counts
@@ -164,7 +120,7 @@ counts_after configuration cores place core number (Call call) partition all =
     (λ own none. sets_count (place + 1) (set_after place (Call call)) (cond (is_done call.claim.out) (objects_by configuration call.who call.claim.val call.request partition) partition)
     (done_case (λ next. AllFound (CountsTo (place + 1)) next.mutexes) configuration call partition
     (λ done. used_counts configuration place call.who call.claim.val call.request partition all) (counts_later place partition.mutexes all)))
-    (λ own mode is object mutex at. (let no : ◌≡◌ {A = Option Mutex} None (Some mutex) = at in cc))
+    (λ own mode is object mutex at. never_found at)
     (λ elsewhere. counts_later place partition.mutexes all)
 
 -- one process
@@ -183,39 +139,17 @@ KeepsRelease old new = (new.last_release ≡ old.last_release) × (new.period �
 bounded_kept : (most : ℕ) (old new : Process) → KeepsRelease old new → IsBounded most old → IsBounded most new
 bounded_kept most old new keeps bounded = (subst (λ last. last ≤ most) (sym keeps.0) bounded.0, λ period is. bounded.1 period (sym keeps.1 ∙ is))
 
-one_keeps : (own : Bool) (changed x : Process) → KeepsRelease x changed → KeepsRelease x (cond own changed x)
-one_keeps true changed x keeps = keeps
-one_keeps false changed x keeps = (refl, refl)
-
-ownership_keeps : (before after : Bool) (priority : ℕ) (x : Process) → KeepsRelease x (on_ownership before after priority x)
-ownership_keeps false true priority x = (refl, refl)
-ownership_keeps true false priority x = (refl, refl)
-ownership_keeps true true priority x = (refl, refl)
-ownership_keeps false false priority x = (refl, refl)
-
-mutex_keeps : (found : Option Mutex) (change : Mutex → Mutex) (number : ℕ) (x : Process) → KeepsRelease x (by_mutex found change number x)
-mutex_keeps None change number x = (refl, refl)
-mutex_keeps (Some mutex) change number x = ownership_keeps (is_owner mutex.owner number) (is_owner (change mutex).owner number) mutex.priority x
-
-set_in_keeps : (place period now : ℕ) (mode : Mode) (operation : ProcessOperation) (x : Process) → KeepsRelease x (set_in place period now mode operation x)
-set_in_keeps place period now mode ProcessOperation.Start x = (refl, refl)
-set_in_keeps place period now mode _ x = (refl, refl)
-
 -- what a call sets in a process leaves both
 set_by_keeps : (place period : ℕ) (cores : List CoreState) (partition : Partition) (caller : ℕ) (asked : Request) (number : ℕ) (x : Process)
     → KeepsRelease x (set_by place period cores partition caller asked number x)
-set_by_keeps place period cores partition caller (request.Process process operation) number x =
-    one_keeps (is_number process number) (set_in place period (time_of cores x.affinity) partition.mode operation x) x (set_in_keeps place period (time_of cores x.affinity) partition.mode operation x)
-set_by_keeps place period cores partition caller (request.SetPartitionMode next) number x =
-    one_keeps (waits_for_normal x.wait) (record x { wait = entry_wait period (time_of cores x.affinity) x.period; ready_position = place }) x (refl, refl)
-set_by_keeps place period cores partition caller (request.Object mutex (on.Mutex operation)) number x = mutex_keeps (given_object partition.mutexes mutex) _ number x
-set_by_keeps place period cores partition caller _ number x = (refl, refl)
+set_by_keeps place period cores partition caller asked number x =
+    set_case (KeepsRelease x) place period cores partition caller asked number x (λ affinity current retained position suspended. (refl, refl)) (λ now. (refl, refl)) (λ now. (refl, refl))
 
 adjusted_keeps : (place period : ℕ) (cores : List CoreState) (partition : Partition) (call : CallRecord) (number : ℕ) (x : Process)
     → KeepsRelease x (adjusted place period cores partition call number x)
 adjusted_keeps place period cores partition call number x =
-    one_keeps (is_done call.claim.out) (set_by place period cores partition call.who.proc call.request number x) x
-    (set_by_keeps place period cores partition call.who.proc call.request number x)
+    by_test (KeepsRelease x) (is_done call.claim.out) (set_by place period cores partition call.who.proc call.request number x) x
+    (λ done. set_by_keeps place period cores partition call.who.proc call.request number x) (λ not_done. (refl, refl))
 
 -- waits that end by a call
 
@@ -224,12 +158,12 @@ abbrev EndsNoRelease : Wait → Type 0
 EndsNoRelease one = (waits_for_normal one ≡ false) × ((last : ℕ) → release_reached one last ≡ last)
 
 in_set_ends : (wanted : WaitingSet) (one : Wait) → is_in wanted one ≡ true → EndsNoRelease one
-in_set_ends wanted (wait.At found due) is = (refl, λ last. refl)
-in_set_ends wanted _ is = absurd (true≢false (sym is))
+in_set_ends wanted (Wait.At found due) is = (refl, λ last. refl)
+in_set_ends wanted _ is = impossible is
 
 suspension_ends : (one : Wait) → is_suspension one ≡ true → EndsNoRelease one
-suspension_ends (wait.Suspended due) is = (refl, λ last. refl)
-suspension_ends _ is = absurd (true≢false (sym is))
+suspension_ends (Wait.Suspended due) is = (refl, λ last. refl)
+suspension_ends _ is = impossible is
 
 -- who waits in a set waits for no release
 waiter_ends : (table : Table) (wanted : WaitingSet) (number : ℕ) (x : Process) → waits_at wanted (item_at table number) ≡ true → item_at table number ≡ Some x → EndsNoRelease x.wait
@@ -243,15 +177,13 @@ woken_keeps place message x ends = (ends.1 x.last_release, refl)
 
 woken_if_named_keeps : (place : ℕ) (call : CallRecord) (who : Who) (x : Process) → (is_named who call.claim.woken ≡ true → EndsNoRelease x.wait) → KeepsRelease x (woken_if_named place call who x)
 woken_if_named_keeps place call who x ends =
-    elim (is_named who call.claim.woken) as (λ named. is_named who call.claim.woken ≡ named → KeepsRelease x (cond named (woken_by place (message_of call.request) x) x)) [
-      | true ↦ λ named. woken_keeps place (message_of call.request) x (ends named)
-      | false ↦ λ not_named. (refl, refl)
-    ] refl
+    by_test (KeepsRelease x) (is_named who call.claim.woken) (woken_by place (message_of call.request) x) x
+    (λ named. woken_keeps place (message_of call.request) x (ends named)) (λ not_named. (refl, refl))
 
 -- if a service wakes a process, it starts none and lets none enter NORMAL
 waking_keeps_wait : (place period : ℕ) (cores : List CoreState) (partition : Partition) (now : ℕ) (caller : Who) (asked : Request) (number : ℕ) (x : Process) (one : Who)
     → is_named one (answer_of now caller partition asked).woken ≡ true → waits_for_normal x.wait ≡ false → (set_by place period cores partition caller.proc asked number x).wait ≡ x.wait
-waking_keeps_wait place period cores partition now caller (request.Process process ProcessOperation.Start) number x one named normal = nobody one [] refl named
+waking_keeps_wait place period cores partition now caller (Request.Process process ProcessOperation.Start) number x one named normal = nobody one [] refl named
 waking_keeps_wait place period cores partition now caller asked number x one named normal = set_by_wait place period cores partition caller.proc asked number x tt normal
 
 -- what an own call sets in a process whose wait it ends leaves a wait that ends with no release
@@ -265,44 +197,37 @@ own_ends number place now period cores partition caller asked claim sound [] (So
 own_ends number place now period cores partition caller asked claim sound [] None hold who here named x at =
     let Ends : Who → Type 0 = λ one. (y : Process) → item_at partition.table one.proc ≡ Some y → EndsNoRelease y.wait in
     let answered = sym (hold.1.1.1.1.0 who) ∙ named in
-    let ends : EndsNoRelease x.wait = answer_wakes Ends now caller partition asked
+    let ends : EndsNoRelease x.wait = (answer_wakes Ends now caller partition asked
     (λ wanted used. all_weaker (WaitsInSet number wanted partition) (λ entry. Ends entry.who)
     (λ entry is_member y at. waiter_ends partition.table wanted entry.who.proc y is_member.1 at) (entries_at partition wanted) (sound.is_member wanted))
     (λ process target is suspends y at.
     (let is_member = created_is partition.table process target is in
-    let both : ◌≡◌ {A = Option Process} (Some target) (Some y) = sym is_member.2 ∙ ap (λ one. item_at partition.table (natural_of one)) (sym is_member.1) ∙ at in
-    let same : target ≡ y = cc in
-    subst (λ one. EndsNoRelease one.wait) same (suspension_ends target.wait suspends)))
-    who answered x at in
+    let same = one_item (sym is_member.2 ∙ ap (λ one. item_at partition.table (natural_of one)) (sym is_member.1) ∙ at) in
+    subst (λ one. EndsNoRelease one.wait) same (suspension_ends target.wait suspends)))).has who answered x at in
     (ends, waking_keeps_wait place period cores partition now caller asked who.proc x who answered ends.0)
 
 -- the caller
 
 -- PERIODIC_WAIT that answers NO_ERROR found the release reached
 release_found : (conditions : List Condition) (number now : ℕ) (partition : Partition) (caller : Who) (claim : Claim)
-    → AllHold (outcome_demands conditions None number (request.Caller CallerOperation.PeriodicWait) (answer_of now caller partition (request.Caller CallerOperation.PeriodicWait)) claim) → is_no_error claim.out ≡ true
+    → AllHold (outcome_demands conditions None number (Request.Caller CallerOperation.PeriodicWait) (answer_of now caller partition (Request.Caller CallerOperation.PeriodicWait)) claim) → is_no_error claim.out ≡ true
     → is_released now (item_at partition.table caller.proc) ≡ true
 release_found (condition ∷ conditions) number now partition caller claim hold no_error =
     absurd (true≢false (sym (no_error_is_done claim.out no_error) ∙ not_done (condition ∷ conditions) claim.out hold.1.0))
 release_found [] number now partition caller claim hold no_error =
-    elim (is_released now (item_at partition.table caller.proc)) as (λ reached. is_no_error (cond reached done waiting).out ≡ true → reached ≡ true) [
-      | true ↦ λ is. refl
-      | false ↦ λ is. is
-    ] (ap is_no_error (sym hold.1.0) ∙ no_error)
+    elim (is_released now (item_at partition.table caller.proc)) as (λ reached. is_no_error (cond reached done waiting).out ≡ true → reached ≡ true) [ true ↦ λ is. refl | false ↦ λ is. is ]
+    (ap is_no_error (sym hold.1.0) ∙ no_error)
 
-taken_bounded : (place : ℕ) (asked : Request) (x : Process) → x.last_release ≤ place → (asked ≡ (request.Caller CallerOperation.PeriodicWait) → next_release x ≤ place) → release_taken asked x ≤ place + 1
-taken_bounded place (request.Caller CallerOperation.PeriodicWait) x last reached = let most = reached refl in omega (arith, most)
+taken_bounded : (place : ℕ) (asked : Request) (x : Process) → x.last_release ≤ place → (asked ≡ (Request.Caller CallerOperation.PeriodicWait) → next_release x ≤ place) → release_taken asked x ≤ place + 1
+taken_bounded place (Request.Caller CallerOperation.PeriodicWait) x last reached = let most = reached refl in omega (arith, most)
 taken_bounded place _ x last reached = omega (arith, last)
 
 caller_bounded : (place now : ℕ) (call : CallRecord) (given : Out) (x : Process) → IsBounded place x → (is_no_error given ≡ true → release_taken call.request x ≤ place + 1)
     → IsBounded (place + 1) (record (caller_with place now call given x) { called_at = now })
-caller_bounded place now call out.Waits x bounded taken = (omega (arith, bounded.0), bounded.1)
-caller_bounded place now call out.Never x bounded taken = (omega (arith, bounded.0), bounded.1)
-caller_bounded place now call (out.Answer code) x bounded taken = (
-  elim (is_no_error (out.Answer code)) as (λ ok. is_no_error (out.Answer code) ≡ ok → cond ok (release_taken call.request x) x.last_release ≤ place + 1) [
-    | true ↦ λ ok. taken ok
-    | false ↦ λ off. omega (arith, bounded.0)
-  ] refl,
+caller_bounded place now call Out.Waits x bounded taken = (omega (arith, bounded.0), bounded.1)
+caller_bounded place now call Out.Never x bounded taken = (omega (arith, bounded.0), bounded.1)
+caller_bounded place now call (Out.Answer code) x bounded taken = (
+  by_test (λ release. release ≤ place + 1) (is_no_error (Out.Answer code)) (release_taken call.request x) x.last_release taken (λ off. omega (arith, bounded.0)),
   bounded.1,
 )
 
@@ -324,8 +249,8 @@ caller_takes : (configuration : Configuration) (number place now : ℕ) (partiti
 caller_takes configuration number place now partition call x new most keeps at hold bounded no_error =
     taken_bounded place call.request new bounded.0
     (λ asked.
-    (let own : OutcomeHolds configuration number now partition call (request.Caller CallerOperation.PeriodicWait) = subst (OutcomeHolds configuration number now partition call) asked hold in
-    let reached = release_found (conditions_of configuration call.who partition (request.Caller CallerOperation.PeriodicWait)) number now partition call.who call.claim
+    (let own : OutcomeHolds configuration number now partition call (Request.Caller CallerOperation.PeriodicWait) = subst (OutcomeHolds configuration number now partition call) asked hold in
+    let reached = release_found (conditions_of configuration call.who partition (Request.Caller CallerOperation.PeriodicWait)) number now partition call.who call.claim
     own no_error in
     let here : is_released now (Some x) ≡ true = subst (λ one. is_released now one ≡ true) at reached in
     let before : next_release x ≤ now = leb-true (next_release x) now here in
@@ -340,44 +265,30 @@ called_bounded configuration number place now cores partition call sound own mos
     let keeps : KeepsRelease x changed = adjusted_keeps place period cores partition call process x in
     let kept : IsBounded place changed = bounded_kept place x changed keeps bounded in
     let who : Who = record { part = call.who.part; proc = process } in
-    elim (cases_Bool (nat_eq process call.who.proc)) [
-      | inl caller ↦
-          let there : item_at partition.table call.who.proc ≡ Some x = ap (item_at partition.table) (sym (eqb-true process call.who.proc caller)) ∙ at in
-          let after : IsBounded (place + 1) (caller_after place now call changed) = caller_bounded place now call call.claim.out changed kept
-          (caller_takes configuration number place now partition call x changed most keeps there hold kept) in
-          rw caller after
-      | inr other ↦
-          let ends : is_named who call.claim.woken ≡ true → EndsNoRelease changed.wait = λ named.
-          (let both = own_ends number place now period cores partition call.who call.request call.claim sound (conditions_of configuration call.who partition call.request)
-          (channel_of partition call.request) hold who own named x at in
-          adjusted_ends both.0 both.1) in
-          let rest : (stopping : Bool) → IsBounded (place + 1) (cond stopping (stopped changed) (woken_if_named place call who changed)) = λ stopping. elim stopping as (λ passed. IsBounded (place + 1) (cond passed (stopped changed) (woken_if_named place call who changed))) [
-            | true ↦ bounded_later place changed kept
-            | false ↦ bounded_later place (woken_if_named place call who changed) (bounded_kept place changed (woken_if_named place call who changed) (woken_if_named_keeps place call who changed ends) kept)
-          ] in
-          rw other (rest (stops call who))
-    ]
-  where
-    adjusted_ends : EndsNoRelease x.wait → (set_by place period cores partition call.who.proc call.request process x).wait ≡ x.wait
-        → EndsNoRelease (adjusted place period cores partition call process x).wait
-    adjusted_ends ends same =
-        elim (is_done call.claim.out) as (λ done. EndsNoRelease (cond done (set_by place period cores partition call.who.proc call.request process x) x).wait) [
-          | true ↦ subst EndsNoRelease (sym same) ends
-          | false ↦ ends
-        ]
+    either_way (nat_eq process call.who.proc)
+    (λ caller. (let there : item_at partition.table call.who.proc ≡ Some x = ap (item_at partition.table) (sym (eqb-true process call.who.proc caller)) ∙ at in
+    let after : IsBounded (place + 1) (caller_after place now call changed) = caller_bounded place now call call.claim.out changed kept
+    (caller_takes configuration number place now partition call x changed most keeps there hold kept) in
+    rw caller after))
+    (λ other. (let ends : is_named who call.claim.woken ≡ true → EndsNoRelease changed.wait = λ named.
+    (let both = own_ends number place now period cores partition call.who call.request call.claim sound (conditions_of configuration call.who partition call.request)
+    (channel_of partition call.request) hold who own named x at in
+    by_test (λ (one : Process). EndsNoRelease one.wait) (is_done call.claim.out) (set_by place period cores partition call.who.proc call.request process x) x
+    (λ done. subst EndsNoRelease (sym both.1) both.0) (λ not_done. both.0)) in
+    rw other (by_test (IsBounded (place + 1)) (stops call who) (stopped changed) (woken_if_named place call who changed) (λ stops_it. bounded_later place changed kept)
+    (λ goes_on. bounded_later place (woken_if_named place call who changed)
+    (bounded_kept place changed (woken_if_named place call who changed) (woken_if_named_keeps place call who changed ends) kept)))))
 
 -- a created process has no last release, and a period that fits
 created_bounded : (most core : ℕ) (call : CallRecord) (asked : Request) → GivesPeriod asked → AllFound (IsBounded most) (created_by core call asked)
-created_bounded most core call (request.CreateProcess name priority period) fits =
-    elim (is_done call.claim.out) as (λ done. AllFound (IsBounded most) (cond done (numbered call.claim.val (new_process core name priority period)) [])) [
-      | true ↦ numbered_has (IsBounded most) call.claim.val (new_process core name priority period) (omega arith, given period fits)
-      | false ↦ λ number item at. (let no : ◌≡◌ {A = Option Process} None (Some item) = at in cc)
-    ]
+created_bounded most core call (Request.CreateProcess name priority period) fits =
+    by_test (AllFound (IsBounded most)) (is_done call.claim.out) (numbered call.claim.val (new_process core name priority period)) []
+    (λ done. numbered_has (IsBounded most) call.claim.val (new_process core name priority period) (omega arith, given period fits)) (λ not_done number item at. never_found at)
   where
-    given : (period : ℤ) → GivesPeriod (request.CreateProcess name priority period) → (one : ℕ) → period_given period ≡ Some one → one < period_limit
-    given (pos n) fits one is = let both : ◌≡◌ {A = Option ℕ} (Some n) (Some one) = is in let same : n ≡ one = cc in subst (λ one. one < period_limit) same fits
-    given (negsuc n) fits one is = let no : ◌≡◌ {A = Option ℕ} None (Some one) = is in cc
-created_bounded most core call _ fits = λ number item at. (let no : ◌≡◌ {A = Option Process} None (Some item) = at in cc)
+    given : (period : ℤ) → GivesPeriod (Request.CreateProcess name priority period) → (one : ℕ) → period_given period ≡ Some one → one < period_limit
+    given (pos n) fits one is = subst (λ one. one < period_limit) (one_item is) fits
+    given (negsuc n) fits one is = never_found is
+created_bounded most core call _ fits = λ number item at. never_found at
 
 -- a call of another partition
 
@@ -392,22 +303,20 @@ foreign_ends asked chan number table others wakes who here named x at =
 
 -- a release that falls due is reached
 due_bounded : (most time last : ℕ) (one : Wait) → last ≤ most → time ≤ most → due_by time one ≡ true → release_reached one last ≤ most
-due_bounded most time last (wait.FirstRelease due) before now is = let reached : due ≤ time = leb-true due time is in omega (arith, reached, now)
-due_bounded most time last (wait.PeriodicRelease due) before now is = let reached : due ≤ time = leb-true due time is in omega (arith, reached, now)
+due_bounded most time last (Wait.FirstRelease due) before now is = let reached : due ≤ time = leb-true due time is in omega (arith, reached, now)
+due_bounded most time last (Wait.PeriodicRelease due) before now is = let reached : due ≤ time = leb-true due time is in omega (arith, reached, now)
 due_bounded most time last _ before now is = before
 
 ticked_bounded : (place now core number : ℕ) (table : Table) (woken : List Who) → now ≤ place → NamesThoseDue number core (now + 1) table woken
     → (process : ℕ) (x : Process) → item_at table process ≡ Some x → IsBounded place x → IsBounded (place + 1) (ticked place number woken process x)
 ticked_bounded place now core number table woken most due process x at bounded =
     let who : Who = record { part = number; proc = process } in
-    elim (is_named who woken) as (λ named. is_named who woken ≡ named → IsBounded (place + 1) (cond named (released place x) x)) [
-      | true ↦ λ named.
-          let falls : (nat_eq x.affinity core && due_by (now + 1) x.wait) ≡ true = subst (λ one. falls_due core (now + 1) one ≡ true) at (sym (due process) ∙ named) in
-          let later : x.last_release ≤ place + 1 = omega (arith, bounded.0) in
-          let time : now + 1 ≤ place + 1 = omega (arith, most) in
-          (due_bounded (place + 1) (now + 1) x.last_release x.wait later time (and_parts (nat_eq x.affinity core) (due_by (now + 1) x.wait) falls).1, bounded.1)
-      | false ↦ λ not_named. bounded_later place x bounded
-    ] refl
+    by_test (IsBounded (place + 1)) (is_named who woken) (released place x) x
+    (λ named. (let falls : (nat_eq x.affinity core && due_by (now + 1) x.wait) ≡ true = subst (λ one. falls_due core (now + 1) one ≡ true) at (sym (due process) ∙ named) in
+    let later : x.last_release ≤ place + 1 = omega (arith, bounded.0) in
+    let time : now + 1 ≤ place + 1 = omega (arith, most) in
+    (due_bounded (place + 1) (now + 1) x.last_release x.wait later time (and_parts (nat_eq x.affinity core) (due_by (now + 1) x.wait) falls).1, bounded.1)))
+    (λ not_named. bounded_later place x bounded)
 
 -- the processes of a partition as it starts
 start_bounded : (entered : Mode) (core place most : ℕ) → AllFound (IsBounded most) (first_processes entered core place)
@@ -416,11 +325,10 @@ start_bounded entered core place most = by entered
     initialising : AllFound (IsBounded most) ((0, initialising_process core place) ∷ [])
     initialising =
         numbered_has (IsBounded most) (Some (pos 0)) (initialising_process core place)
-        (omega arith, λ period is. (let no : ◌≡◌ {A = Option ℕ} None (Some period) = is in cc))
+        (omega arith, λ period is. never_found is)
 
     by : (started : Mode) → AllFound (IsBounded most) (first_processes started core place)
-    by mode.Idle = λ process x at. (let no : ◌≡◌ {A = Option Process} None (Some x) = at in cc)
-    by mode.ColdStart = initialising
+    by Mode.Idle = λ process x at. never_found at
     by _ = initialising
 
 -- the table of a partition after a record
@@ -434,7 +342,8 @@ bounded_after configuration number cores partition place core (Tick woken) sound
 bounded_after configuration number cores partition place core (Ret ret) sound most fits hold all =
     return_case (λ next. AllFound (IsBounded (place + 1)) next.table) configuration cores place core number ret partition
     (each_has (IsBounded (place + 1)) (returned ret.who.proc) partition.table
-    (λ process x at. bounded_kept (place + 1) x (returned ret.who.proc process x) (one_keeps (nat_eq process ret.who.proc) (record x { due = None }) x (refl, refl))
+    (λ process x at. bounded_kept (place + 1) x (returned ret.who.proc process x)
+    (by_test (KeepsRelease x) (nat_eq process ret.who.proc) (record x { due = None }) x (λ own. (refl, refl)) (λ other. (refl, refl)))
     (bounded_later place x (all process x at))))
     (λ process x at. bounded_later place x (all process x at))
 bounded_after configuration number cores partition place core (Call call) sound most fits hold all =
@@ -462,8 +371,8 @@ bounded_after configuration number cores partition place core (Call call) sound 
 
 cold_bounded : (configuration : Configuration) (number place : ℕ) → IsBoundedPart place (cold_partition configuration number)
 cold_bounded configuration number place =
-    let all : AllFound (IsBounded place) (cold_partition configuration number).table = start_bounded mode.ColdStart (first_core configuration number) 0 place in record {
-      counts = λ object mutex at. (let no : ◌≡◌ {A = Option Mutex} None (Some mutex) = at in cc);
+    let all : AllFound (IsBounded place) (cold_partition configuration number).table = start_bounded Mode.ColdStart (first_core configuration number) 0 place in record {
+      counts = λ object mutex at. never_found at;
       releases = λ process x at. (all process x at).0;
       periods = λ process x period at is. (all process x at).1 period is;
     }

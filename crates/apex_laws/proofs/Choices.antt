@@ -1,10 +1,14 @@
+-- The choice of a core is the ready process before which no other goes, and is in the table of its partition.
+use Rattle.std.proofs.Common.{◌≡◌, ℕ, Option, Some, None, sym, ap, subst, refl, option_map, ◌⊎◌, ◌<◌, ◌≤◌, true, false, ◌∙◌, inl, inr, arith, Bool, nat_eq, not, ◌&&◌, [], ◌∷◌, cond, is_some, true≢false, filter}
+use Rattle.std.proofs.lemmas.Bool.{and_parts, and_from, eqb-true, eq-eqb}
+use Rattle.std.proofs.lemmas.List.Elements.{All-cons, All-contains, All-contains_itself, All-filter, All-nil, All-weaker, filter_passes}
+use Rattle.std.specs.Prelude.{All, Contains}
+use Rattle.apex_laws.proofs.Common.{ChoiceIsTheSentence, GoesBefore, InNoWindow, InWindowOf, IsChosen, IsReady, Partition, Process, Table, Wait, WaitingSet, Who, are_distinct, choice_in, choice_of, foremost, goes_before, is_in, is_ready}
+use Rattle.apex_laws.proofs.Common.{item_at, ready_entries, sooner, waits_at, waits_for_nothing}
+use Rattle.apex_laws.proofs.Booleans.{by_test, cannot_hold, either_way, is_itself, member_first, member_later, never_found, one_item}
+use Rattle.apex_laws.proofs.SetNames.{in_no_set}
+
 -- The choice of a core, as the module and as each partition see it.
-use Rattle.std.proofs.Common.{◌≡◌, ℕ, Option, Some, None, sym, ap, subst, refl, option_map}
-use Rattle.apex_types.specs.declared.record.Who.{Who}
-use Rattle.apex_machine.specs.declared.state.Process.{Process}
-use Rattle.apex_machine.specs.Choice.{choice_in, choice_of, foremost, ready_entries}
-use Rattle.apex_machine.specs.Demands.{InNoWindow, InWindowOf}
-use Rattle.apex_machine.specs.State.{Partition}
 
 -- if the module finds the idle core idle, and the partition of the window finds its choice, the core has its choice
 pub joined_choice : (window : Option ℕ) (partitions : ℕ → Partition) (core : ℕ) (who : Option Who) → InNoWindow window (who ≡ None)
@@ -54,5 +58,297 @@ choice_from window partitions core who of chosen = rw of chosen
 
 -- if some process is the choice, there is a window
 pub not_idle : (window : Option ℕ) (partitions : ℕ → Partition) (core : ℕ) (who : Who) → IsChoice window partitions core who → InNoWindow window ⊥
-not_idle None partitions core who is = let none : ◌≡◌ {A = Option ℕ} None (Some who.part) = is.of in cc
+not_idle None partitions core who is = never_found is.of
 not_idle (Some number) partitions core who is = tt
+
+-- Going before is an order, total on entries of distinct numbers.
+
+-- one entry doesn't go before another, in numbers
+abbrev IsNotBefore : ℕ × Process → ℕ × Process → Type 0
+IsNotBefore one other =
+    (one.1.current_priority < other.1.current_priority)
+    ⊎ ((one.1.current_priority ≡ other.1.current_priority)
+    × ((other.1.ready_position < one.1.ready_position) ⊎ ((one.1.ready_position ≡ other.1.ready_position) × (other.0 ≤ one.0))))
+
+-- the test says what the sentence says
+pub is_before : (one other : ℕ × Process) → goes_before one other ≡ true → GoesBefore one other
+is_before one other before = grind arith
+
+-- and the other way round
+pub goes_before_by : (one other : ℕ × Process) → GoesBefore one other → goes_before one other ≡ true
+goes_before_by one other (inl more) = grind arith
+goes_before_by one other (inr (same, inl sooner)) = grind arith
+goes_before_by one other (inr (same, inr (also, below))) = grind arith
+
+-- its failure says so too
+is_not_before : (one other : ℕ × Process) → goes_before one other ≡ false → IsNotBefore one other
+is_not_before one other before = grind arith
+
+-- and the other way round
+goes_not_before : (one other : ℕ × Process) → IsNotBefore one other → goes_before one other ≡ false
+goes_not_before one other (inl less) = grind arith
+goes_not_before one other (inr (same, inl later)) = grind arith
+goes_not_before one other (inr (same, inr (also, above))) = grind arith
+
+-- no entry goes before itself
+pub not_before_itself : (one : ℕ × Process) → goes_before one one ≡ false
+not_before_itself one = grind arith
+
+-- if one goes before the other, the other does not go before it
+reversed : (one other : ℕ × Process) → GoesBefore one other → IsNotBefore other one
+reversed one other (inl more) = inl more
+reversed one other (inr (same, inl sooner)) = inr (omega arith, inl sooner)
+reversed one other (inr (same, inr (also, below))) = inr (omega arith, inr (omega arith, omega arith))
+
+-- of two entries that differ one alone goes before the other
+pub not_both_before : (one other : ℕ × Process) → goes_before one other ≡ true → goes_before other one ≡ false
+not_both_before one other before = goes_not_before other one (reversed one other (is_before one other before))
+
+-- the chain of two that don't go before, in numbers
+chained : (one middle other : ℕ × Process) → IsNotBefore one middle → IsNotBefore middle other → IsNotBefore one other
+chained one middle other (inl less) (inl fewer) = inl (omega arith)
+chained one middle other (inl less) (inr (same, rest)) = inl (omega (arith, less, same))
+chained one middle other (inr (same, rest)) (inl less) = inl (omega (arith, less, same))
+chained one middle other (inr (same, inl later)) (inr (also, inl still)) = inr (same ∙ also, inl (omega arith))
+chained one middle other (inr (same, inl later)) (inr (also, inr (at, above))) = inr (same ∙ also, inl (omega arith))
+chained one middle other (inr (same, inr (at, above))) (inr (also, inl later)) = inr (same ∙ also, inl (omega arith))
+chained one middle other (inr (same, inr (at, above))) (inr (also, inr (there, higher))) = inr (same ∙ also, inr (at ∙ there, omega arith))
+
+-- what doesn't go before an entry doesn't go before one that the entry doesn't go before
+pub not_before-chain : (one middle other : ℕ × Process) → goes_before one middle ≡ false → goes_before middle other ≡ false → goes_before one other ≡ false
+not_before-chain one middle other first second =
+    goes_not_before one other (chained one middle other (is_not_before one middle first) (is_not_before middle other second))
+
+-- two entries of which neither goes before the other have one number
+pub one_number : (one other : ℕ × Process) → goes_before one other ≡ false → goes_before other one ≡ false → one.0 ≡ other.0
+one_number one other first second = grind arith
+
+-- The test of readiness says what the sentence says.
+
+-- what passes the test of waiting for nothing waits for nothing
+waits_nothing : (one : Wait) → waits_for_nothing one ≡ true → one ≡ Wait.Nothing
+waits_nothing Wait.Nothing passes = refl
+waits_nothing _ passes = cc
+
+-- what is not so is false
+is_not : (test : Bool) → not test ≡ true → test ≡ false
+is_not true passes = cc
+is_not false passes = refl
+
+-- a process that passes the test is ready
+pub ready_is : (core : ℕ) (process : Process) → is_ready core process ≡ true → IsReady core process
+ready_is core process passes =
+    let first = and_parts process.alive (not process.suspended && (waits_for_nothing process.wait && nat_eq process.affinity core)) passes in
+    let second = and_parts (not process.suspended) (waits_for_nothing process.wait && nat_eq process.affinity core) first.1 in
+    let third = and_parts (waits_for_nothing process.wait) (nat_eq process.affinity core) second.1 in
+    record {
+      alive = first.0;
+      goes_on = is_not process.suspended second.0;
+      waits = waits_nothing process.wait third.0;
+      affinity = eqb-true process.affinity core third.1;
+    }
+
+-- a ready process passes the test
+pub is_ready_by : (core : ℕ) (process : Process) → IsReady core process → is_ready core process ≡ true
+is_ready_by core process ready =
+    and_from _ _ ready.alive (and_from _ _ (ap not ready.goes_on) (and_from _ _ (ap waits_for_nothing ready.waits) (eq-eqb process.affinity core ready.affinity)))
+
+-- The entries of a table: those that a filter keeps, and the one of a number.
+
+-- what a filter keeps
+
+-- what is kept is in the list
+pub kept_is_there : (test : ℕ × Process → Bool) (entries : Table) (entry : ℕ × Process) → Contains (filter test entries) entry → Contains entries entry
+kept_is_there test entries entry kept =
+    All-contains (Contains entries) (filter test entries) entry (All-filter test (Contains entries) entries (All-contains_itself entries)) kept
+
+-- what is kept passes the test
+pub kept_passes : (test : ℕ × Process → Bool) (entries : Table) (entry : ℕ × Process) → Contains (filter test entries) entry → test entry ≡ true
+kept_passes test entries entry kept = All-contains (λ one. test one ≡ true) (filter test entries) entry (filter_passes test entries) kept
+
+-- each entry of the list that passes is kept, by recursion on the list
+all_kept : (test : ℕ × Process → Bool) (entries : Table) → All (λ entry. test entry ≡ true → Contains (filter test entries) entry) entries
+all_kept test [] = All-nil _
+all_kept test (entry ∷ entries) =
+    All-cons (λ one. test one ≡ true → Contains (filter test (entry ∷ entries)) one) entry entries
+    (λ passes. rw passes (member_first entry (filter test entries)))
+    (All-weaker (λ one. test one ≡ true → Contains (filter test entries) one) (λ one. test one ≡ true → Contains (filter test (entry ∷ entries)) one)
+    (λ one keeps passes. by_test (λ (kept : Table). Contains kept one) (test entry) (entry ∷ filter test entries) (filter test entries)
+    (λ holds. member_later entry one (filter test entries) (keeps passes)) (λ fails. keeps passes))
+    entries (all_kept test entries))
+
+-- an entry of the list that passes is kept
+pub kept : (test : ℕ × Process → Bool) (entries : Table) (entry : ℕ × Process) → Contains entries entry → test entry ≡ true → Contains (filter test entries) entry
+kept test entries entry is_member passes =
+    All-contains (λ one. test one ≡ true → Contains (filter test entries) one) entries entry (all_kept test entries) is_member passes
+
+-- the entry of a number
+
+-- in a table of distinct numbers each entry is found under its number
+pub at_its_number : (table : Table) → are_distinct table ≡ true → All (λ entry. item_at table entry.0 ≡ Some entry.1) table
+at_its_number [] distinct = All-nil _
+at_its_number (entry ∷ entries) distinct =
+    let parts = and_parts (not (is_some (item_at entries entry.0))) (are_distinct entries) distinct in
+    All-cons (λ one. item_at (entry ∷ entries) one.0 ≡ Some one.1) entry entries (rw is_itself refl)
+    (All-weaker (λ one. item_at entries one.0 ≡ Some one.1) (λ one. item_at (entry ∷ entries) one.0 ≡ Some one.1)
+    (λ one at. either_way (nat_eq one.0 entry.0)
+    (λ same. (let number : one.0 ≡ entry.0 = eqb-true one.0 entry.0 same in
+    let here : item_at entries entry.0 ≡ Some one.1 = subst (λ number. item_at entries number ≡ Some one.1) number at in
+    absurd (true≢false (sym parts.0 ∙ ap (λ found. not (is_some found)) here))))
+    (λ other. rw other at))
+    entries (at_its_number entries parts.1))
+
+-- two entries of one number in a table of distinct numbers are one
+pub one_entry : (table : Table) → are_distinct table ≡ true → (one other : ℕ × Process) → Contains table one → Contains table other → one.0 ≡ other.0 → one ≡ other
+one_entry table distinct one other is_member also number =
+    let all = at_its_number table distinct in
+    let first : item_at table one.0 ≡ Some one.1 = All-contains (λ entry. item_at table entry.0 ≡ Some entry.1) table one all is_member in
+    let second : item_at table other.0 ≡ Some other.1 = All-contains (λ entry. item_at table entry.0 ≡ Some entry.1) table other all also in
+    let process = one_item (sym first ∙ ap (item_at table) number ∙ second) in
+    λ i. (number i, process i)
+
+-- The choice is the ready process before which no other goes.
+
+-- the foremost of a list
+
+-- none of these goes before the entry
+abbrev NoneBefore : Table → ℕ × Process → Type 0
+NoneBefore entries found = All (λ other. goes_before other found ≡ false) entries
+
+-- the entry is among these, and none of them goes before it
+record IsForemost (entries : Table) (found : ℕ × Process) : Type 0 where
+  is_member : Contains entries found
+  first : NoneBefore entries found
+
+-- a list without a foremost entry has none
+empty : (Fact : ℕ × Process → Type 0) (entries : Table) → foremost entries ≡ None → All Fact entries
+empty Fact [] none = All-nil _
+empty Fact (entry ∷ entries) none = absurd (some entry (foremost entries) none)
+  where
+    some : (entry : ℕ × Process) (first : Option (ℕ × Process)) → sooner entry first ≡ None → ⊥
+    some entry None none = cc
+    some entry (Some other) none =
+        elim (goes_before other entry) as (λ before. cond before (Some other) (Some entry) ≡ None → ⊥) [ true ↦ λ none. cc | false ↦ λ none. cc ] none
+
+-- the new entry is the foremost
+new_foremost : (entry : ℕ × Process) (entries : Table) (found : ℕ × Process) → Some entry ≡ Some found → NoneBefore entries entry → IsForemost (entry ∷ entries) found
+new_foremost entry entries found is none =
+    let same : entry ≡ found = cc in
+    subst (IsForemost (entry ∷ entries)) same
+    (record { is_member = member_first entry entries; first = All-cons (λ other. goes_before other entry ≡ false) entry entries (not_before_itself entry) none })
+
+-- the foremost of the others stays
+old_foremost : (entry other : ℕ × Process) (entries : Table) (found : ℕ × Process) → Some other ≡ Some found → IsForemost entries other
+    → goes_before other entry ≡ true → IsForemost (entry ∷ entries) found
+old_foremost entry other entries found is old before =
+    let same : other ≡ found = cc in
+    subst (IsForemost (entry ∷ entries)) same (record {
+      is_member = member_later entry other entries old.is_member;
+      first = All-cons (λ one. goes_before one other ≡ false) entry entries (not_both_before other entry before) old.first;
+    })
+
+-- the sooner of an entry and the foremost of the others is the foremost of all
+sooner_of : (entry : ℕ × Process) (entries : Table) (found : ℕ × Process) (first : Option (ℕ × Process))
+    → foremost entries ≡ first → ((other : ℕ × Process) → first ≡ Some other → IsForemost entries other)
+    → sooner entry first ≡ Some found → IsForemost (entry ∷ entries) found
+sooner_of entry entries found None none rest is = new_foremost entry entries found is (empty (λ one. goes_before one entry ≡ false) entries none)
+sooner_of entry entries found (Some other) some rest is =
+    let old = rest other refl in
+    by_test (λ first. first ≡ Some found → IsForemost (entry ∷ entries) found) (goes_before other entry) (Some other) (Some entry)
+    (λ before is. old_foremost entry other entries found is old before)
+    (λ not_before is. new_foremost entry entries found is
+    (All-weaker (λ one. goes_before one other ≡ false) (λ one. goes_before one entry ≡ false)
+    (λ one those_after. not_before-chain one other entry those_after not_before) entries old.first)) is
+
+-- what the fold finds is the foremost
+foremost_is : (entries : Table) (found : ℕ × Process) → foremost entries ≡ Some found → IsForemost entries found
+foremost_is [] found is = cc
+foremost_is (entry ∷ entries) found is =
+    sooner_of entry entries found (foremost entries) refl (λ other some. foremost_is entries other some) is
+
+-- the choice
+
+-- what the fold finds among the ready processes is the choice
+pub foremost_is_chosen : (core : ℕ) (table : Table) (entry : ℕ × Process) → foremost (ready_entries core table) ≡ Some entry → IsChosen core table entry
+foremost_is_chosen core table entry is =
+    let test : ℕ × Process → Bool = λ one. is_ready core one.1 in
+    let found = foremost_is (ready_entries core table) entry is in
+    record {
+      is_member = kept_is_there test table entry found.is_member;
+      ready = ready_is core entry.1 (kept_passes test table entry found.is_member);
+      first = λ other is_member ready before.
+          true≢false (sym (goes_before_by other entry before)
+          ∙ All-contains (λ one. goes_before one entry ≡ false) (ready_entries core table) other found.first
+          (kept test table other is_member (is_ready_by core other.1 ready)));
+    }
+
+-- if it finds none, no process is ready
+nobody_is_ready : (core : ℕ) (table : Table) → foremost (ready_entries core table) ≡ None → (entry : ℕ × Process) → Contains table entry → ¬ IsReady core entry.1
+nobody_is_ready core table none entry is_member ready =
+    All-contains (λ one. ⊥) (ready_entries core table) entry (empty (λ one. ⊥) (ready_entries core table) none) (kept (λ one. is_ready core one.1) table entry is_member (is_ready_by core entry.1 ready))
+
+-- the test fails if the sentence does
+goes_not : (one other : ℕ × Process) → ¬ GoesBefore one other → goes_before one other ≡ false
+goes_not one other not_before = cannot_hold (goes_before one other) (λ passes. not_before (is_before one other passes))
+
+-- the choice is what the fold finds
+chosen_is_foremost : (core : ℕ) (table : Table) → are_distinct table ≡ true → (entry : ℕ × Process) → IsChosen core table entry → foremost (ready_entries core table) ≡ Some entry
+chosen_is_foremost core table distinct entry chosen = by (foremost (ready_entries core table)) refl
+  where
+    by : (first : Option (ℕ × Process)) → foremost (ready_entries core table) ≡ first → first ≡ Some entry
+    by None none = absurd (nobody_is_ready core table none entry chosen.is_member chosen.ready)
+    by (Some other) some =
+        let also = foremost_is_chosen core table other some in
+        let number : other.0 ≡ entry.0 = one_number other entry (goes_not other entry (chosen.first other also.is_member also.ready)) (goes_not entry other (also.first entry chosen.is_member chosen.ready)) in
+        ap Some (one_entry table distinct other entry also.is_member chosen.is_member number)
+
+-- if no process is ready, it finds none
+none_is_foremost : (core : ℕ) (table : Table) → ((entry : ℕ × Process) → Contains table entry → ¬ IsReady core entry.1) → foremost (ready_entries core table) ≡ None
+none_is_foremost core table nobody = by (foremost (ready_entries core table)) refl
+  where
+    by : (first : Option (ℕ × Process)) → foremost (ready_entries core table) ≡ first → first ≡ None
+    by None none = refl
+    by (Some other) some =
+        let chosen = foremost_is_chosen core table other some in
+        absurd (nobody other chosen.is_member chosen.ready)
+
+pub choice_is_the_sentence : ChoiceIsTheSentence
+choice_is_the_sentence core table distinct = (
+  λ entry. (foremost_is_chosen core table entry, chosen_is_foremost core table distinct entry),
+  (nobody_is_ready core table, none_is_foremost core table),
+)
+
+-- The caller of a call: it is in its partition's table and is ready.
+
+-- a process exists and is ready
+pub record FoundReady (core : ℕ) (found : Option Process) : Type 0 where
+  pub process : Process
+  pub is_member : found ≡ Some process
+  pub ready : IsReady core process
+
+-- the choice of a partition is in its table and is ready
+pub choice_exists : (number core : ℕ) (table : Table) (who : Who) → are_distinct table ≡ true → choice_in number core table ≡ Some who
+    → FoundReady core (item_at table who.proc)
+choice_exists number core table who distinct chosen = by (foremost (ready_entries core table)) refl chosen
+  where
+    by : (first : Option (ℕ × Process)) → foremost (ready_entries core table) ≡ first
+        → option_map (λ entry. record { part = number; proc = entry.0 }) first ≡ Some who → FoundReady core (item_at table who.proc)
+    by None none chosen = cc
+    by (Some entry) some chosen =
+        let same : ◌≡◌ {A = Who} (record { part = number; proc = entry.0 }) who = cc in
+        let is = foremost_is_chosen core table entry some in
+        let at : item_at table entry.0 ≡ Some entry.1 = All-contains (λ one. item_at table one.0 ≡ Some one.1) table entry (at_its_number table distinct) is.is_member in
+        record { process = entry.1; is_member = subst (λ number. item_at table number ≡ Some entry.1) (ap (λ one. one.proc) same) at; ready = is.ready }
+
+-- the choice of a core is in its partition's table and is ready
+pub chosen_exists : (window : Option ℕ) (partitions : ℕ → Partition) (core : ℕ) (who : Who) → are_distinct (partitions who.part).table ≡ true
+    → choice_of window partitions core ≡ Some who → FoundReady core (item_at (partitions who.part).table who.proc)
+chosen_exists window partitions core who distinct chosen =
+    choice_exists who.part core (partitions who.part).table who distinct (choice_is window partitions core who chosen).choice
+
+-- so it waits in no set
+pub ready_waits_not : (core : ℕ) (found : Option Process) (wanted : WaitingSet) → FoundReady core found → waits_at wanted found ≡ true → ⊥
+ready_waits_not core found wanted ready waits =
+    let here : waits_at wanted (Some ready.process) ≡ true = subst (λ one. waits_at wanted one ≡ true) ready.is_member waits in
+    let wait : is_in wanted ready.process.wait ≡ true = (and_parts ready.process.alive _ here).1 in
+    true≢false (sym wait ∙ in_no_set wanted ready.process.wait (ap waits_for_nothing ready.ready.waits))

@@ -1,72 +1,53 @@
 -- Which facts the tests of the error conditions decide.
-use Rattle.std.proofs.Common.{◌≡◌, ◌⊎◌, ℕ, zero, suc, ◌+◌, ◌*◌, ◌/◌, ◌%◌, ◌<◌, ◌≤◌, ℤ, pos, negsuc, List, [], ◌∷◌, Option, Some, None, Bool, true, false, not, ◌&&◌, ◌||◌, nat_eq, nat_lt, nat_le, is_none, is_some, refl, sym, ap, subst, ◌∙◌, inl, inr, arith, true≢false, length}
-use Rattle.std.specs.Prelude.{◌≤ℤ◌, ◌<ℤ◌, Contains, T, IsTrue}
-use Rattle.std.specs.List.{list_any}
-use Rattle.std.specs.Str.{bytes_eq}
-use Rattle.std.proofs.lemmas.Bool.{cases_Bool, eqb-true, eq-eqb, leb-true}
-use Rattle.std.proofs.lemmas.List.Elements.{All-cons, All-contains, All-contains_itself, All-weaker, Contains-append_left, Contains-append_right, Contains-push}
-use Rattle.std.proofs.lemmas.Slice.Eq.{bytes_eq-Decides}
+use Rattle.std.proofs.Common.{◌≡◌, ◌⊎◌, ℕ, zero, suc, ◌+◌, ◌*◌, ◌/◌, ◌%◌, ◌<◌, ◌≤◌, ℤ, pos, negsuc, List, [], ◌∷◌, Option, Some, None, Bool, true, false, not, ◌&&◌, ◌||◌, nat_eq, nat_lt, nat_le, is_none, is_some, refl, sym, ap, subst, ◌∙◌, inl, inr, arith, true≢false, length, IsFalse}
 use Rattle.std.proofs.Math.Nat.{mul-mod_left}
+use Rattle.std.proofs.lemmas.Bool.{eqb-true, eq-eqb, leb-true}
+use Rattle.std.proofs.lemmas.List.Elements.{All-cons, All-contains, All-contains_itself, All-weaker}
 use Rattle.std.proofs.lemmas.Nat.{div-add-mod'}
-use Rattle.apex_types.specs.declared.discipline.Discipline.{Discipline}
-use Rattle.apex_types.specs.declared.discipline.Discipline.TheVariants as discipline
-use Rattle.apex_types.specs.declared.limits.TheConstants.{GREATEST_PRIORITY}
-use Rattle.apex_types.specs.declared.object_kind.ObjectKind.{ObjectKind}
+use Rattle.std.proofs.lemmas.Slice.Eq.{bytes_eq-Decides}
+use Rattle.std.specs.List.{list_any}
+use Rattle.std.specs.Prelude.{◌≤ℤ◌, ◌<ℤ◌, Contains, T, IsTrue}
+use Rattle.std.specs.Str.{bytes_eq}
 use Rattle.apex_types.specs.declared.object_kind.ObjectKind.TheVariants as kind
-use Rattle.apex_types.specs.declared.record.Who.{Who}
-use Rattle.apex_machine.specs.declared.state.Direction.{Direction}
-use Rattle.apex_machine.specs.declared.state.Direction.TheVariants as direction
-use Rattle.apex_machine.specs.declared.state.Mode.{Mode}
-use Rattle.apex_machine.specs.declared.state.Mode.TheVariants as mode
-use Rattle.apex_machine.specs.declared.state.Process.{Process}
-use Rattle.apex_machine.specs.declared.state.Wait.{Wait}
-use Rattle.apex_machine.specs.declared.state.Wait.TheVariants as wait
-use Rattle.apex_machine.specs.Arguments.{direction_number, discipline_number, is_between, is_length, is_longer, is_mode, is_negative, is_normal_mode, is_number, is_over, is_period, is_priority, is_time_out, is_warm_start_mode, suits_maximum, suits_period}
-use Rattle.apex_machine.specs.Channels.{QueuingPort, SamplingPort, queuing_port, sampling_port}
-use Rattle.apex_machine.specs.Conditions.{is_cold_start, is_normal, is_taken, may_not_wait, of_caller, owns_mutex}
-use Rattle.apex_machine.specs.Configuration.{Configuration, PartitionLimits, has_core, is_core, limits_of, object_limit}
-use Rattle.apex_machine.specs.DueTimes.{is_suspension}
-use Rattle.apex_machine.specs.ObjectConditions.{owns_another}
-use Rattle.apex_machine.specs.Names.{number_named, number_of}
-use Rattle.apex_machine.specs.Objects.{is_owner}
-use Rattle.apex_machine.specs.PortConditions.{is_queuing_port, is_sampling_port, is_source, suits_refresh}
-use Rattle.apex_machine.specs.ProcessConditions.{is_periodic, is_suspended}
-use Rattle.apex_machine.specs.State.{Blackboard, Buffer, Event, Mutex, Partition, Port, Semaphore, Table, created, given_object, item_at}
-use Rattle.apex_laws.specs.ConditionSentences.{KindIsFull, IsCalledByPeriodic, IsCoreOf, IsDirection, TellsDiscipline, IsFrom, IsMultipleOf, IsObject, IsPeriodic, IsPriority, IsProcess, IsQueuingPort, IsSamplingPort, IsSuspended, MayNotWait, NamesNoProcess, NamesNone, OneIsNamed, OneOfKindIsNamed, Owns}
-use Rattle.apex_laws.proofs.Booleans.{is_itself}
-use Rattle.apex_machine.specs.CreationConditions.{is_full}
+use Rattle.apex_laws.proofs.Common.{Blackboard, Buffer, Configuration, Direction, Discipline, Event, GREATEST_PRIORITY, IsCalledByPeriodic, IsCoreOf, IsDirection, IsFrom, IsMultipleOf, IsObject, IsPeriodic, IsPriority, IsProcess}
+use Rattle.apex_laws.proofs.Common.{IsQueuingPort, IsSamplingPort, IsSuspended, KindIsFull, MayNotWait, Mode, Mutex, NamesNone, NamesNoProcess, ObjectKind, OneIsNamed, OneOfKindIsNamed, Owns, Partition, Process, SamplingPort, Semaphore}
+use Rattle.apex_laws.proofs.Common.{Table, TellsDiscipline, Wait, Who, created, direction_number, discipline_number, given_object, has_core, is_between, is_cold_start, is_core, is_full, is_length, is_longer, is_mode, is_negative, is_normal}
+use Rattle.apex_laws.proofs.Common.{is_normal_mode, is_number, is_over, is_owner, is_period, is_periodic, is_priority, is_queuing_port, is_sampling_port, is_source, is_suspended, is_suspension, is_taken, is_time_out, is_warm_start_mode}
+use Rattle.apex_laws.proofs.Common.{item_at, limits_of, may_not_wait, name_in, number_named, number_of, object_limit, objects_of, of_caller, owns_another, owns_mutex, queuing_port, sampling_port, suits_maximum, suits_period, suits_refresh}
+use Rattle.apex_laws.proofs.Booleans.{either_way, first_holds, impossible, is_itself, later_holds, member_first, member_later, never_found, one_item, other_holds}
 
 -- a test decides a fact: it holds exactly if the fact does
 abbrev pub Tells : Bool → Type 0 → Type 0
 Tells test Fact = (test ≡ true → Fact) × (Fact → test ≡ true)
 
 -- its negation
-pub tells_not : (test : Bool) (Fact : Type 0) → Tells test Fact → Tells (not test) (¬ Fact)
-tells_not true Fact tells = (λ fails. absurd (true≢false (sym fails)), λ none. absurd (none (tells.0 refl)))
-tells_not false Fact tells = (λ fails fact. true≢false (sym (tells.1 fact)), λ none. refl)
+pub tells_not : {test : Bool} {Fact : Type 0} → Tells test Fact → Tells (not test) (¬ Fact)
+tells_not {test = true} tells = (impossible, λ none. absurd (none (tells.0 refl)))
+tells_not {test = false} tells = (λ fails fact. true≢false (sym (tells.1 fact)), λ none. refl)
 
 -- both of two tests
-pub tells_both : (one other : Bool) (First Second : Type 0) → Tells one First → Tells other Second → Tells (one && other) (First × Second)
-tells_both true other First Second first second = (λ holds. (first.0 refl, second.0 holds), λ facts. second.1 facts.1)
-tells_both false other First Second first second = (λ holds. absurd (true≢false (sym holds)), λ facts. first.1 facts.0)
+pub tells_both : {one other : Bool} {First Second : Type 0} → Tells one First → Tells other Second → Tells (one && other) (First × Second)
+tells_both {one = true} first second = (λ holds. (first.0 refl, second.0 holds), λ facts. second.1 facts.1)
+tells_both {one = false} first second = (impossible, λ facts. first.1 facts.0)
 
 -- one of two tests
-pub tells_either : (one other : Bool) (First Second : Type 0) → Tells one First → Tells other Second → Tells (one || other) (First ⊎ Second)
-tells_either true other First Second first second = (λ holds. inl (first.0 refl), λ facts. refl)
-tells_either false other First Second first second = (
-  λ holds. inr (second.0 holds),
-  elim [ inl fact ↦ absurd (true≢false (sym (first.1 fact))) | inr fact ↦ second.1 fact ],
-)
+tells_either : {one other : Bool} {First Second : Type 0} → Tells one First → Tells other Second → Tells (one || other) (First ⊎ Second)
+tells_either {one = true} first second = (λ holds. inl (first.0 refl), λ facts. refl)
+tells_either {one = false} first second = (λ holds. inr (second.0 holds), elim [ inl fact ↦ impossible (first.1 fact) | inr fact ↦ second.1 fact ])
 
--- a test of itself
+-- a test of itself, and its failure
 pub tells_itself : (test : Bool) → Tells test (IsTrue test)
 tells_itself test = (λ holds. holds, λ holds. holds)
+
+pub fails_tells : (test : Bool) → Tells (not test) (IsFalse test)
+fails_tells true = (λ holds. sym holds, λ fails. sym fails)
+fails_tells false = (λ holds. refl, λ fails. refl)
 
 -- numbers
 
 test_holds : (test : Bool) → test ≡ true → T test
 test_holds true holds = tt
-test_holds false holds = absurd (true≢false (sym holds))
+test_holds false holds = impossible holds
 
 holds_test : (test : Bool) → T test → test ≡ true
 holds_test true holds = refl
@@ -98,75 +79,73 @@ not_above : (one other : ℕ) → other ≤ one → ¬ (pos one <ℤ pos other)
 not_above one other most fact = let less : one < other = (below_tells one other).0 ((below one other).1 fact) in omega arith
 
 pub between_tells : (least greatest : ℕ) (given : ℤ) → Tells (is_between least greatest given) (IsFrom (pos least) (pos greatest) given)
-between_tells least greatest (pos n) =
-    tells_both (nat_le least n) (nat_le n greatest) (pos least ≤ℤ pos n) (pos n ≤ℤ pos greatest) (at_most least n) (at_most n greatest)
-between_tells least greatest (negsuc n) = (λ holds. absurd (true≢false (sym holds)), λ fact. absurd fact.0.le)
+between_tells least greatest (pos n) = tells_both (at_most least n) (at_most n greatest)
+between_tells least greatest (negsuc n) = (impossible, λ fact. absurd fact.0.le)
 
 pub priority_tells : (given : ℤ) → Tells (is_priority given) (IsPriority given)
-priority_tells (pos n) = between_tells 1 GREATEST_PRIORITY (pos n)
-priority_tells (negsuc n) = between_tells 1 GREATEST_PRIORITY (negsuc n)
+priority_tells given = between_tells 1 GREATEST_PRIORITY given
 
 -- a mode of 0 to 3
 pub mode_tells : (given : ℤ) → Tells (is_mode given) (IsFrom (pos 0) (pos 3) given)
 mode_tells (pos n) = (λ holds. (not_negative n, (at_most n 3).0 holds), λ fact. (at_most n 3).1 fact.1)
-mode_tells (negsuc n) = (λ holds. absurd (true≢false (sym holds)), λ fact. absurd fact.0.le)
+mode_tells (negsuc n) = (impossible, λ fact. absurd fact.0.le)
 
 pub number_tells : (given : ℤ) (number : ℕ) → Tells (is_number given number) (given ≡ pos number)
 number_tells (pos n) number = (λ holds. ap pos (eqb-true n number holds), λ fact. ap (λ one. is_number one number) fact ∙ is_itself number)
-number_tells (negsuc n) number = (λ holds. absurd (true≢false (sym holds)), λ fact. ap (λ one. is_number one number) fact ∙ is_itself number)
+number_tells (negsuc n) number = (impossible, λ fact. ap (λ one. is_number one number) fact ∙ is_itself number)
 
 pub normal_mode_tells : (given : ℤ) → Tells (is_normal_mode given) (given ≡ pos 3)
 normal_mode_tells (pos n) = (λ holds. ap pos (eqb-true n 3 holds), λ fact. ap is_normal_mode fact)
-normal_mode_tells (negsuc n) = (λ holds. absurd (true≢false (sym holds)), λ fact. ap is_normal_mode fact)
+normal_mode_tells (negsuc n) = (impossible, λ fact. ap is_normal_mode fact)
 
 pub warm_start_mode_tells : (given : ℤ) → Tells (is_warm_start_mode given) (given ≡ pos 2)
 warm_start_mode_tells (pos n) = (λ holds. ap pos (eqb-true n 2 holds), λ fact. ap is_warm_start_mode fact)
-warm_start_mode_tells (negsuc n) = (λ holds. absurd (true≢false (sym holds)), λ fact. ap is_warm_start_mode fact)
+warm_start_mode_tells (negsuc n) = (impossible, λ fact. ap is_warm_start_mode fact)
 
 pub over_tells : (given : ℤ) → Tells (is_over given) (given ≡ pos 0)
 over_tells (pos n) = (λ holds. ap pos (eqb-true n 0 holds), λ fact. ap is_over fact)
-over_tells (negsuc n) = (λ holds. absurd (true≢false (sym holds)), λ fact. ap is_over fact)
+over_tells (negsuc n) = (impossible, λ fact. ap is_over fact)
 
 -- a time-out below -1
 pub no_time_out_tells : (given : ℤ) → Tells (not (is_time_out given)) (given <ℤ negsuc 0)
-no_time_out_tells (pos n) = (λ holds. absurd (true≢false (sym holds)), λ fact. absurd fact.lt)
+no_time_out_tells (pos n) = (impossible, λ fact. absurd fact.lt)
 no_time_out_tells (negsuc n) = (
-  λ holds. let differs = (tells_not (nat_eq n 0) (n ≡ 0) (equal_tells n 0)).0 holds in
+  λ holds. let differs = (tells_not (equal_tells n 0)).0 holds in
       let above : 0 < n = grind (arith, differs) in
       record { lt = test_holds (nat_lt 0 n) ((below_tells 0 n).1 above) },
   λ fact. let above : 0 < n = (below_tells 0 n).0 (holds_test (nat_lt 0 n) fact.lt) in
-      (tells_not (nat_eq n 0) (n ≡ 0) (equal_tells n 0)).1 (λ none. omega arith),
+      (tells_not (equal_tells n 0)).1 (λ none. omega arith),
 )
 
 pub negative_tells : (given : ℤ) → Tells (is_negative given) (given <ℤ pos 0)
-negative_tells (pos n) = (λ holds. absurd (true≢false (sym holds)), λ fact. absurd (not_above n 0 (omega arith) fact))
+negative_tells (pos n) = (impossible, λ fact. absurd (not_above n 0 (omega arith) fact))
 negative_tells (negsuc n) = (λ holds. record { lt = tt }, λ fact. refl)
 
 -- a length below 1
 pub no_length_tells : (given : ℤ) → Tells (not (is_length given)) (given <ℤ pos 1)
 no_length_tells (pos n) = (
-  λ holds. let none = (tells_not (nat_lt 0 n) (0 < n) (below_tells 0 n)).0 holds in
+  λ holds. let none = (tells_not (below_tells 0 n)).0 holds in
       (below n 1).0 ((below_tells n 1).1 (omega (arith, none))),
-  λ fact. (tells_not (nat_lt 0 n) (0 < n) (below_tells 0 n)).1 (λ above. not_above n 1 (omega arith) fact),
+  λ fact. (tells_not (below_tells 0 n)).1 (λ above. not_above n 1 (omega arith) fact),
 )
 no_length_tells (negsuc n) = (λ holds. record { lt = tt }, λ fact. refl)
 
 pub longer_tells : (size : ℕ) (given : ℤ) → Tells (is_longer size given) (pos size <ℤ given)
 longer_tells size (pos n) = below size n
-longer_tells size (negsuc n) = (λ holds. absurd (true≢false (sym holds)), λ fact. absurd fact.lt)
+longer_tells size (negsuc n) = (impossible, λ fact. absurd fact.lt)
 
 -- a period that is neither -1 nor above 0
 pub no_period_tells : (given : ℤ) → Tells (not (is_period given)) ((¬ (given ≡ negsuc 0)) × (given ≤ℤ pos 0))
 no_period_tells (pos n) = (
-  λ holds. let none = (tells_not (nat_lt 0 n) (0 < n) (below_tells 0 n)).0 holds in
+  λ holds. let none = (tells_not (below_tells 0 n)).0 holds in
       (λ same. let one : ◌≡◌ {A = ℤ} (pos n) (negsuc 0) = same in cc, (at_most n 0).0 ((at_most_tells n 0).1 (omega (arith, none)))),
   λ fact. let most : n ≤ 0 = (at_most_tells n 0).0 ((at_most n 0).1 fact.1) in
-      (tells_not (nat_lt 0 n) (0 < n) (below_tells 0 n)).1 (λ above. omega arith),
+      (tells_not (below_tells 0 n)).1 (λ above. omega arith),
 )
 no_period_tells (negsuc n) = (
-  λ holds. let differs = (tells_not (nat_eq n 0) (n ≡ 0) (equal_tells n 0)).0 holds in
+  λ holds. let differs = (tells_not (equal_tells n 0)).0 holds in
       (λ same. let one : ◌≡◌ {A = ℤ} (negsuc n) (negsuc 0) = same in let zero : n ≡ 0 = cc in differs zero, record { le = tt }),
-  λ fact. (tells_not (nat_eq n 0) (n ≡ 0) (equal_tells n 0)).1 (λ none. fact.0 (ap negsuc none)),
+  λ fact. (tells_not (equal_tells n 0)).1 (λ none. fact.0 (ap negsuc none)),
 )
 
 -- a multiple
@@ -181,7 +160,7 @@ multiple_tells period n = (
 
 -- a period above 0 that is no multiple
 no_multiple : (period n : ℕ) → Tells (not (nat_eq (n % period) 0)) (¬ IsMultipleOf period (pos n))
-no_multiple period n = tells_not (nat_eq (n % period) 0) (IsMultipleOf period (pos n)) (multiple_tells period n)
+no_multiple period n = tells_not (multiple_tells period n)
 
 pub no_multiple_tells : (period : ℕ) (given : ℤ) → Tells (not (suits_period period given)) ((pos 0 <ℤ given) × (¬ IsMultipleOf period given))
 no_multiple_tells period (pos n) = (
@@ -192,14 +171,14 @@ no_multiple_tells period (pos n) = (
     above : (n : ℕ) → ¬ IsMultipleOf period (pos n) → pos 0 <ℤ pos n
     above zero none = absurd (none (0, ap pos (let product : 0 * period ≡ 0 = omega arith in sym product)))
     above (suc n) none = above_none n
-no_multiple_tells period (negsuc n) = (λ holds. absurd (true≢false (sym holds)), λ fact. absurd fact.0.lt)
+no_multiple_tells period (negsuc n) = (impossible, λ fact. absurd fact.0.lt)
 
 -- a value of 0 to the maximum
 pub value_tells : (maximum value : ℤ) → Tells (suits_maximum maximum value) (IsFrom (pos 0) maximum value)
 value_tells (pos greatest) (pos n) = (λ holds. (not_negative n, (at_most n greatest).0 holds), λ fact. (at_most n greatest).1 fact.1)
-value_tells (pos greatest) (negsuc n) = (λ holds. absurd (true≢false (sym holds)), λ fact. absurd fact.0.le)
-value_tells (negsuc greatest) (pos n) = (λ holds. absurd (true≢false (sym holds)), λ fact. absurd fact.1.le)
-value_tells (negsuc greatest) (negsuc n) = (λ holds. absurd (true≢false (sym holds)), λ fact. absurd fact.0.le)
+value_tells (pos greatest) (negsuc n) = (impossible, λ fact. absurd fact.0.le)
+value_tells (negsuc greatest) (pos n) = (impossible, λ fact. absurd fact.1.le)
+value_tells (negsuc greatest) (negsuc n) = (impossible, λ fact. absurd fact.0.le)
 
 -- lists
 
@@ -218,37 +197,40 @@ member_nowhere x is_member = let none : is_member.0 < 0 = is_member.1 in omega a
 module _ {X : Type 0} (test : X → Bool) (Fact : X → Type 0) (tells : (x : X) → Tells (test x) (Fact x)) where
   pub any_tells : (walk : List X → Bool) → walk [] ≡ false → ((x : X) (xs : List X) → walk (x ∷ xs) ≡ (test x || walk xs))
       → (xs : List X) → Tells (walk xs) ((x : X) × Contains xs x × Fact x)
-  any_tells walk none more [] = (λ holds. absurd (true≢false (sym holds ∙ none)), λ found. absurd (member_nowhere found.0 found.1))
+  any_tells walk none more [] = (λ holds. impossible (sym none ∙ holds), λ found. absurd (member_nowhere found.0 found.1))
   any_tells walk none more (x ∷ xs) =
       let rest = any_tells walk none more xs in (
-        λ holds. elim (cases_Bool (test x)) [
-          | inl here ↦ (x, Contains-append_left (x ∷ []) xs x (Contains-push [] x), (tells x).0 here)
-          | inr fails ↦
-              let found = rest.0 (elim (test x) as (λ one. one ≡ false → (one || walk xs) ≡ true → walk xs ≡ true) [
-                | true ↦ λ no either. absurd (true≢false no)
-                | false ↦ λ no either. either
-              ] fails (sym (more x xs) ∙ holds)) in
-              (found.0, Contains-append_right (x ∷ []) xs found.0 found.1, found.2)
-        ],
+        λ holds. either_way (test x) (λ here. (x, member_first x xs, (tells x).0 here))
+            (λ fails. let found = rest.0 (other_holds (test x) (walk xs) (sym (more x xs) ∙ holds) fails) in
+            (found.0, member_later x found.0 xs found.1, found.2)),
         λ found. more x xs ∙ elim (member_cases x found.0 xs found.1) [
-          | inl here ↦ ap (λ one. one || walk xs) ((tells x).1 (subst Fact here found.2))
-          | inr there ↦ ap (λ one. test x || one) (rest.1 (found.0, there, found.2)) ∙ or_true (test x)
+          | inl here ↦ first_holds (test x) (walk xs) ((tells x).1 (subst Fact here found.2))
+          | inr there ↦ later_holds (test x) (walk xs) (rest.1 (found.0, there, found.2))
         ],
       )
-    where
-      or_true : (one : Bool) → (one || true) ≡ true
-      or_true true = refl
-      or_true false = refl
+
+-- what is found
+
+pub none_tells : {X : Type 0} (found : Option X) → Tells (is_none found) (found ≡ None)
+none_tells None = (λ holds. refl, λ none. refl)
+none_tells (Some x) = (impossible, λ none. ap is_none none)
+
+some_tells : {X : Type 0} (found : Option X) → Tells (is_some found) ((x : X) × (found ≡ Some x))
+some_tells None = (impossible, λ some. never_found some.1)
+some_tells (Some x) = (λ holds. (x, refl), λ some. refl)
+
+-- a test of what is found, which fails if nothing is
+pub found_tells : {X : Type 0} (test : Option X → Bool) (Fact : X → Type 0) → test None ≡ false → ((x : X) → Tells (test (Some x)) (Fact x))
+    → (found : Option X) → Tells (test found) ((x : X) × (found ≡ Some x) × Fact x)
+found_tells test Fact fails tells None = (λ holds. impossible (sym fails ∙ holds), λ fact. never_found fact.1)
+found_tells test Fact fails tells (Some x) = (λ holds. (x, refl, (tells x).0 holds), λ fact. (tells x).1 (subst Fact (sym (one_item fact.1)) fact.2))
 
 -- processes and objects
 
-pub absent : {X : Type 0} → (x : X) → ◌≡◌ {A = Option X} None (Some x) → ⊥
-absent x same = cc
-
 pub created_is : (partition : Partition) (given : ℤ) (found : Process) → created partition.table given ≡ Some found → IsProcess partition given found
-created_is partition (pos zero) found at = absurd (absent found at)
+created_is partition (pos zero) found at = never_found at
 created_is partition (pos (suc n)) found at = record { number = suc n; is = refl; created = omega arith; is_member = at }
-created_is partition (negsuc n) found at = absurd (absent found at)
+created_is partition (negsuc n) found at = never_found at
 
 at_positive : (table : Table) (number : ℕ) → 0 < number → created table (pos number) ≡ item_at table number
 at_positive table zero above = absurd (let none : 0 < 0 = above in omega arith)
@@ -263,20 +245,20 @@ nobody None none = refl
 nobody (Some x) none = absurd (none x refl)
 
 pub no_process_is : (partition : Partition) (given : ℤ) → created partition.table given ≡ None → NamesNoProcess partition given
-no_process_is partition given none process is = absent process (sym none ∙ created_by partition given process is)
+no_process_is partition given none process is = never_found (sym none ∙ created_by partition given process is)
 
 pub no_process_by : (partition : Partition) (given : ℤ) → NamesNoProcess partition given → created partition.table given ≡ None
 no_process_by partition given none = nobody (created partition.table given) (λ process at. none process (created_is partition given process at))
 
 pub object_is : {Object : Type 0} → (objects : List (ℕ × Object)) (given : ℤ) (found : Object) → given_object objects given ≡ Some found → IsObject objects given found
 object_is objects (pos number) found at = record { number = number; is = refl; is_member = at }
-object_is objects (negsuc n) found at = absurd (absent found at)
+object_is objects (negsuc n) found at = never_found at
 
 pub object_by : {Object : Type 0} → (objects : List (ℕ × Object)) (given : ℤ) (found : Object) → IsObject objects given found → given_object objects given ≡ Some found
 object_by objects given found is = ap (given_object objects) is.is ∙ is.is_member
 
 pub no_object_is : {Object : Type 0} → (objects : List (ℕ × Object)) (given : ℤ) → given_object objects given ≡ None → NamesNone objects given
-no_object_is objects given none object is = absent object (sym none ∙ object_by objects given object is)
+no_object_is objects given none object is = never_found (sym none ∙ object_by objects given object is)
 
 pub no_object_by : {Object : Type 0} → (objects : List (ℕ × Object)) (given : ℤ) → NamesNone objects given → given_object objects given ≡ None
 no_object_by objects given none = nobody (given_object objects given) (λ object at. none object (object_is objects given object at))
@@ -293,31 +275,21 @@ found_where_taken : {Object : Type 0} → (name_of : Object → List ℕ) (name 
     → is_none (number_named name_of name objects) ≡ not (is_taken name_of name objects)
 found_where_taken name_of name [] = refl
 found_where_taken name_of name (entry ∷ entries) =
-    elim (cases_Bool (bytes_eq name (name_of entry.1))) [
-      | inl here ↦ rw here refl
-      | inr other ↦ rw other (found_where_taken name_of name entries)
-    ]
+    either_way (bytes_eq name (name_of entry.1)) (λ here. rw here refl) (λ other. rw other (found_where_taken name_of name entries))
 
 pub nothing_named_tells : {Object : Type 0} → (name_of : Object → List ℕ) (name : List ℕ) (objects : List (ℕ × Object))
     → Tells (is_none (number_named name_of name objects)) (¬ OneIsNamed name name_of objects)
 nothing_named_tells name_of name objects =
-    rw (found_where_taken name_of name objects) (tells_not (is_taken name_of name objects) (OneIsNamed name name_of objects) (named_tells name_of name objects))
+    rw (found_where_taken name_of name objects) (tells_not (named_tells name_of name objects))
 
 pub unnamed_tells : (partition : Partition) (asked : ObjectKind) (name : List ℕ) → Tells (is_none (number_of partition asked name)) (¬ OneOfKindIsNamed partition asked name)
-unnamed_tells partition kind.Buffer name = nothing_named_tells (λ (buffer : Buffer). buffer.name) name partition.buffers
-unnamed_tells partition kind.Blackboard name = nothing_named_tells (λ (blackboard : Blackboard). blackboard.name) name partition.blackboards
-unnamed_tells partition kind.Semaphore name = nothing_named_tells (λ (semaphore : Semaphore). semaphore.name) name partition.semaphores
-unnamed_tells partition kind.Event name = nothing_named_tells (λ (event : Event). event.name) name partition.events
-unnamed_tells partition kind.Mutex name = nothing_named_tells (λ (mutex : Mutex). mutex.name) name partition.mutexes
-unnamed_tells partition kind.SamplingPort name = nothing_named_tells (λ (port : Port). port.name) name partition.sampling_ports
-unnamed_tells partition kind.QueuingPort name = nothing_named_tells (λ (port : Port). port.name) name partition.queuing_ports
+unnamed_tells partition asked name = nothing_named_tells (name_in asked) name (objects_of partition asked)
 
 -- owners
 
 pub owner_tells : (owner : Option ℕ) (number : ℕ) → Tells (is_owner owner number) (owner ≡ Some number)
-owner_tells None number = (λ holds. absurd (true≢false (sym holds)), λ fact. absurd (absent number fact))
-owner_tells (Some owner) number =
-    (λ holds. ap Some (eqb-true owner number holds), λ fact. let same : owner ≡ number = (let one : ◌≡◌ {A = Option ℕ} (Some owner) (Some number) = fact in cc) in eq-eqb owner number same)
+owner_tells None number = (impossible, λ fact. never_found fact)
+owner_tells (Some owner) number = (λ holds. ap Some (eqb-true owner number holds), λ fact. eq-eqb owner number (one_item fact))
 
 pub owns_tells : (partition : Partition) (number : ℕ) → Tells (owns_mutex partition.mutexes number) ((held : ℕ) × Owns partition number held)
 owns_tells partition number =
@@ -328,17 +300,14 @@ owns_tells partition number =
     )
 
 pub may_not_wait_tells : (who : Who) (partition : Partition) → Tells (may_not_wait who partition) (MayNotWait who partition)
-may_not_wait_tells who partition =
-    tells_either (nat_eq who.proc 0) (owns_mutex partition.mutexes who.proc) (who.proc ≡ 0) ((held : ℕ) × Owns partition who.proc held)
-    (equal_tells who.proc 0) (owns_tells partition who.proc)
+may_not_wait_tells who partition = tells_either (equal_tells who.proc 0) (owns_tells partition who.proc)
 
 -- the owner of another mutex
 pub second_tells : (partition : Partition) (mutex : ℤ) (number : ℕ)
     → Tells (owns_another partition.mutexes mutex number) ((held : ℕ) × Owns partition number held × (¬ (mutex ≡ pos held)))
 second_tells partition mutex number =
     let any = any_tells {X = ℕ × Mutex} (λ entry. is_owner entry.1.owner number && not (is_number mutex entry.0)) (λ entry. (entry.1.owner ≡ Some number) × (¬ (mutex ≡ pos entry.0)))
-    (λ entry. tells_both (is_owner entry.1.owner number) (not (is_number mutex entry.0)) (entry.1.owner ≡ Some number) (¬ (mutex ≡ pos entry.0))
-    (owner_tells entry.1.owner number) (tells_not (is_number mutex entry.0) (mutex ≡ pos entry.0) (number_tells mutex entry.0)))
+    (λ entry. tells_both (owner_tells entry.1.owner number) (tells_not (number_tells mutex entry.0)))
     (λ mutexes. owns_another mutexes mutex number) refl (λ entry entries. refl) partition.mutexes in (
       λ holds. let found = any.0 holds in (found.0.0, record { mutex = found.0.1; is_member = found.1; owner = found.2.0 }, found.2.1),
       λ fact. any.1 ((fact.0, fact.1.mutex), fact.1.is_member, (fact.1.owner, fact.2)),
@@ -347,39 +316,29 @@ second_tells partition mutex number =
 -- the state of a process
 
 pub periodic_tells : (process : Process) → Tells (is_periodic process) (IsPeriodic process)
-periodic_tells process = by process.period
-  where
-    by : (found : Option ℕ) → Tells (is_some found) ((period : ℕ) × (found ≡ Some period))
-    by None = (λ holds. absurd (true≢false (sym holds)), λ fact. absurd (absent fact.0 fact.1))
-    by (Some period) = (λ holds. (period, refl), λ fact. refl)
+periodic_tells process = some_tells process.period
 
-suspension_tells : (one : Wait) → Tells (is_suspension one) ((due : Option ℕ) × (one ≡ wait.Suspended due))
-suspension_tells (wait.Suspended due) = (λ holds. (due, refl), λ fact. refl)
-suspension_tells one = (λ holds. absurd (true≢false (sym holds)), λ fact. ap is_suspension fact.1)
+suspension_tells : (one : Wait) → Tells (is_suspension one) ((due : Option ℕ) × (one ≡ Wait.Suspended due))
+suspension_tells (Wait.Suspended due) = (λ holds. (due, refl), λ fact. refl)
+suspension_tells one = (impossible, λ fact. ap is_suspension fact.1)
 
 pub suspended_tells : (process : Process) → Tells (is_suspended process) (IsSuspended process)
-suspended_tells process =
-    tells_either process.suspended (is_suspension process.wait) (IsTrue process.suspended) ((due : Option ℕ) × (process.wait ≡ wait.Suspended due))
-    (tells_itself process.suspended) (suspension_tells process.wait)
+suspended_tells process = tells_either (tells_itself process.suspended) (suspension_tells process.wait)
 
-pub cold_start_tells : (current : Mode) → Tells (is_cold_start current) (current ≡ mode.ColdStart)
-cold_start_tells mode.ColdStart = (λ holds. refl, λ fact. refl)
-cold_start_tells mode.Idle = (λ holds. absurd (true≢false (sym holds)), λ fact. ap is_cold_start fact)
-cold_start_tells _ = (λ holds. absurd (true≢false (sym holds)), λ fact. ap is_cold_start fact)
+pub cold_start_tells : (current : Mode) → Tells (is_cold_start current) (current ≡ Mode.ColdStart)
+cold_start_tells Mode.ColdStart = (λ holds. refl, λ fact. refl)
+cold_start_tells Mode.Idle = (impossible, λ fact. ap is_cold_start fact)
+cold_start_tells _ = (impossible, λ fact. ap is_cold_start fact)
 
-pub normal_tells : (current : Mode) → Tells (is_normal current) (current ≡ mode.Normal)
-normal_tells mode.Normal = (λ holds. refl, λ fact. refl)
-normal_tells mode.Idle = (λ holds. absurd (true≢false (sym holds)), λ fact. ap is_normal fact)
-normal_tells _ = (λ holds. absurd (true≢false (sym holds)), λ fact. ap is_normal fact)
+pub normal_tells : (current : Mode) → Tells (is_normal current) (current ≡ Mode.Normal)
+normal_tells Mode.Normal = (λ holds. refl, λ fact. refl)
+normal_tells Mode.Idle = (impossible, λ fact. ap is_normal fact)
+normal_tells _ = (impossible, λ fact. ap is_normal fact)
 
 -- the caller
 pub caller_tells : (test : Process → Bool) (Fact : Process → Type 0) → ((process : Process) → Tells (test process) (Fact process))
     → (found : Option Process) → Tells (of_caller test found) ((process : Process) × (found ≡ Some process) × Fact process)
-caller_tells test Fact tells None = (λ holds. absurd (true≢false (sym holds)), λ fact. absurd (absent fact.0 fact.1))
-caller_tells test Fact tells (Some process) = (
-  λ holds. (process, refl, (tells process).0 holds),
-  λ fact. let same : fact.0 ≡ process = (let one : ◌≡◌ {A = Option Process} (Some process) (Some fact.0) = fact.1 in cc) in (tells process).1 (subst Fact same fact.2),
-)
+caller_tells test Fact tells found = found_tells (of_caller test) Fact refl tells found
 
 pub periodic_caller_tells : (who : Who) (partition : Partition) → Tells (of_caller is_periodic (item_at partition.table who.proc)) (IsCalledByPeriodic who partition)
 periodic_caller_tells who partition = caller_tells is_periodic IsPeriodic periodic_tells (item_at partition.table who.proc)
@@ -387,95 +346,63 @@ periodic_caller_tells who partition = caller_tells is_periodic IsPeriodic period
 -- what the configuration says
 
 pub core_tells : (configuration : Configuration) (partition : ℕ) (given : ℤ) → Tells (is_core configuration partition given) (IsCoreOf configuration partition given)
-core_tells configuration partition (negsuc n) =
-    (λ holds. absurd (true≢false (sym holds)), λ fact. let one : ◌≡◌ {A = ℤ} (negsuc n) (pos fact.core) = fact.is in cc)
-core_tells configuration partition (pos core) = by (limits_of configuration partition) refl
+core_tells configuration partition (negsuc n) = (impossible, λ fact. let one : ◌≡◌ {A = ℤ} (negsuc n) (pos fact.core) = fact.is in cc)
+core_tells configuration partition (pos core) =
+    let found = found_tells (has_core core) (λ limits. (one : ℕ) × Contains limits.cores one × (one ≡ core)) refl (λ limits. listed limits.cores) (limits_of configuration partition) in (
+      λ holds. let is = found.0 holds in
+          record { core = core; is = refl; limits = is.0; of = is.1; listed = subst (Contains is.0.cores) is.2.2 is.2.1 },
+      λ fact. let number : fact.core ≡ core = (let one : ◌≡◌ {A = ℤ} (pos core) (pos fact.core) = fact.is in cc) in
+          found.1 (fact.limits, fact.of, (fact.core, fact.listed, number)),
+    )
   where
     listed : (cores : List ℕ) → Tells (list_any (nat_eq core) cores) ((one : ℕ) × Contains cores one × (one ≡ core))
     listed cores =
         any_tells (nat_eq core) (λ one. one ≡ core) (λ one. (λ holds. sym (eqb-true core one holds), λ fact. eq-eqb core one (sym fact)))
         (list_any (nat_eq core)) refl (λ one others. refl) cores
 
-    by : (found : Option PartitionLimits) → limits_of configuration partition ≡ found → Tells (has_core core found) (IsCoreOf configuration partition (pos core))
-    by None none = (λ holds. absurd (true≢false (sym holds)), λ fact. absurd (absent fact.limits (sym none ∙ fact.of)))
-    by (Some limits) of = (
-      λ holds. let found = (listed limits.cores).0 holds in
-          record { core = core; is = refl; limits = limits; of = of; listed = subst (Contains limits.cores) found.2 found.1 },
-      λ fact. let same : fact.limits ≡ limits = (let one : ◌≡◌ {A = Option PartitionLimits} (Some limits) (Some fact.limits) = sym of ∙ fact.of in cc) in
-          let number : fact.core ≡ core = (let one : ◌≡◌ {A = ℤ} (pos core) (pos fact.core) = fact.is in cc) in
-          (listed limits.cores).1 (fact.core, subst (λ one. Contains one.cores fact.core) same fact.listed, number),
-    )
-
-pub source_tells : (way : Direction) → Tells (is_source way) (way ≡ direction.Source)
-source_tells direction.Source = (λ holds. refl, λ fact. refl)
-source_tells direction.Destination = (λ holds. absurd (true≢false (sym holds)), λ fact. ap is_source fact)
+pub source_tells : (way : Direction) → Tells (is_source way) (way ≡ Direction.Source)
+source_tells Direction.Source = (λ holds. refl, λ fact. refl)
+source_tells Direction.Destination = (impossible, λ fact. ap is_source fact)
 
 -- a port that is a source is no destination
-pub destination_tells : (way : Direction) → Tells (is_source way) (¬ (way ≡ direction.Destination))
-destination_tells direction.Source = (λ holds same. true≢false (ap is_source same), λ fact. refl)
-destination_tells direction.Destination = (λ holds. absurd (true≢false (sym holds)), λ fact. absurd (fact refl))
+pub destination_tells : (way : Direction) → Tells (is_source way) (¬ (way ≡ Direction.Destination))
+destination_tells Direction.Source = (λ holds same. true≢false (ap is_source same), λ fact. refl)
+destination_tells Direction.Destination = (impossible, λ fact. absurd (fact refl))
 
-refresh_tells : (port : SamplingPort) (refresh : ℤ) → Tells (suits_refresh port refresh) (port.direction ≡ direction.Destination → refresh ≡ pos port.refresh)
+refresh_tells : (port : SamplingPort) (refresh : ℤ) → Tells (suits_refresh port refresh) (port.direction ≡ Direction.Destination → refresh ≡ pos port.refresh)
 refresh_tells port refresh = by port.direction
   where
-    by : (way : Direction) → Tells (is_source way || is_number refresh port.refresh) (way ≡ direction.Destination → refresh ≡ pos port.refresh)
-    by direction.Source = (λ holds same. absurd (true≢false (ap is_source same)), λ fact. refl)
-    by direction.Destination = (λ holds same. (number_tells refresh port.refresh).0 holds, λ fact. (number_tells refresh port.refresh).1 (fact refl))
+    by : (way : Direction) → Tells (is_source way || is_number refresh port.refresh) (way ≡ Direction.Destination → refresh ≡ pos port.refresh)
+    by Direction.Source = (λ holds same. absurd (true≢false (ap is_source same)), λ fact. refl)
+    by Direction.Destination = (λ holds same. (number_tells refresh port.refresh).0 holds, λ fact. (number_tells refresh port.refresh).1 (fact refl))
 
 direction_tells : (way : Direction) (given : ℤ) → Tells (is_number given (direction_number way)) (IsDirection way given)
-direction_tells direction.Source given = number_tells given 0
-direction_tells direction.Destination given = number_tells given 1
+direction_tells Direction.Source given = number_tells given 0
+direction_tells Direction.Destination given = number_tells given 1
 
 discipline_tells : (rule : Discipline) (given : ℤ) → Tells (is_number given (discipline_number rule)) (TellsDiscipline rule given)
-discipline_tells discipline.Fifo given = number_tells given 0
-discipline_tells discipline.Priority given = number_tells given 1
+discipline_tells Discipline.Fifo given = number_tells given 0
+discipline_tells Discipline.Priority given = number_tells given 1
 
 pub sampling_port_tells : (configuration : Configuration) (partition : ℕ) (name : List ℕ) (size way refresh : ℤ)
     → Tells (is_sampling_port (sampling_port configuration partition name) size way refresh) (IsSamplingPort configuration partition name size way refresh)
-sampling_port_tells configuration partition name size way refresh = by (sampling_port configuration partition name) refl
-  where
-    tests : (port : SamplingPort) → Tells (is_sampling_port (Some port) size way refresh)
-        ((size ≡ pos port.size) × ((IsDirection port.direction way) × (port.direction ≡ direction.Destination → refresh ≡ pos port.refresh)))
-    tests port =
-        tells_both (is_number size port.size) (is_number way (direction_number port.direction) && suits_refresh port refresh)
-        (size ≡ pos port.size) ((IsDirection port.direction way) × (port.direction ≡ direction.Destination → refresh ≡ pos port.refresh))
-        (number_tells size port.size)
-        (tells_both (is_number way (direction_number port.direction)) (suits_refresh port refresh)
-        (IsDirection port.direction way) (port.direction ≡ direction.Destination → refresh ≡ pos port.refresh)
-        (direction_tells port.direction way) (refresh_tells port refresh))
-
-    by : (found : Option SamplingPort) → sampling_port configuration partition name ≡ found
-        → Tells (is_sampling_port found size way refresh) (IsSamplingPort configuration partition name size way refresh)
-    by None none = (λ holds. absurd (true≢false (sym holds)), λ fact. absurd (absent fact.port (sym none ∙ fact.configured)))
-    by (Some port) of = (
-      λ holds. let found = (tests port).0 holds in record { port = port; configured = of; has_size = found.0; has_direction = found.1.0; has_refresh = found.1.1 },
-      λ fact. let same : fact.port ≡ port = (let one : ◌≡◌ {A = Option SamplingPort} (Some port) (Some fact.port) = sym of ∙ fact.configured in cc) in
-          subst (λ one. is_sampling_port (Some one) size way refresh ≡ true) same ((tests fact.port).1 (fact.has_size, (fact.has_direction, fact.has_refresh))),
+sampling_port_tells configuration partition name size way refresh =
+    let found = found_tells (λ port. is_sampling_port port size way refresh)
+    (λ port. (size ≡ pos port.size) × ((IsDirection port.direction way) × (port.direction ≡ Direction.Destination → refresh ≡ pos port.refresh))) refl
+    (λ port. tells_both (number_tells size port.size) (tells_both (direction_tells port.direction way) (refresh_tells port refresh))) (sampling_port configuration partition name) in (
+      λ holds. let is = found.0 holds in record { port = is.0; configured = is.1; has_size = is.2.0; has_direction = is.2.1.0; has_refresh = is.2.1.1 },
+      λ fact. found.1 (fact.port, fact.configured, (fact.has_size, (fact.has_direction, fact.has_refresh))),
     )
 
 pub queuing_port_tells : (configuration : Configuration) (partition : ℕ) (name : List ℕ) (size capacity way order : ℤ)
     → Tells (is_queuing_port (queuing_port configuration partition name) size capacity way order) (IsQueuingPort configuration partition name size capacity way order)
-queuing_port_tells configuration partition name size capacity way order = by (queuing_port configuration partition name) refl
-  where
-    Ends : QueuingPort → Type 0
-    Ends port = (IsDirection port.direction way) × (TellsDiscipline port.discipline order)
-
-    tests : (port : QueuingPort) → Tells (is_queuing_port (Some port) size capacity way order) ((size ≡ pos port.size) × ((capacity ≡ pos port.capacity) × Ends port))
-    tests port =
-        tells_both (is_number size port.size) _ (size ≡ pos port.size) ((capacity ≡ pos port.capacity) × Ends port) (number_tells size port.size)
-        (tells_both (is_number capacity port.capacity) _ (capacity ≡ pos port.capacity) (Ends port) (number_tells capacity port.capacity)
-        (tells_both (is_number way (direction_number port.direction)) _ (IsDirection port.direction way) (TellsDiscipline port.discipline order)
-        (direction_tells port.direction way) (discipline_tells port.discipline order)))
-
-    by : (found : Option QueuingPort) → queuing_port configuration partition name ≡ found
-        → Tells (is_queuing_port found size capacity way order) (IsQueuingPort configuration partition name size capacity way order)
-    by None none = (λ holds. absurd (true≢false (sym holds)), λ fact. absurd (absent fact.port (sym none ∙ fact.configured)))
-    by (Some port) of = (
-      λ holds. let found = (tests port).0 holds in
-          record { port = port; configured = of; has_size = found.0; has_capacity = found.1.0; has_direction = found.1.1.0; has_discipline = found.1.1.1 },
-      λ fact. let same : fact.port ≡ port = (let one : ◌≡◌ {A = Option QueuingPort} (Some port) (Some fact.port) = sym of ∙ fact.configured in cc) in
-          subst (λ one. is_queuing_port (Some one) size capacity way order ≡ true) same
-          ((tests fact.port).1 (fact.has_size, (fact.has_capacity, (fact.has_direction, fact.has_discipline)))),
+queuing_port_tells configuration partition name size capacity way order =
+    let found = found_tells (λ port. is_queuing_port port size capacity way order)
+    (λ port. (size ≡ pos port.size) × ((capacity ≡ pos port.capacity) × ((IsDirection port.direction way) × (TellsDiscipline port.discipline order)))) refl
+    (λ port. tells_both (number_tells size port.size) (tells_both (number_tells capacity port.capacity)
+    (tells_both (direction_tells port.direction way) (discipline_tells port.discipline order)))) (queuing_port configuration partition name) in (
+      λ holds. let is = found.0 holds in record { port = is.0; configured = is.1; has_size = is.2.0; has_capacity = is.2.1.0; has_direction = is.2.1.1.0; has_discipline = is.2.1.1.1 },
+      λ fact. found.1 (fact.port, fact.configured, (fact.has_size, (fact.has_capacity, (fact.has_direction, fact.has_discipline)))),
     )
 
 -- as many of a kind as a partition may create
@@ -485,4 +412,4 @@ full_tells configuration number partition kind.Blackboard = at_most_tells (objec
 full_tells configuration number partition kind.Semaphore = at_most_tells (object_limit configuration (λ limits. limits.semaphores) number) (length partition.semaphores)
 full_tells configuration number partition kind.Event = at_most_tells (object_limit configuration (λ limits. limits.events) number) (length partition.events)
 full_tells configuration number partition kind.Mutex = at_most_tells (object_limit configuration (λ limits. limits.mutexes) number) (length partition.mutexes)
-full_tells configuration number partition _ = (λ full. absurd (true≢false (sym full)), λ full. absurd full)
+full_tells configuration number partition _ = (impossible, λ full. absurd full)

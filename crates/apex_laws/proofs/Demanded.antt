@@ -1,43 +1,254 @@
--- Where a record is lawful, in a tied state, each piece that it touches finds all its demands met.
-use Rattle.std.proofs.Common.{◌≡◌, ℕ, List, [], ◌∷◌, Bool, true, false, nat_eq, Option, Some, None, ◌||◌, IsTrue, sym, ap, subst, refl, ◌∙◌, true≢false}
+-- A record is lawful exactly where each piece that it touches finds all its demands met.
+use Rattle.std.proofs.Common.{◌≡◌, ℕ, List, [], ◌∷◌, length, Bool, true, false, nat_lt, ℤ, Option, Some, None, IsTrue, sym, subst, refl, ◌∙◌, true≢false, ap, nat_eq, ◌||◌}
 use Rattle.std.proofs.lemmas.Bool.{eqb-true, eq-eqb}
 use Rattle.apex_types.specs.declared.object_kind.ObjectKind.TheVariants as kind
-use Rattle.apex_types.specs.declared.record.Body.{Body}
-use Rattle.apex_types.specs.declared.record.Body.TheVariants.{Call, Ret, Disp, Tick}
-use Rattle.apex_types.specs.declared.record.Call.{Call as CallRecord}
-use Rattle.apex_types.specs.declared.record.Claim.{Claim}
-use Rattle.apex_types.specs.declared.record.Ordered.{Ordered}
-use Rattle.apex_types.specs.declared.record.Return.{Return}
-use Rattle.apex_types.specs.declared.record.Who.{Who}
-use Rattle.apex_types.specs.declared.operation.{QueuingOperation.QueuingOperation, SamplingOperation.SamplingOperation}
-use Rattle.apex_types.specs.declared.request.Request.{Request}
-use Rattle.apex_types.specs.declared.request.Request.TheVariants as request
-use Rattle.apex_types.specs.declared.shape.End.TheVariants.{Senders, Receivers}
-use Rattle.apex_machine.specs.declared.condition.Condition.{Condition}
-use Rattle.apex_machine.specs.declared.state.Entry.{Entry}
-use Rattle.apex_machine.specs.declared.state.WaitingSet.{WaitingSet}
-use Rattle.apex_machine.specs.After.{is_channel}
-use Rattle.apex_machine.specs.Channels.{EndsAreApart, is_receiver, is_sender}
-use Rattle.apex_machine.specs.Configuration.{Configuration, has_partition}
-use Rattle.apex_machine.specs.Demands.{AllHold, AllWaitAt, InWindowOf, IsRunning, ReturnsValues, WakesHere, call_demands, channel_demands, demands, module_demands, outcome_demands, own_call_demands, partition_demands, has_entry_in, used_demands, window_now}
-use Rattle.apex_machine.specs.Pieces.{Module, OfChannel, OfPartition, Piece, is_configured, part, touched_by, touches}
-use Rattle.apex_machine.specs.Ports.{Ask, Read, Receive, Send, Write, channel_of, suits_use, use_of}
-use Rattle.apex_machine.specs.ServiceConditions.{conditions_of}
-use Rattle.apex_machine.specs.Services.{answer_of}
-use Rattle.apex_machine.specs.State.{Partition, State, is_named, names_one_of, occupant_of, item_at, time_of, channel_set}
-use Rattle.apex_machine.specs.Step.{HasOutcome, IsLawful, IsLawfulBody, IsLawfulCall, IsLawfulReturn, IsThrough, channel_answer, due_of, outcome_returned}
-use Rattle.apex_machine.specs.Waiting.{waits_at}
-use Rattle.apex_laws.specs.Laws.{AllEntries, AreTied, IsTied}
-use Rattle.apex_laws.proofs.Booleans.{cannot_hold, first_holds, later_holds, neither}
-use Rattle.apex_laws.proofs.Callers.{chosen_exists, ready_waits_not}
-use Rattle.apex_laws.proofs.Choices.{IsChoice, choice_is, idle_choice, not_idle, own_choice}
-use Rattle.apex_laws.proofs.Ends.{WaitsAtEnd, port_is_at_end}
-use Rattle.apex_laws.proofs.Outcomes.{channel_can, if_due, outcome_holds, through_claimed}
-use Rattle.apex_laws.proofs.Parts.{same_time}
+use Rattle.apex_laws.proofs.Common.{AllEntries, AllHold, AllWaitAt, Answer, AreTied, Ask, Body, Call, CallRecord, CanHave, Channel, ChannelConfigured, Claim, Code, Condition, Configuration, Content, Disp, Effect, EndsAreApart, Entry}
+use Rattle.apex_laws.proofs.Common.{HasOutcome, HasValues, IfDue, InNoWindow, InWindowOf, IsLawful, IsLawfulBody, IsLawfulCall, IsLawfulReturn, IsRunning, IsThrough, IsTied, Messages, Module, NamesExactly, OfChannel, OfPartition, Ordered}
+use Rattle.apex_laws.proofs.Common.{Out, Outcome, Partition, Piece, Queued, QueuingOperation, Read, Receive, Receivers, Request, Ret, Return, ReturnsValues, Sampled, SamplingOperation, Send, Senders, Stamped, State, Tick, WaitingSet}
+use Rattle.apex_laws.proofs.Common.{WakesHere, Who, WindowsAreConfigured, Write, answer_of, answering, appended, call_demands, capacity_of, channel_answer, channel_demands, channel_effect, channel_of, channel_set, choice_in, choice_of}
+use Rattle.apex_laws.proofs.Common.{conditions_of, demands, due_of, first_waiter, has_channel, has_entry_in, has_partition, is_channel, is_configured, is_named, is_over, is_receiver, is_sender, item_at, module_demands, names_one_of, not_yet}
+use Rattle.apex_laws.proofs.Common.{occupant_of, outcome_demands, outcome_returned, own_call_demands, part, partition_demands, reading_of, received, receiving_discipline, refresh_of, sending_discipline, sent, suits_use, time_of, touched_by}
+use Rattle.apex_laws.proofs.Common.{touches, unmet, use_of, used, used_demands, waiting, waits_at, window_now}
+use Rattle.apex_laws.proofs.Booleans.{by_test, cannot_hold, first_holds, impossible, is_itself, later_holds, neither, never_found, one_item}
+use Rattle.apex_laws.proofs.Choices.{choice_from, choice_is, chosen_exists, idle_choice, IsChoice, joined_choice, not_idle, own_choice, ready_waits_not}
+use Rattle.apex_laws.proofs.Ends.{port_is_at_end, WaitsAtEnd}
+use Rattle.apex_laws.proofs.Tables.{same_time}
 use Rattle.apex_laws.proofs.Waiters.{all_weaker, member_not}
-use Rattle.apex_laws.proofs.Wakes.{use_wakes}
 use Rattle.apex_laws.proofs.WaitersOf.{same_itself, some_named}
-use Rattle.apex_laws.proofs.Woken.{found, woken}
+use Rattle.apex_laws.proofs.Wakes.{ClaimsOutcome, found, use_wakes, woken}
+
+-- The outcome that a call claims and the outcome that a return gives back, as a whole and demand by demand.
+
+-- calls
+
+-- what a channel says of a call through it
+pub record ChannelSays (suited : Bool) (answer : Answer) (claim : Claim) : Type 0 where
+  pub kind : IsTrue suited
+  pub out : claim.out ≡ answer.out
+  pub values : HasValues answer.val answer.val2 answer.val3 claim
+  pub bytes : claim.bytes ≡ answer.bytes
+  pub woken : NamesExactly answer.woken claim.woken
+
+-- the demands of the caller's partition and those of the channel that is claimed are the outcome that a lawful call has
+pub has_outcome : (conditions : List Condition) (channel : Option ℕ) (number : ℕ) (asked : Request) (answer : Answer) (suited : ℕ → Bool) (through : ℕ → Answer) (claim : Claim)
+    → AllHold (outcome_demands conditions channel number asked answer claim)
+    → ((channel : ℕ) → claim.chan ≡ Some channel → ChannelSays (suited channel) (through channel) claim)
+    → HasOutcome conditions channel answer suited through claim
+has_outcome [] None number asked answer suited through claim hold says =
+    record { chan = hold.0; out = hold.1.0; values = hold.1.1.0; bytes = hold.1.1.1.0; woken = hold.1.1.1.1.0 }
+has_outcome [] (Some channel) number asked answer suited through claim hold says =
+    let of_channel = says channel hold.0 in
+    record { chan = hold.0; kind = of_channel.kind; out = of_channel.out; values = of_channel.values; bytes = of_channel.bytes; woken = of_channel.woken }
+has_outcome (condition ∷ conditions) channel number asked answer suited through claim hold says =
+    record { chan = hold.0; out = hold.1.0; values = hold.1.1.0; bytes = hold.1.1.1.0; woken = hold.1.1.1.1.0 }
+
+-- the outcome that a lawful call has meets the demands of the caller's partition
+pub outcome_holds : (conditions : List Condition) (channel : Option ℕ) (number : ℕ) (asked : Request) (answer : Answer) (suited : ℕ → Bool) (through : ℕ → Answer) (claim : Claim)
+    → ((channel : ℕ) → IsTrue (suited channel) → CanHave asked (through channel).out)
+    → ((other : ℕ) → channel ≡ Some other → IsThrough other (suited other) (through other) claim → names_one_of number claim.woken ≡ false)
+    → HasOutcome conditions channel answer suited through claim
+    → AllHold (outcome_demands conditions channel number asked answer claim)
+outcome_holds [] None number asked answer suited through claim can apart has = (has.chan, (has.out, (has.values, (has.bytes, (has.woken, tt)))))
+outcome_holds [] (Some channel) number asked answer suited through claim can apart has =
+    (has.chan, (subst (CanHave asked) (sym has.out) (can channel has.kind), (apart channel refl has, tt)))
+outcome_holds (condition ∷ conditions) channel number asked answer suited through claim can apart has =
+    (has.chan, (has.out, (has.values, (has.bytes, (has.woken, tt)))))
+
+-- a lawful call that claims a channel is answered by that channel
+pub through_claimed : (conditions : List Condition) (channel : Option ℕ) (answer : Answer) (suited : ℕ → Bool) (through : ℕ → Answer) (claim : Claim) (claimed : ℕ)
+    → claim.chan ≡ Some claimed → HasOutcome conditions channel answer suited through claim → IsThrough claimed (suited claimed) (through claimed) claim
+through_claimed [] None answer suited through claim claimed is has = never_found (sym has.chan ∙ is)
+through_claimed (condition ∷ conditions) channel answer suited through claim claimed is has = never_found (sym has.chan ∙ is)
+through_claimed [] (Some channel) answer suited through claim claimed is has =
+    subst (λ one. IsThrough one (suited one) (through one) claim) (one_item (sym has.chan ∙ is)) has
+
+-- what a channel can give, as a partition sees it
+
+unmet_can : (Fact : Out → Type 0) (time_out : ℤ) → Fact (answering Code.NotAvailable).out → (is_over time_out ≡ false → Fact waiting.out) → Fact (unmet time_out).out
+unmet_can Fact time_out at_once waits =
+    by_test (λ (answer : Answer). Fact answer.out) (is_over time_out) (answering Code.NotAvailable) waiting (λ over. at_once) (λ later. waits later)
+
+sent_can : (Fact : Out → Type 0) (capacity : ℕ) (message : List ℕ) (time_out : ℤ) (first : Option Entry) (messages : Messages) → ((one : Out) → one ≡ (answering Code.NoError).out → Fact one)
+    → Fact (answering Code.NotAvailable).out → (is_over time_out ≡ false → Fact waiting.out) → Fact (sent capacity message time_out first messages).answer.out
+sent_can Fact capacity message time_out (Some entry) messages done at_once waits = done _ refl
+sent_can Fact capacity message time_out None messages done at_once waits =
+    by_test (λ (effect : Effect Messages). Fact effect.answer.out) (nat_lt (length messages) capacity) (appended message messages) (not_yet time_out messages)
+    (λ room. done _ refl) (λ full. unmet_can Fact time_out at_once waits)
+
+received_can : (Fact : Out → Type 0) (time_out : ℤ) (first : Option Entry) (messages : Messages) → ((one : Out) → one ≡ (answering Code.NoError).out → Fact one)
+    → Fact (answering Code.NotAvailable).out → (is_over time_out ≡ false → Fact waiting.out) → Fact (received time_out first messages).answer.out
+received_can Fact time_out first [] done at_once waits = unmet_can Fact time_out at_once waits
+received_can Fact time_out None (message ∷ others) done at_once waits = done _ refl
+received_can Fact time_out (Some entry) (message ∷ others) done at_once waits = done _ refl
+
+done_can : (asked : Request) (one : Out) → one ≡ (answering Code.NoError).out → CanHave asked one
+done_can asked one is = subst (CanHave asked) (sym is) tt
+
+-- an outcome that a channel of the right kind gives is one that the partition lets pass
+pub channel_can : (configuration : Configuration) (now number partition : ℕ) (asked : Request) (channel : Channel) → IsTrue (suits_use configuration number partition (use_of asked) channel)
+    → CanHave asked (channel_effect configuration now number partition (use_of asked) channel).answer.out
+channel_can configuration now number partition (Request.SamplingPort port (SamplingOperation.Write length message)) channel suited = by channel.content
+  where
+    by : (content : Content) → CanHave (Request.SamplingPort port (SamplingOperation.Write length message)) (used configuration now number partition (Write message) channel content).answer.out
+    by (Sampled last) = tt
+    by (Queued messages) = tt
+channel_can configuration now number partition (Request.SamplingPort port SamplingOperation.Read) channel suited = by channel.content
+  where
+    read : (last : Option Stamped) → CanHave (Request.SamplingPort port SamplingOperation.Read) (reading_of now (refresh_of configuration number) last).out
+    read None = tt
+    read (Some last) = tt
+
+    by : (content : Content) → CanHave (Request.SamplingPort port SamplingOperation.Read) (used configuration now number partition Read channel content).answer.out
+    by (Sampled last) = read last
+    by (Queued messages) = tt
+channel_can configuration now number partition (Request.QueuingPort port (QueuingOperation.Send length time_out message)) channel suited = by channel.content
+  where
+    by : (content : Content) → CanHave (Request.QueuingPort port (QueuingOperation.Send length time_out message)) (used configuration now number partition (Send message time_out) channel content).answer.out
+    by (Queued messages) =
+        sent_can (CanHave (Request.QueuingPort port (QueuingOperation.Send length time_out message))) (capacity_of configuration number) message time_out
+        (first_waiter (receiving_discipline configuration number) channel.receivers) messages
+        (done_can (Request.QueuingPort port (QueuingOperation.Send length time_out message))) tt (λ later. later)
+    by (Sampled last) = tt
+channel_can configuration now number partition (Request.QueuingPort port (QueuingOperation.Receive time_out)) channel suited = by channel.content
+  where
+    by : (content : Content) → CanHave (Request.QueuingPort port (QueuingOperation.Receive time_out)) (used configuration now number partition (Receive time_out) channel content).answer.out
+    by (Queued messages) =
+        received_can (CanHave (Request.QueuingPort port (QueuingOperation.Receive time_out))) time_out
+        (first_waiter (sending_discipline configuration number) channel.senders) messages
+        (done_can (Request.QueuingPort port (QueuingOperation.Receive time_out))) tt (λ later. later)
+    by (Sampled last) = tt
+channel_can configuration now number partition (Request.GetStatus kind.QueuingPort port) channel suited = by channel.content
+  where
+    by : (content : Content) → CanHave (Request.GetStatus kind.QueuingPort port) (used configuration now number partition Ask channel content).answer.out
+    by (Queued messages) = tt
+    by (Sampled last) = tt
+channel_can configuration now number partition _ channel suited = impossible suited
+
+-- returns
+
+-- an outcome is due that has all that the return gives back: it is the outcome that the return gives back
+pub returned_is_due : (due : Option Outcome) (ret : Return) → IfDue due (λ outcome. outcome.service ≡ ret.service)
+    → IfDue due (λ outcome. outcome.code ≡ ret.code) → IfDue due (λ outcome. ReturnsValues outcome ret)
+    → IfDue due (λ outcome. outcome.bytes ≡ ret.bytes) → due ≡ Some (outcome_returned ret)
+returned_is_due None ret service code values bytes = absurd service
+returned_is_due (Some outcome) ret service code values bytes =
+    λ i. Some (record { service = service i; code = code i; val = values.val i; val2 = values.val2 i; val3 = values.val3 i; bytes = bytes i })
+
+-- a fact about the outcome that is due
+pub if_due : (due : Option Outcome) (outcome : Outcome) (fact : Outcome → Type 0) → due ≡ Some outcome → fact outcome → IfDue due fact
+if_due due outcome fact is holds = subst (λ one. IfDue one fact) (sym is) holds
+
+-- Where each piece that a record touches finds all its demands met, the record is lawful.
+
+-- each configured partition that the record touches finds its demands met
+abbrev PartitionsAgree : Configuration → State → ℕ → Body → Type 0
+PartitionsAgree configuration state core body =
+    (number : ℕ) → IsTrue (has_partition configuration number) → IsTrue (touched_by configuration body (OfPartition number))
+    → AllHold (partition_demands configuration number state.cores (state.partitions number) core body)
+
+-- each configured channel that the record touches finds its demands met
+abbrev ChannelsAgree : Configuration → State → ℕ → Body → Type 0
+ChannelsAgree configuration state core body =
+    (number : ℕ) → IsTrue (has_channel configuration number) → IsTrue (touched_by configuration body (OfChannel number))
+    → AllHold (channel_demands configuration (time_of state.cores core) number (state.channels number) body)
+
+-- the choice, if the partition of the window has it and the window is of a configured partition
+choice_of_all : (configuration : Configuration) (state : State) (core : ℕ) (who : Option Who) → WindowsAreConfigured configuration
+    → InNoWindow (window_now configuration state.cores core) (who ≡ None)
+    → ((number : ℕ) → IsTrue (has_partition configuration number)
+    → InWindowOf number (window_now configuration state.cores core) (choice_in number core (state.partitions number).table ≡ who))
+    → choice_of (window_now configuration state.cores core) state.partitions core ≡ who
+choice_of_all configuration state core who windows idle own =
+    joined_choice (window_now configuration state.cores core) state.partitions core who idle (λ number is. own number (windows core _ number is))
+
+-- what a channel says of a call through it
+says : (configuration : Configuration) (state : State) (core : ℕ) (call : CallRecord) (channel : ℕ) → call.claim.chan ≡ Some channel
+    → AllHold (used_demands (is_channel channel call.claim.chan) configuration (time_of state.cores core) channel (state.channels channel) call)
+    → ChannelSays (suits_use configuration channel call.who.part (use_of call.request) (state.channels channel)) (channel_answer configuration (time_of state.cores core) call.who.part call.request state.channels channel) call.claim
+says configuration state core call channel is hold =
+    let goes : is_channel channel call.claim.chan ≡ true = rw is (is_itself channel) in
+    let of_channel = subst (λ one. AllHold (used_demands one configuration (time_of state.cores core) channel (state.channels channel) call)) goes hold in
+    record { kind = of_channel.1.0; out = of_channel.1.1.0; values = of_channel.1.1.1.0; bytes = of_channel.1.1.1.1.0; woken = of_channel.1.1.1.1.1.0 }
+
+-- a channel that a call claims is configured and touched
+claimed_configured : (configuration : Configuration) (chan : Option ℕ) (channel : ℕ) → chan ≡ Some channel → ChannelConfigured configuration chan → IsTrue (has_channel configuration channel)
+claimed_configured configuration None channel is names = never_found is
+claimed_configured configuration (Some other) channel is names = subst (λ one. IsTrue (has_channel configuration one)) (one_item is) names
+
+-- a call that the module, the caller's partition and the channel agree to
+lawful_call : (configuration : Configuration) (state : State) (core : ℕ) (call : CallRecord)
+    → AllHold (module_demands configuration state.cores core (Call call))
+    → AllHold (own_call_demands configuration call.who.part state.cores (state.partitions call.who.part) core call)
+    → ((channel : ℕ) → call.claim.chan ≡ Some channel
+    → ChannelSays (suits_use configuration channel call.who.part (use_of call.request) (state.channels channel)) (channel_answer configuration (time_of state.cores core) call.who.part call.request state.channels channel) call.claim)
+    → IsLawfulCall configuration state core call
+lawful_call configuration state core call of_module own of_channel = record {
+  names = of_module.0;
+  occupant = own.1.0.0;
+  choice = choice_from (window_now configuration state.cores core) state.partitions core call.who own.0 own.1.0.1;
+  due = own.1.1.0;
+  profile = own.1.1.1.0;
+  prio = own.1.1.1.1.0;
+  outcome = has_outcome (conditions_of configuration call.who (state.partitions call.who.part) call.request)
+      (channel_of (state.partitions call.who.part) call.request) call.who.part call.request
+      (answer_of (time_of state.cores core) call.who (state.partitions call.who.part) call.request) _ _ call.claim own.1.1.1.1.1 of_channel;
+}
+
+-- a return that the module and the returner's partition agree to
+lawful_return : (configuration : Configuration) (state : State) (core : ℕ) (ret : Return)
+    → AllHold (module_demands configuration state.cores core (Ret ret))
+    → AllHold (partition_demands configuration ret.who.part state.cores (state.partitions ret.who.part) core (Ret ret))
+    → IsLawfulReturn configuration state core ret
+lawful_return configuration state core ret of_module own = record {
+  names = of_module.0;
+  occupant = own.1.0.0;
+  choice = choice_from (window_now configuration state.cores core) state.partitions core ret.who own.0 own.1.0.1;
+  due = returned_is_due (due_of (item_at (state.partitions ret.who.part).table ret.who.proc)) ret own.1.1.0 own.1.1.1.0 own.1.1.1.1.0 own.1.1.1.1.1.0;
+}
+
+-- any record
+lawful_body : (configuration : Configuration) (state : State) (core : ℕ) (body : Body) → WindowsAreConfigured configuration
+    → AllHold (module_demands configuration state.cores core body) → PartitionsAgree configuration state core body
+    → ChannelsAgree configuration state core body → IsLawfulBody configuration state core body
+lawful_body configuration state core (Disp who) windows of_module agree channels = record {
+  names = of_module.0;
+  choice = choice_of_all configuration state core who windows of_module.1.0 (λ number is. (agree number is refl).0);
+}
+lawful_body configuration state core (Tick woken) windows of_module agree channels = record {
+  names = of_module.0;
+  skew = of_module.1.0;
+  choice = choice_of_all configuration state core (occupant_of state.cores core) windows of_module.1.1.0 (λ number is. (agree number is refl).0);
+  due = λ number is. (agree number is refl).1.0;
+}
+lawful_body configuration state core (Ret ret) windows of_module agree channels =
+    lawful_return configuration state core ret of_module (agree ret.who.part of_module.0 (is_itself ret.who.part))
+lawful_body configuration state core (Call call) windows of_module agree channels =
+    let own = agree call.who.part of_module.0.0 (first_holds _ _ (is_itself call.who.part)) in
+    lawful_call configuration state core call of_module
+    (subst (λ one. AllHold (call_demands one configuration call.who.part state.cores (state.partitions call.who.part) core call)) (is_itself call.who.part) own)
+    (λ channel is. says configuration state core call channel is
+    (channels channel (claimed_configured configuration call.claim.chan channel is of_module.0.2)
+    (first_holds _ _ (ap (is_channel channel) is ∙ is_itself channel))))
+
+-- a channel's demands, at the times that it holds
+at_same_time : (configuration : Configuration) (state : State) (ordered : Ordered) (number : ℕ)
+    → AllHold (demands configuration (part (OfChannel number) state) ordered)
+    → AllHold (channel_demands configuration (time_of state.cores ordered.core) number (state.channels number) ordered.rec.body)
+at_same_time configuration state ordered number hold =
+    subst (λ now. AllHold (channel_demands configuration now number (state.channels number) ordered.rec.body)) (same_time state.cores ordered.core) hold
+
+-- a record at the next place that all pieces agree to is lawful
+pub lawful : (configuration : Configuration) (state : State) (ordered : Ordered) → WindowsAreConfigured configuration → ordered.pos ≡ state.count
+    → ((piece : Piece) → IsTrue (is_configured configuration piece) → IsTrue (touches configuration piece ordered) → AllHold (demands configuration (part piece state) ordered))
+    → IsLawful configuration state ordered
+lawful configuration state ordered windows placed hold = record {
+  placed = placed;
+  claims = lawful_body configuration state ordered.core ordered.rec.body windows (hold Module refl refl)
+      (λ number is touched. hold (OfPartition number) is touched)
+      (λ number is touched. at_same_time configuration state ordered number (hold (OfChannel number) is touched));
+}
+
+-- Where a record is lawful, in a tied state, each piece that it touches finds all its demands met.
 
 -- the module
 
@@ -59,36 +270,36 @@ module_demanded configuration state core (Ret ret) law =
 
 -- who is woken through a channel: a send those who wait to receive, a receive those who wait to send
 abbrev pub WaitsAcross : Request → (ℕ → Partition) → Configuration → ℕ → Who → Type 0
-WaitsAcross (request.QueuingPort port (QueuingOperation.Send length time_out message)) partitions configuration channel who =
+WaitsAcross (Request.QueuingPort port (QueuingOperation.Send length time_out message)) partitions configuration channel who =
     IsTrue (is_receiver configuration channel who.part) × IsTrue (waits_at (channel_set channel Receivers) (found partitions who))
-WaitsAcross (request.QueuingPort port (QueuingOperation.Receive time_out)) partitions configuration channel who =
+WaitsAcross (Request.QueuingPort port (QueuingOperation.Receive time_out)) partitions configuration channel who =
     IsTrue (is_sender configuration channel who.part) × IsTrue (waits_at (channel_set channel Senders) (found partitions who))
 WaitsAcross _ partitions configuration channel who = ⊥
 
 pub across : (configuration : Configuration) (state : State) (now channel partition : ℕ) (asked : Request) → AreTied configuration state → IsTrue (suits_use configuration channel partition (use_of asked) (state.channels channel))
     → (who : Who) → is_named who (channel_answer configuration now partition asked state.channels channel).woken ≡ true → WaitsAcross asked state.partitions configuration channel who
-across configuration state now channel partition (request.QueuingPort port (QueuingOperation.Send length time_out message)) tied suited who named =
-    use_wakes (WaitsAcross (request.QueuingPort port (QueuingOperation.Send length time_out message)) state.partitions configuration channel) configuration now channel partition (Send message time_out)
+across configuration state now channel partition (Request.QueuingPort port (QueuingOperation.Send length time_out message)) tied suited who named =
+    use_wakes (WaitsAcross (Request.QueuingPort port (QueuingOperation.Send length time_out message)) state.partitions configuration channel) configuration now channel partition (Send message time_out)
     (state.channels channel) (state.channels channel).content
     (all_weaker (IsTied (λ home. IsTrue (is_receiver configuration channel home)) (channel_set channel Receivers) state.partitions) _ (λ entry tied. tied) (state.channels channel).receivers (tied.receivers channel)) who named
-across configuration state now channel partition (request.QueuingPort port (QueuingOperation.Receive time_out)) tied suited who named =
-    use_wakes (WaitsAcross (request.QueuingPort port (QueuingOperation.Receive time_out)) state.partitions configuration channel) configuration now channel partition (Receive time_out)
+across configuration state now channel partition (Request.QueuingPort port (QueuingOperation.Receive time_out)) tied suited who named =
+    use_wakes (WaitsAcross (Request.QueuingPort port (QueuingOperation.Receive time_out)) state.partitions configuration channel) configuration now channel partition (Receive time_out)
     (state.channels channel) (state.channels channel).content
     (all_weaker (IsTied (λ home. IsTrue (is_sender configuration channel home)) (channel_set channel Senders) state.partitions) _ (λ entry tied. tied) (state.channels channel).senders (tied.senders channel)) who named
-across configuration state now channel partition (request.SamplingPort port (SamplingOperation.Write length message)) tied suited who named =
+across configuration state now channel partition (Request.SamplingPort port (SamplingOperation.Write length message)) tied suited who named =
     use_wakes (λ one. ⊥) configuration now channel partition (Write message) (state.channels channel) (state.channels channel).content tt who named
-across configuration state now channel partition (request.SamplingPort port SamplingOperation.Read) tied suited who named =
+across configuration state now channel partition (Request.SamplingPort port SamplingOperation.Read) tied suited who named =
     use_wakes (λ one. ⊥) configuration now channel partition Read (state.channels channel) (state.channels channel).content tt who named
-across configuration state now channel partition (request.GetStatus kind.QueuingPort port) tied suited who named =
+across configuration state now channel partition (Request.GetStatus kind.QueuingPort port) tied suited who named =
     use_wakes (λ one. ⊥) configuration now channel partition Ask (state.channels channel) (state.channels channel).content tt who named
-across configuration state now channel partition _ tied suited who named = absurd (true≢false (sym suited))
+across configuration state now channel partition _ tied suited who named = impossible suited
 
 -- the two ends of a channel are of two partitions
 other_end : (configuration : Configuration) (partitions : ℕ → Partition) (channel number : ℕ) (asked : Request) (who : Who) → EndsAreApart configuration
     → WaitsAtEnd asked configuration channel number → WaitsAcross asked partitions configuration channel who → who.part ≡ number → ⊥
-other_end configuration partitions channel number (request.QueuingPort port (QueuingOperation.Send length time_out message)) who ends is_member waits same =
+other_end configuration partitions channel number (Request.QueuingPort port (QueuingOperation.Send length time_out message)) who ends is_member waits same =
     ends channel number is_member (subst (λ part. IsTrue (is_receiver configuration channel part)) same waits.0)
-other_end configuration partitions channel number (request.QueuingPort port (QueuingOperation.Receive time_out)) who ends is_member waits same =
+other_end configuration partitions channel number (Request.QueuingPort port (QueuingOperation.Receive time_out)) who ends is_member waits same =
     ends channel number (subst (λ part. IsTrue (is_sender configuration channel part)) same waits.0) is_member
 other_end configuration partitions channel number _ who ends is_member waits same = waits
 
@@ -110,9 +321,7 @@ wakes_no_peer configuration state now who asked claim channel ends tied none of 
 peers : (configuration : Configuration) (state : State) (core : ℕ) (call : CallRecord) → EndsAreApart configuration → AreTied configuration state
     → (conditions : List Condition) → conditions_of configuration call.who (state.partitions call.who.part) call.request ≡ conditions
     → (channel : Option ℕ) → channel_of (state.partitions call.who.part) call.request ≡ channel
-    → HasOutcome conditions channel (answer_of (time_of state.cores core) call.who (state.partitions call.who.part) call.request)
-    (λ number. suits_use configuration number call.who.part (use_of call.request) (state.channels number))
-    (channel_answer configuration (time_of state.cores core) call.who.part call.request state.channels) call.claim
+    → ClaimsOutcome configuration state (time_of state.cores core) call.who call.request call.claim conditions channel
     → AllHold (outcome_demands conditions channel call.who.part call.request
     (answer_of (time_of state.cores core) call.who (state.partitions call.who.part) call.request) call.claim)
 peers configuration state core call ends tied (condition ∷ conditions) is channel of has =
@@ -162,17 +371,16 @@ all_wait partitions number wanted (who ∷ others) wait = (
 wakes_here : (partitions : ℕ → Partition) (configuration : Configuration) (asked : Request) (channel number : ℕ) (others : List Who) → names_one_of number others ≡ true
     → ((who : Who) → is_named who others ≡ true → WaitsAcross asked partitions configuration channel who)
     → WakesHere asked (Some channel) number (partitions number).table others
-wakes_here partitions configuration (request.QueuingPort port (QueuingOperation.Send length time_out message)) channel number others names wait =
+wakes_here partitions configuration (Request.QueuingPort port (QueuingOperation.Send length time_out message)) channel number others names wait =
     all_wait partitions number (channel_set channel Receivers) others (λ who named. (wait who named).1)
-wakes_here partitions configuration (request.QueuingPort port (QueuingOperation.Receive time_out)) channel number others names wait =
+wakes_here partitions configuration (Request.QueuingPort port (QueuingOperation.Receive time_out)) channel number others names wait =
     all_wait partitions number (channel_set channel Senders) others (λ who named. (wait who named).1)
 wakes_here partitions configuration _ channel number others names wait = let one = some_named number others names in absurd (wait one.0 one.1)
 
 -- a lawful call of another partition that names one of these processes goes through the channel at which it waits
 foreign_wakes : (configuration : Configuration) (state : State) (now : ℕ) (call : CallRecord) (number : ℕ) → AreTied configuration state
     → nat_eq call.who.part number ≡ false → names_one_of number call.claim.woken ≡ true → (conditions : List Condition) (channel : Option ℕ)
-    → HasOutcome conditions channel (answer_of now call.who (state.partitions call.who.part) call.request)
-    (λ number. suits_use configuration number call.who.part (use_of call.request) (state.channels number)) (channel_answer configuration now call.who.part call.request state.channels) call.claim
+    → ClaimsOutcome configuration state now call.who call.request call.claim conditions channel
     → WakesHere call.request call.claim.chan number (state.partitions number).table call.claim.woken
 foreign_wakes configuration state now call number tied foreign names (condition ∷ conditions) channel has =
     absurd (true≢false (sym names ∙ ap (names_one_of number) has.woken))
@@ -190,8 +398,7 @@ foreign_window : (window : Option ℕ) (partitions : ℕ → Partition) (core : 
     → nat_eq who.part number ≡ false → InWindowOf number window Demanded
 foreign_window None partitions core who number Demanded chosen foreign = tt
 foreign_window (Some partition) partitions core who number Demanded chosen foreign =
-    λ same. (let of : ◌≡◌ {A = Option ℕ} (Some partition) (Some who.part) = chosen.of in
-    let own : partition ≡ who.part = cc in
+    λ same. (let own = one_item chosen.of in
     absurd (true≢false (sym (eq-eqb who.part number (sym own ∙ same)) ∙ foreign)))
 
 -- each partition that a call touches
@@ -264,7 +471,7 @@ caller_in_no_set configuration state core call tied law Home wanted entries all 
 
 -- the channel of a test that holds
 pub goes_to : (number : ℕ) (chan : Option ℕ) → is_channel number chan ≡ true → chan ≡ Some number
-goes_to number None goes = absurd (true≢false (sym goes))
+goes_to number None goes = impossible goes
 goes_to number (Some channel) goes = ap Some (eqb-true channel number goes)
 
 -- the channel that a call claims, and another
@@ -273,10 +480,7 @@ used_demanded : (configuration : Configuration) (state : State) (core : ℕ) (ca
     → AllHold (used_demands goes configuration (time_of state.cores core) number (state.channels number) call)
 used_demanded configuration state core call tied law number false is = tt
 used_demanded configuration state core call tied law number true is =
-    let through = through_claimed (conditions_of configuration call.who (state.partitions call.who.part) call.request)
-    (channel_of (state.partitions call.who.part) call.request) (answer_of (time_of state.cores core) call.who (state.partitions call.who.part) call.request)
-    (λ number. suits_use configuration number call.who.part (use_of call.request) (state.channels number))
-    (channel_answer configuration (time_of state.cores core) call.who.part call.request state.channels) call.claim number (goes_to number call.claim.chan is) law.outcome in (
+    let through = through_claimed _ _ _ _ _ call.claim number (goes_to number call.claim.chan is) law.outcome in (
       neither (has_entry_in call.who (state.channels number).senders) (has_entry_in call.who (state.channels number).receivers)
           (caller_in_no_set configuration state core call tied law (λ home. IsTrue (is_sender configuration number home)) (channel_set number Senders) (state.channels number).senders (tied.senders number))
           (caller_in_no_set configuration state core call tied law (λ home. IsTrue (is_receiver configuration number home)) (channel_set number Receivers) (state.channels number).receivers (tied.receivers number)),

@@ -1,73 +1,211 @@
--- Every process that waits in a set has an entry in it.
-use Rattle.std.proofs.Common.{◌≡◌, ℕ, List, [], ◌∷◌, ◌++◌, Bool, true, false, cond, nat_eq, ℤ, pos, negsuc, Option, Some, None, is_some, option_map, refl, sym, ap, subst, ◌∙◌, inl, inr, true≢false}
-use Rattle.std.proofs.lemmas.Bool.{and_parts, cases_Bool, eq-eqb, eqb-true}
-use Rattle.apex_types.specs.declared.record.Body.{Body}
-use Rattle.apex_types.specs.declared.record.Body.TheVariants.{Call, Ret, Disp, Tick}
-use Rattle.apex_types.specs.declared.record.Call.{Call as CallRecord}
-use Rattle.apex_types.specs.declared.record.Ordered.{Ordered}
-use Rattle.apex_types.specs.declared.record.Out.{Out}
-use Rattle.apex_types.specs.declared.record.Out.TheVariants as out
-use Rattle.apex_types.specs.declared.record.Who.{Who}
-use Rattle.apex_types.specs.declared.operation.{BlackboardOperation.BlackboardOperation, BufferOperation.BufferOperation, EventOperation.EventOperation, MutexOperation.MutexOperation, SemaphoreOperation.SemaphoreOperation}
-use Rattle.apex_types.specs.declared.request.Request.{Request}
-use Rattle.apex_types.specs.declared.shape.End.TheVariants.{Senders, Receivers}
-use Rattle.apex_machine.specs.declared.state.CoreState.{CoreState}
-use Rattle.apex_machine.specs.declared.state.Entry.{Entry}
-use Rattle.apex_machine.specs.declared.state.Mode.{Mode}
-use Rattle.apex_machine.specs.declared.state.Mode.TheVariants as mode
-use Rattle.apex_machine.specs.declared.state.WaitingSet.{WaitingSet}
-use Rattle.apex_machine.specs.After.{after, each_set, is_done, objects_by, partition_by, returned, ticked}
-use Rattle.apex_machine.specs.Arguments.{natural_of}
-use Rattle.apex_machine.specs.Configuration.{Configuration, first_core}
-use Rattle.apex_machine.specs.Demands.{has_entry_in}
-use Rattle.apex_machine.specs.Objects.{blackboard_effect, buffer_effect, event_effect, mutex_effect, semaphore_effect}
-use Rattle.apex_machine.specs.ServiceConditions.{conditions_of}
-use Rattle.apex_machine.specs.State.{Buffer, Partition, State, change_at, cold_state, each_item, given_object, is_named, is_same, item_at, channel_set, is_of_channel, entries_at_end, objects_of}
-use Rattle.apex_machine.specs.Step.{IsLawfulBody, Run, Step}
-use Rattle.apex_machine.specs.Waiting.{ends_wait, enters, entry_of, is_the_set, is_waiting, set_after, set_of, waits_at, without}
-use Rattle.apex_laws.specs.WaitLaws.{WaitsIn}
-use Rattle.apex_laws.specs.Laws.{AreTied, WaitersHaveEntries, WhoWaitsHasEntry, entries_at, entries_in, entries_of, entries_at_channel}
-use Rattle.apex_laws.proofs.Booleans.{first_holds, is_itself, later_holds, other_holds}
-use Rattle.apex_laws.proofs.Keeps.{CallsReady, IsReadyCall, calls_ready, leaves}
+-- Exactly the processes that wait in a set have an entry in it.
+use Rattle.std.proofs.Common.{◌≡◌, ◌⊎◌, ℕ, List, [], ◌++◌, Bool, true, false, cond, nat_eq, ℤ, pos, negsuc, Option, Some, None, option_map, refl, sym, ap, subst, ◌∙◌, inl, inr, true≢false, ◌&&◌, ◌∷◌, is_some}
+use Rattle.std.proofs.lemmas.Bool.{and_from, and_parts, eqb-true, eq-eqb}
+use Rattle.apex_laws.proofs.Common.{AreTied, Body, Buffer, Call, CallRecord, Configuration, CoreState, Disp, End, Entry, IsLawfulBody, Mode, Ordered, Out, Partition, Process, Receivers, Request, Ret, Senders, State, Step, Table, Tick, Wait}
+use Rattle.apex_laws.proofs.Common.{WaitersHaveEntries, WaitingSet, WaitsIn, Who, WhoWaitsHasEntry, adjusted, after, called, caller_after, caller_with, change_at, channel_set, cold_state, conditions_of, created_by, each_item, each_set}
+use Rattle.apex_laws.proofs.Common.{ends_wait, enters, entries_at, entries_at_channel, entries_at_end, entries_in, entries_of, entry_of, entry_wait, first_core, given_object, has_entry_in, is_done, is_in, is_named, is_no_error, is_normal}
+use Rattle.apex_laws.proofs.Common.{is_of_channel, is_same, is_target, is_the_set, is_waiting, item_at, message_of, natural_of, new_process, numbered, object_conditions, objects_by, objects_of, partition_by, period_of, released, restart_of}
+use Rattle.apex_laws.proofs.Common.{returned, set_after, set_by, set_of, stop_of, stopped, stops, ticked, time_of, wait_of, waits_at, without, woken_by, woken_if_named}
+use Rattle.apex_laws.proofs.Booleans.{by_test, differs_back, either_way, first_holds, impossible, is_itself, later_holds, never_found, not_first, not_second, other_holds}
+use Rattle.apex_laws.proofs.Choices.{ready_waits_not}
+use Rattle.apex_laws.proofs.Ends.{first_empty}
+use Rattle.apex_laws.proofs.Keeps.{begun_in, called_sets, calls_ready, CallsReady, found_changed, IsReadyCall, leaves, same_sets, set_case, used_sets}
 use Rattle.apex_laws.proofs.ObjectCalls.{message_there, mutex_there, object_there}
 use Rattle.apex_laws.proofs.Objects.{each_set_holds, is_created_at, none_there}
+use Rattle.apex_laws.proofs.Restarts.{call_case, goes_on, not_restarted, restarts_none, restarts_other, return_case, start_waits_not, waiting_goes_on, woken_if_named_table}
+use Rattle.apex_laws.proofs.SetNames.{channel_set_is, has_end}
+use Rattle.apex_laws.proofs.Stays.{run_keeps}
 use Rattle.apex_laws.proofs.Tables.{at_each}
-use Rattle.apex_laws.proofs.Ends.{first_empty}
-use Rattle.apex_laws.proofs.Restarts.{call_case, not_restarted, return_case, start_waits_not, waiting_goes_on, woken_if_named_table}
-use Rattle.apex_laws.proofs.WaitersAfter.{Entering, who_waits}
-use Rattle.apex_laws.proofs.SetsAfter.{called_sets, same_sets, used_sets}
-use Rattle.apex_laws.proofs.Stays.{step_tied}
-use Rattle.apex_laws.proofs.Waits.{entering_is_the_sentence}
-use Rattle.apex_laws.proofs.WaitersOf.{same_is, same_itself}
-use Rattle.apex_laws.proofs.Woken.{found}
-use Rattle.apex_laws.proofs.SetNames.{has_end, channel_set_is}
-use Rattle.apex_types.specs.declared.shape.End.{End}
+use Rattle.apex_laws.proofs.WaitersOf.{same_is, same_itself, same_who}
+use Rattle.apex_laws.proofs.Wakes.{entering_is_the_sentence, found}
+use Rattle.apex_laws.proofs.WholeCalls.{found_after}
+
+-- Who waits in a set after a record: who waited there and whose wait the record doesn't end, or the caller that enters.
+
+-- what a call sets in a process makes it wait in no set
+
+-- who waits in a set afterwards waited in it before
+abbrev WaitedBefore : WaitingSet → Process → Process → Type 0
+WaitedBefore wanted x y = waits_at wanted (Some y) ≡ true → waits_at wanted (Some x) ≡ true
+
+entry_not : (wanted : WaitingSet) (period now : ℕ) (own : Option ℕ) → is_in wanted (entry_wait period now own) ≡ true → ⊥
+entry_not wanted period now None is = true≢false (sym is)
+entry_not wanted period now (Some own) is = true≢false (sym is)
+
+start_not : (wanted : WaitingSet) (normal : Bool) (period now : ℕ) (own : Option ℕ) → is_in wanted (cond normal (entry_wait period now own) Wait.NormalMode) ≡ true → ⊥
+start_not wanted true period now own is = entry_not wanted period now own is
+start_not wanted false period now own is = true≢false (sym is)
+
+set_back : (place period : ℕ) (cores : List CoreState) (partition : Partition) (caller : ℕ) (asked : Request) (number : ℕ) (x : Process) (wanted : WaitingSet)
+    → WaitedBefore wanted x (set_by place period cores partition caller asked number x)
+set_back place period cores partition caller asked number x wanted =
+    set_case (WaitedBefore wanted x) place period cores partition caller asked number x (λ affinity current retained position suspended waits. waits)
+    (λ now waits. absurd (start_not wanted (is_normal partition.mode) period now x.period waits))
+    (λ now waits. absurd (entry_not wanted period now x.period (and_parts x.alive (is_in wanted (entry_wait period now x.period)) waits).1))
+
+adjusted_back : (place period : ℕ) (cores : List CoreState) (partition : Partition) (call : CallRecord) (number : ℕ) (x : Process) (wanted : WaitingSet)
+    → WaitedBefore wanted x (adjusted place period cores partition call number x)
+adjusted_back place period cores partition call number x wanted =
+    by_test (WaitedBefore wanted x) (is_done call.claim.out) (set_by place period cores partition call.who.proc call.request number x) x
+    (λ done. set_back place period cores partition call.who.proc call.request number x wanted) (λ not_done waits. waits)
+
+-- a wait that ended
+
+ended_not : (alive : Bool) → (alive && false) ≡ true → ⊥
+ended_not alive waits = true≢false (sym (and_parts alive false waits).1)
+
+still_waits : (wanted : WaitingSet) (named : Bool) (ended x : Process) → (waits_at wanted (Some ended) ≡ true → ⊥) → waits_at wanted (Some (cond named ended x)) ≡ true
+    → (named ≡ false) × (waits_at wanted (Some x) ≡ true)
+still_waits wanted true ended x not waits = absurd (not waits)
+still_waits wanted false ended x not waits = (refl, waits)
+
+-- a process that a call may have woken, and still waits
+woken_if_named_back : (place : ℕ) (call : CallRecord) (who : Who) (x : Process) (wanted : WaitingSet) → waits_at wanted (Some (woken_if_named place call who x)) ≡ true
+    → (is_named who call.claim.woken ≡ false) × (waits_at wanted (Some x) ≡ true)
+woken_if_named_back place call who x wanted waits =
+    still_waits wanted (is_named who call.claim.woken) (woken_by place (message_of call.request) x) x (ended_not x.alive) waits
+
+-- a process that a tick may have woken, and still waits
+ticked_back : (place part : ℕ) (woken : List Who) (number : ℕ) (x : Process) (wanted : WaitingSet) → waits_at wanted (Some (ticked place part woken number x)) ≡ true
+    → (is_named (record { part = part; proc = number }) woken ≡ false) × (waits_at wanted (Some x) ≡ true)
+ticked_back place part woken number x wanted waits = still_waits wanted (is_named (record { part = part; proc = number }) woken) (released place x) x (ended_not x.alive) waits
+
+-- the caller
+
+caller_back : (place now : ℕ) (call : CallRecord) (x : Process) (wanted : WaitingSet) (given : Out) → (waits_at wanted (Some x) ≡ true → ⊥)
+    → waits_at wanted (Some (record (caller_with place now call given x) { called_at = now })) ≡ true → (is_waiting given ≡ true) × (is_the_set wanted (set_of call.request call.claim.chan) ≡ true)
+caller_back place now call x wanted Out.Waits not waits =
+    (refl, sym (begun_in wanted call.request call.claim.chan now x) ∙ (and_parts x.alive (is_in wanted (wait_of call.request call.claim.chan now x)) waits).1)
+caller_back place now call x wanted Out.Never not waits = impossible waits
+caller_back place now call x wanted (Out.Answer code) not waits = absurd (not waits)
+
+-- a process of the caller's partition
+called_back : (place now period : ℕ) (cores : List CoreState) (partition : Partition) (call : CallRecord) (number : ℕ) (x : Process) (wanted : WaitingSet) → restart_of call ≡ None
+    → waits_at wanted (Some (called place now period cores partition call number x)) ≡ true
+    → ((nat_eq number call.who.proc ≡ true) × (waits_at wanted (Some (caller_after place now call (adjusted place period cores partition call number x))) ≡ true))
+    ⊎ ((ends_wait call (record { part = call.who.part; proc = number }) ≡ false) × (waits_at wanted (Some x) ≡ true))
+called_back place now period cores partition call number x wanted none waits =
+    let changed = adjusted place period cores partition call number x in
+    let who : Who = record { part = call.who.part; proc = number } in
+    let Fact : Type 0 = ((nat_eq number call.who.proc ≡ true) × (waits_at wanted (Some (caller_after place now call changed)) ≡ true))
+    ⊎ ((ends_wait call who ≡ false) × (waits_at wanted (Some x) ≡ true)) in
+    by_test (λ y. waits_at wanted (Some y) ≡ true → Fact) (nat_eq number call.who.proc) (caller_after place now call changed) (cond (stops call who) (stopped changed) (woken_if_named place call who changed))
+    (λ own waits. inl (own, waits))
+    (λ other. by_test (λ y. waits_at wanted (Some y) ≡ true → Fact) (stops call who) (stopped changed) (woken_if_named place call who changed) (λ passed waits. impossible waits)
+    (λ stays waits. (let back = woken_if_named_back place call who changed wanted waits in
+    inr (goes_on call who (restarts_none call call.who.part none) back.0 stays, adjusted_back place period cores partition call number x wanted back.1)))) waits
+
+-- a created process doesn't wait
+numbered_not : (claimed : Option ℤ) (core : ℕ) (name : List ℕ) (priority period : ℤ) (number : ℕ) (wanted : WaitingSet) → waits_at wanted (item_at (numbered claimed (new_process core name priority period)) number) ≡ true → ⊥
+numbered_not None core name priority period number wanted waits = true≢false (sym waits)
+numbered_not (Some (negsuc n)) core name priority period number wanted waits = true≢false (sym waits)
+numbered_not (Some (pos n)) core name priority period number wanted waits =
+    by_test (λ found. waits_at wanted found ≡ true → ⊥) (nat_eq number n) (Some (new_process core name priority period)) None
+    (λ here waits. true≢false (sym waits)) (λ elsewhere waits. true≢false (sym waits)) waits
+
+created_not : (core : ℕ) (call : CallRecord) (asked : Request) (number : ℕ) (wanted : WaitingSet) → waits_at wanted (item_at (created_by core call asked) number) ≡ true → ⊥
+created_not core call (Request.CreateProcess name priority period) number wanted waits =
+    by_test (λ more. waits_at wanted (item_at more number) ≡ true → ⊥) (is_done call.claim.out) (numbered call.claim.val (new_process core name priority period)) []
+    (λ done waits. numbered_not call.claim.val core name priority period number wanted waits) (λ not_done waits. true≢false (sym waits)) waits
+created_not core call _ number wanted waits = true≢false (sym waits)
+
+-- the tables
+
+-- a process of a changed table is one that was in the table
+each_back : (Fact : Type 0) (change : ℕ → Process → Process) (table : Table) (number : ℕ) (wanted : WaitingSet)
+    → ((x : Process) → item_at table number ≡ Some x → waits_at wanted (Some (change number x)) ≡ true → Fact)
+    → waits_at wanted (item_at (each_item change table) number) ≡ true → Fact
+each_back Fact change table number wanted fact waits =
+    by (item_at table number) refl (subst (λ one. waits_at wanted one ≡ true) (at_each change table number) waits)
+  where
+    by : (one : Option Process) → item_at table number ≡ one → waits_at wanted (option_map (change number) one) ≡ true → Fact
+    by None at waits = impossible waits
+    by (Some x) at waits = fact x at waits
+
+-- and one of a longer table too, if none that was added waits
+longer_back : (Fact : Type 0) (change : ℕ → Process → Process) (table more : Table) (number : ℕ) (wanted : WaitingSet)
+    → ((x : Process) → item_at table number ≡ Some x → waits_at wanted (Some (change number x)) ≡ true → Fact) → (waits_at wanted (item_at more number) ≡ true → ⊥)
+    → waits_at wanted (item_at (each_item change table ++ more) number) ≡ true → Fact
+longer_back Fact change table more number wanted fact added waits = by (item_at table number) refl
+  where
+    by : (one : Option Process) → item_at table number ≡ one → Fact
+    by None at = absurd (added (subst (λ one. waits_at wanted one ≡ true)
+        (found_after (each_item change table) more number (at_each change table number ∙ ap (option_map (change number)) at)) waits))
+    by (Some x) at = fact x at (subst (λ one. waits_at wanted one ≡ true) (found_changed change table more number x at) waits)
+
+-- a call stops no process of another partition
+pub not_stopped : (call : CallRecord) (who : Who) → nat_eq call.who.part who.part ≡ false → stops call who ≡ false
+not_stopped call who elsewhere =
+    not_second (is_no_error call.claim.out) (nat_eq who.part call.who.part && is_target (stop_of call.request) who.proc)
+    (not_first (nat_eq who.part call.who.part) (is_target (stop_of call.request) who.proc) (differs_back call.who.part who.part elsewhere))
+
+-- a caller that enters a set
+abbrev pub Entering : Body → Who → WaitingSet → Type 0
+Entering (Call call) who wanted = (who ≡ call.who) × (enters call wanted ≡ true)
+Entering _ who wanted = ⊥
+
+-- who waits in a set after a record waited there and goes on, or enters, if the record's own calls are of ready callers
+pub who_waits : (configuration : Configuration) (cores : List CoreState) (place core : ℕ) (body : Body) (partition : Partition) (who : Who) (wanted : WaitingSet)
+    → CallsReady configuration core who.part body partition
+    → waits_at wanted (item_at (partition_by configuration cores place core who.part body partition).table who.proc) ≡ true
+    → ((leaves body who ≡ false) × (waits_at wanted (item_at partition.table who.proc) ≡ true)) ⊎ Entering body who wanted
+who_waits configuration cores place core (Disp one) partition who wanted ready waits = inl (refl, waits)
+who_waits configuration cores place core (Tick woken) partition who wanted ready waits =
+    each_back _ (ticked place who.part woken) partition.table who.proc wanted
+    (λ x at waits. (let back = ticked_back place who.part woken who.proc x wanted waits in inl (back.0, subst (λ one. waits_at wanted one ≡ true) (sym at) back.1))) waits
+who_waits configuration cores place core (Ret ret) partition who wanted ready waits =
+    let Fact : Type 0 = ((false ≡ false) × (waits_at wanted (item_at partition.table who.proc) ≡ true)) ⊎ ⊥ in
+    return_case (λ next. waits_at wanted (item_at next.table who.proc) ≡ true → Fact) configuration cores place core who.part ret partition
+    (λ waits. each_back Fact (returned ret.who.proc) partition.table who.proc wanted
+    (λ x at waits. inl (refl, subst (λ one. waits_at wanted one ≡ true) (sym at) (by_test (WaitedBefore wanted x) (nat_eq who.proc ret.who.proc) (record x { due = None }) x (λ own waits. waits) (λ other waits. waits) waits))) waits)
+    (λ waits. inl (refl, waits)) waits
+who_waits configuration cores place core (Call call) partition who wanted ready waits =
+    let Fact : Type 0 = ((ends_wait call who ≡ false) × (waits_at wanted (item_at partition.table who.proc) ≡ true)) ⊎ ((who ≡ call.who) × (enters call wanted ≡ true)) in
+    let table = partition.table in
+    let now = time_of cores core in
+    let period = period_of configuration call.who.part in
+    let added = created_by (first_core configuration call.who.part) call call.request in
+    call_case (λ next. waits_at wanted (item_at next.table who.proc) ≡ true → Fact) configuration cores place core who.part call partition
+    (λ own none in_table.
+    (let here : call.who.part ≡ who.part = eqb-true call.who.part who.part own in
+    let same : record { part = call.who.part; proc = who.proc } ≡ who = same_who (record { part = call.who.part; proc = who.proc }) who here refl in
+    longer_back Fact (called place now period cores partition call) table added who.proc wanted
+    (λ x at waits. elim (called_back place now period cores partition call who.proc x wanted none waits) [
+      | inl caller ↦
+          let number : who.proc ≡ call.who.proc = eqb-true who.proc call.who.proc caller.0 in
+          let begun = caller_back place now call (adjusted place period cores partition call who.proc x) wanted call.claim.out
+          (λ waits. ready_waits_not core (item_at table call.who.proc) wanted (ready own).ready
+          (subst (λ one. waits_at wanted one ≡ true) (sym at ∙ ap (item_at table) number) (adjusted_back place period cores partition call who.proc x wanted waits))) caller.1 in
+          inr (same_who who call.who (sym here) number, and_from _ _ begun.0 begun.1)
+      | inr other ↦ inl (subst (λ one. ends_wait call one ≡ false) same other.0, subst (λ one. waits_at wanted one ≡ true) (sym at) other.1)
+    ])
+    (λ new. created_not (first_core configuration call.who.part) call call.request who.proc wanted new) in_table))
+    (λ own mode is in_table. absurd (start_waits_not mode (first_core configuration call.who.part) place who.proc wanted in_table))
+    (λ elsewhere in_table. each_back Fact _ table who.proc wanted
+    (λ x at waits. (let back = woken_if_named_back place call who x wanted waits in
+    let stays : stops call who ≡ false = not_stopped call who elsewhere in
+    inl (goes_on call who (restarts_other call who.part (differs_back call.who.part who.part elsewhere)) back.0 stays, subst (λ one. waits_at wanted one ≡ true) (sym at) back.1))) in_table) waits
+
+-- Every process that waits in a set has an entry in it.
 
 -- which processes have an entry in a set after a record
 
 has_entry_without : (leaves : Who → Bool) (who : Who) (entries : List Entry) → leaves who ≡ false → has_entry_in who entries ≡ true → has_entry_in who (without leaves entries) ≡ true
 has_entry_without leaves who [] stays is_member = is_member
 has_entry_without leaves who (entry ∷ entries) stays is_member =
-    elim (cases_Bool (is_same who entry.who)) [
-      | inl same ↦
-          let one : leaves entry.who ≡ false = subst (λ one. leaves one ≡ false) (same_is who entry.who same) stays in
-          rw one (first_holds (is_same who entry.who) (has_entry_in who (without leaves entries)) same)
-      | inr differs ↦
-          let rest = has_entry_without leaves who entries stays (other_holds (is_same who entry.who) (has_entry_in who entries) is_member differs) in
-          elim (leaves entry.who) as (λ passed. has_entry_in who (cond passed (without leaves entries) (entry ∷ without leaves entries)) ≡ true) [
-            | true ↦ rest
-            | false ↦ later_holds (is_same who entry.who) (has_entry_in who (without leaves entries)) rest
-          ]
-    ]
+    either_way (is_same who entry.who)
+    (λ same. (let one : leaves entry.who ≡ false = subst (λ one. leaves one ≡ false) (same_is who entry.who same) stays in
+    rw one (first_holds (is_same who entry.who) (has_entry_in who (without leaves entries)) same)))
+    (λ differs. (let rest = has_entry_without leaves who entries stays (other_holds (is_same who entry.who) (has_entry_in who entries) is_member differs) in
+    by_test (λ kept. has_entry_in who kept ≡ true) (leaves entry.who) (without leaves entries) (entry ∷ without leaves entries)
+    (λ goes. rest) (λ stays. later_holds (is_same who entry.who) (has_entry_in who (without leaves entries)) rest)))
 
 has_entry_in_front : (who : Who) (entries more : List Entry) → has_entry_in who entries ≡ true → has_entry_in who (entries ++ more) ≡ true
-has_entry_in_front who [] more is_member = absurd (true≢false (sym is_member))
+has_entry_in_front who [] more is_member = impossible is_member
 has_entry_in_front who (entry ∷ entries) more is_member =
-    elim (cases_Bool (is_same who entry.who)) [
-      | inl same ↦ first_holds (is_same who entry.who) (has_entry_in who (entries ++ more)) same
-      | inr differs ↦ later_holds (is_same who entry.who) (has_entry_in who (entries ++ more))
-          (has_entry_in_front who entries more (other_holds (is_same who entry.who) (has_entry_in who entries) is_member differs))
-    ]
+    either_way (is_same who entry.who) (λ same. first_holds (is_same who entry.who) (has_entry_in who (entries ++ more)) same)
+    (λ differs. later_holds (is_same who entry.who) (has_entry_in who (entries ++ more))
+    (has_entry_in_front who entries more (other_holds (is_same who entry.who) (has_entry_in who entries) is_member differs)))
 
 has_entry_last : (entry : Entry) (entries : List Entry) → has_entry_in entry.who (entries ++ entry ∷ []) ≡ true
 has_entry_last entry [] = first_holds (is_same entry.who entry.who) false (same_itself entry.who)
@@ -80,10 +218,8 @@ set_keeps place (Ret ret) who wanted entries stays is_member = is_member
 set_keeps place (Tick woken) who wanted entries stays is_member = has_entry_without (λ who. is_named who woken) who entries stays is_member
 set_keeps place (Call call) who wanted entries stays is_member =
     let rest = has_entry_without (ends_wait call) who entries stays is_member in
-    elim (enters call wanted) as (λ here. has_entry_in who (cond here (without (ends_wait call) entries ++ entry_of place call ∷ []) (without (ends_wait call) entries)) ≡ true) [
-      | true ↦ has_entry_in_front who (without (ends_wait call) entries) (entry_of place call ∷ []) rest
-      | false ↦ rest
-    ]
+    by_test (λ kept. has_entry_in who kept ≡ true) (enters call wanted) (without (ends_wait call) entries ++ entry_of place call ∷ []) (without (ends_wait call) entries)
+    (λ here. has_entry_in_front who (without (ends_wait call) entries) (entry_of place call ∷ []) rest) (λ elsewhere. rest)
 
 -- a caller that enters has an entry there
 set_takes : (place : ℕ) (call : CallRecord) (wanted : WaitingSet) (entries : List Entry) → enters call wanted ≡ true → has_entry_in call.who (set_after place (Call call) wanted entries) ≡ true
@@ -98,16 +234,15 @@ entering_has_entry place _ who wanted entries is = absurd is
 -- the sets of a partition
 
 there_if : {Object : Type 0} (who : Who) (entries_of : Object → List Entry) (found : Option Object) → has_entry_in who (entries_in entries_of found) ≡ true → is_some found ≡ true
-there_if who entries_of None is_member = absurd (true≢false (sym is_member))
+there_if who entries_of None is_member = impossible is_member
 there_if who entries_of (Some object) is_member = refl
 
 -- the object of a set in which a process has an entry is created
 waiting_there : (who : Who) (partition : Partition) (wanted : WaitingSet) → has_entry_in who (entries_at partition wanted) ≡ true → is_created_at partition wanted ≡ true
 waiting_there who partition wanted is_member =
-    elim (cases_Bool (has_end wanted.kind wanted.end)) [
-      | inl there ↦ rw there (there_if who (entries_at_end wanted.kind wanted.end) (item_at (objects_of partition wanted.kind) wanted.number) is_member)
-      | inr none ↦ absurd (true≢false (sym is_member ∙ ap (has_entry_in who) (none_there wanted.kind wanted.end (item_at (objects_of partition wanted.kind) wanted.number) none)))
-    ]
+    either_way (has_end wanted.kind wanted.end)
+    (λ there. rw there (there_if who (entries_at_end wanted.kind wanted.end) (item_at (objects_of partition wanted.kind) wanted.number) is_member))
+    (λ none. absurd (true≢false (sym is_member ∙ ap (has_entry_in who) (none_there wanted.kind wanted.end (item_at (objects_of partition wanted.kind) wanted.number) none))))
 
 each_has_entry : (who : Who) (change : WaitingSet → List Entry → List Entry) (partition : Partition) (wanted : WaitingSet) → is_created_at partition wanted ≡ true
     → has_entry_in who (change wanted (entries_at partition wanted)) ≡ true → has_entry_in who (entries_at (each_set change partition) wanted) ≡ true
@@ -117,7 +252,7 @@ each_has_entry who change partition wanted there is_member =
 -- the object at which a caller waits is created
 
 mapped : {Object : Type 0} (change : Object → Object) (found : Option Object) → is_some found ≡ true → is_some (option_map change found) ≡ true
-mapped change None there = absurd (true≢false (sym there))
+mapped change None there = impossible there
 mapped change (Some object) there = refl
 
 given_there : {Object : Type 0} (objects : List (ℕ × Object)) (given : ℤ) (found : Object) → given_object objects given ≡ Some found → is_some (item_at objects (natural_of given)) ≡ true
@@ -130,32 +265,28 @@ changed_there {Object} objects given found change at =
     ap is_some (at_each (λ other (object : Object). cond (nat_eq other (natural_of given)) (change object) object) objects (natural_of given))
     ∙ mapped (λ (object : Object). cond (nat_eq (natural_of given) (natural_of given)) (change object) object) (item_at objects (natural_of given)) (given_there objects given found at)
 
+used_there : {Object : Type 0} (who : Who) (partition : Partition) (objects : List (ℕ × Object)) (given time_out : ℤ) (change : Object → Object)
+    → object_conditions who partition (given_object objects given) time_out ≡ [] → is_some (item_at (change_at (natural_of given) change objects) (natural_of given)) ≡ true
+used_there who partition objects given time_out change none =
+    let there = object_there who partition (given_object objects given) time_out none in changed_there objects given there.0 change there.1
+
 waits_there : (configuration : Configuration) (who : Who) (claimed : Option ℤ) {asked : Request} {chan : Option ℕ} {wanted : WaitingSet} (partition : Partition) → WaitsIn asked chan wanted
     → is_of_channel wanted ≡ false → conditions_of configuration who partition asked ≡ [] → is_created_at (objects_by configuration who claimed asked partition) wanted ≡ true
-waits_there configuration who claimed partition (WaitsIn.sends_to_buffer {buffer = buffer} {length = length} {time_out = time_out} {message = message}) off none =
+waits_there configuration who claimed partition (WaitsIn.sends_to_buffer {buffer = buffer} {length = length}) off none =
     let there = message_there (λ (found : Buffer). found.size) (given_object partition.buffers buffer) length (first_empty _ _ (first_empty _ _ none)) in
-    changed_there partition.buffers buffer there.0 (λ found. (buffer_effect (BufferOperation.Send length time_out message) found).next) there.1
-waits_there configuration who claimed partition (WaitsIn.receives_from_buffer {buffer = buffer} {time_out = time_out}) off none =
-    let there = object_there who partition (given_object partition.buffers buffer) time_out none in
-    changed_there partition.buffers buffer there.0 (λ found. (buffer_effect (BufferOperation.Receive time_out) found).next) there.1
-waits_there configuration who claimed partition (WaitsIn.reads_blackboard {blackboard = blackboard} {time_out = time_out}) off none =
-    let there = object_there who partition (given_object partition.blackboards blackboard) time_out none in
-    changed_there partition.blackboards blackboard there.0 (λ found. (blackboard_effect (BlackboardOperation.Read time_out) found).next) there.1
-waits_there configuration who claimed partition (WaitsIn.waits_for_semaphore {semaphore = semaphore} {time_out = time_out}) off none =
-    let there = object_there who partition (given_object partition.semaphores semaphore) time_out none in
-    changed_there partition.semaphores semaphore there.0 (λ found. (semaphore_effect (SemaphoreOperation.Wait time_out) found).next) there.1
-waits_there configuration who claimed partition (WaitsIn.waits_for_event {event = event} {time_out = time_out}) off none =
-    let there = object_there who partition (given_object partition.events event) time_out none in
-    changed_there partition.events event there.0 (λ found. (event_effect (EventOperation.Wait time_out) found).next) there.1
+    changed_there partition.buffers buffer there.0 _ there.1
+waits_there configuration who claimed partition (WaitsIn.receives_from_buffer {buffer = buffer} {time_out = time_out}) off none = used_there who partition partition.buffers buffer time_out _ none
+waits_there configuration who claimed partition (WaitsIn.reads_blackboard {blackboard = blackboard} {time_out = time_out}) off none = used_there who partition partition.blackboards blackboard time_out _ none
+waits_there configuration who claimed partition (WaitsIn.waits_for_semaphore {semaphore = semaphore} {time_out = time_out}) off none = used_there who partition partition.semaphores semaphore time_out _ none
+waits_there configuration who claimed partition (WaitsIn.waits_for_event {event = event} {time_out = time_out}) off none = used_there who partition partition.events event time_out _ none
 waits_there configuration who claimed partition (WaitsIn.acquires_mutex {mutex = mutex} {time_out = time_out}) off none =
-    let there = mutex_there who partition mutex time_out none in
-    changed_there partition.mutexes mutex there.0 (λ found. (mutex_effect who.proc (MutexOperation.Acquire time_out) found).next) there.1
-waits_there configuration who claimed partition _ off none = absurd (true≢false off)
+    let there = mutex_there who partition mutex time_out none in changed_there partition.mutexes mutex there.0 _ there.1
+waits_there configuration who claimed partition _ off none = impossible (sym off)
 
 waiting_is_done : (given : Out) → is_waiting given ≡ true → is_done given ≡ true
-waiting_is_done out.Waits is = refl
-waiting_is_done out.Never is = refl
-waiting_is_done (out.Answer code) is = absurd (true≢false (sym is))
+waiting_is_done Out.Waits is = refl
+waiting_is_done Out.Never is = refl
+waiting_is_done (Out.Answer code) is = impossible is
 
 -- a caller that enters a set of its partition
 own_takes : (configuration : Configuration) (cores : List CoreState) (place core : ℕ) (call : CallRecord) (partition : Partition) → IsReadyCall configuration partition core call → (wanted : WaitingSet)
@@ -176,40 +307,39 @@ pub object_has_entry : (configuration : Configuration) (cores : List CoreState) 
     → (waits_at wanted (item_at partition.table who.proc) ≡ true → has_entry_in who (entries_at partition wanted) ≡ true)
     → waits_at wanted (item_at (partition_by configuration cores place core who.part body partition).table who.proc) ≡ true
     → has_entry_in who (entries_at (partition_by configuration cores place core who.part body partition) wanted) ≡ true
-object_has_entry configuration cores place core (Disp one) partition who wanted ready off before waits =
-    elim (who_waits configuration cores place core (Disp one) partition who wanted ready waits) [
-      | inl goes ↦ before goes.1
-      | inr enters ↦ absurd enters
+object_has_entry configuration cores place core body partition who wanted ready off before waits =
+    elim (who_waits configuration cores place core body partition who wanted ready waits) [
+      | inl goes ↦ stays body goes.0 (before goes.1)
+      | inr enters ↦ entered body ready enters
     ]
-object_has_entry configuration cores place core (Ret ret) partition who wanted ready off before waits =
-    elim (who_waits configuration cores place core (Ret ret) partition who wanted ready waits) [
-      | inl goes ↦ return_case (λ next. has_entry_in who (entries_at next wanted) ≡ true) configuration cores place core who.part ret partition
-          (subst (λ entries. has_entry_in who entries ≡ true) (sym (same_sets partition (each_item (returned ret.who.proc) partition.table) wanted)) (before goes.1)) (before goes.1)
-      | inr enters ↦ absurd enters
-    ]
-object_has_entry configuration cores place core (Tick woken) partition who wanted ready off before waits =
-    elim (who_waits configuration cores place core (Tick woken) partition who wanted ready waits) [
-      | inl goes ↦
-          subst (λ entries. has_entry_in who entries ≡ true) (sym (same_sets (each_set (set_after place (Tick woken)) partition) (each_item (ticked place who.part woken) partition.table) wanted))
-          (each_has_entry who (set_after place (Tick woken)) partition wanted (waiting_there who partition wanted (before goes.1))
-          (set_keeps place (Tick woken) who wanted (entries_at partition wanted) goes.0 (before goes.1)))
-      | inr enters ↦ absurd enters
-    ]
-object_has_entry configuration cores place core (Call call) partition who wanted ready off before waits =
-    elim (who_waits configuration cores place core (Call call) partition who wanted ready waits) [
-      | inl goes ↦
-          let objects : Partition = cond (is_done call.claim.out) (objects_by configuration call.who call.claim.val call.request partition) partition in
-          let used = used_sets (λ entries. has_entry_in who entries ≡ true) configuration call partition wanted (before goes.1) in
-          call_case (λ next. has_entry_in who (entries_at next wanted) ≡ true) configuration cores place core who.part call partition
-          (λ own none. subst (λ entries. has_entry_in who entries ≡ true) (sym (called_sets configuration cores place core call partition wanted))
-          (each_has_entry who (set_after place (Call call)) objects wanted (waiting_there who objects wanted used) (set_keeps place (Call call) who wanted (entries_at objects wanted) goes.0 used)))
-          (λ own mode is. (let no : ◌≡◌ {A = Option Mode} None (Some mode) = sym (not_restarted call who (sym (eqb-true call.who.part who.part own)) goes.0) ∙ is in cc))
-          (λ elsewhere. subst (λ entries. has_entry_in who entries ≡ true) (sym (same_sets partition (woken_if_named_table place call who.part partition.table) wanted)) (before goes.1))
-      | inr entering ↦
-          let own : nat_eq call.who.part who.part ≡ true = eq-eqb call.who.part who.part (ap (λ one. one.part) (sym entering.0)) in
-          subst (λ one. has_entry_in one (entries_at (partition_by configuration cores place core one.part (Call call) partition) wanted) ≡ true) (sym entering.0)
-          (own_takes configuration cores place core call partition (ready own) wanted off entering.1)
-    ]
+  where
+    Has : Partition → Type 0
+    Has next = has_entry_in who (entries_at next wanted) ≡ true
+
+    stays : (body : Body) → leaves body who ≡ false → Has partition → Has (partition_by configuration cores place core who.part body partition)
+    stays (Disp one) goes has = has
+    stays (Ret ret) goes has =
+        return_case Has configuration cores place core who.part ret partition
+        (subst (λ entries. has_entry_in who entries ≡ true) (sym (same_sets partition (each_item (returned ret.who.proc) partition.table) wanted)) has) has
+    stays (Tick woken) goes has =
+        subst (λ entries. has_entry_in who entries ≡ true) (sym (same_sets (each_set (set_after place (Tick woken)) partition) (each_item (ticked place who.part woken) partition.table) wanted))
+        (each_has_entry who (set_after place (Tick woken)) partition wanted (waiting_there who partition wanted has) (set_keeps place (Tick woken) who wanted (entries_at partition wanted) goes has))
+    stays (Call call) goes has =
+        let objects : Partition = cond (is_done call.claim.out) (objects_by configuration call.who call.claim.val call.request partition) partition in
+        let used = used_sets (λ entries. has_entry_in who entries ≡ true) configuration call partition wanted has in
+        call_case Has configuration cores place core who.part call partition
+        (λ own none. subst (λ entries. has_entry_in who entries ≡ true) (sym (called_sets configuration cores place core call partition wanted))
+        (each_has_entry who (set_after place (Call call)) objects wanted (waiting_there who objects wanted used) (set_keeps place (Call call) who wanted (entries_at objects wanted) goes used)))
+        (λ own mode is. never_found (sym (not_restarted call who (sym (eqb-true call.who.part who.part own)) goes) ∙ is))
+        (λ elsewhere. subst (λ entries. has_entry_in who entries ≡ true) (sym (same_sets partition (woken_if_named_table place call who.part partition.table) wanted)) has)
+
+    entered : (body : Body) → CallsReady configuration core who.part body partition → Entering body who wanted → Has (partition_by configuration cores place core who.part body partition)
+    entered (Call call) ready entering =
+        let own : nat_eq call.who.part who.part ≡ true = eq-eqb call.who.part who.part (ap (λ one. one.part) (sym entering.0)) in
+        subst (λ one. has_entry_in one (entries_at (partition_by configuration cores place core one.part (Call call) partition) wanted) ≡ true) (sym entering.0)
+        (own_takes configuration cores place core call partition (ready own) wanted off entering.1)
+    entered (Disp one) ready enters = absurd enters
+    entered _ ready enters = absurd enters
 
 -- the whole state
 
@@ -228,13 +358,12 @@ channel_has_entry configuration state place core body tied law who wanted entrie
 next_has_entries : (configuration : Configuration) (state : State) (ordered : Ordered) → AreTied configuration state → WaitersHaveEntries state
     → IsLawfulBody configuration state ordered.core ordered.rec.body → WaitersHaveEntries (after configuration state ordered)
 next_has_entries configuration state ordered tied are_there law who wanted waits =
-    elim (cases_Bool (is_of_channel wanted)) [
-      | inl is ↦ subst (λ one. has_entry_in who (entries_of (after configuration state ordered) who.part one) ≡ true) (sym (channel_set_is wanted is))
-          (at_channel wanted.number wanted.end (subst (λ one. waits_at one (found (after configuration state ordered).partitions who) ≡ true) (channel_set_is wanted is) waits))
-      | inr off ↦ rw off (object_has_entry configuration state.cores ordered.pos ordered.core ordered.rec.body (state.partitions who.part) who wanted
-          (calls_ready configuration state ordered.core ordered.rec.body tied law who.part) off
-          (λ before. subst (λ test. has_entry_in who (cond test (entries_at_channel wanted.end (state.channels wanted.number)) (entries_at (state.partitions who.part) wanted)) ≡ true) off (are_there who wanted before)) waits)
-    ]
+    either_way (is_of_channel wanted)
+    (λ is. subst (λ one. has_entry_in who (entries_of (after configuration state ordered) who.part one) ≡ true) (sym (channel_set_is wanted is))
+    (at_channel wanted.number wanted.end (subst (λ one. waits_at one (found (after configuration state ordered).partitions who) ≡ true) (channel_set_is wanted is) waits)))
+    (λ off. rw off (object_has_entry configuration state.cores ordered.pos ordered.core ordered.rec.body (state.partitions who.part) who wanted
+    (calls_ready configuration state ordered.core ordered.rec.body tied law who.part) off
+    (λ before. subst (λ test. has_entry_in who (cond test (entries_at_channel wanted.end (state.channels wanted.number)) (entries_at (state.partitions who.part) wanted)) ≡ true) off (are_there who wanted before)) waits))
   where
     at_channel : (channel : ℕ) (end : End) → waits_at (channel_set channel end) (found (after configuration state ordered).partitions who) ≡ true
         → has_entry_in who (entries_of (after configuration state ordered) who.part (channel_set channel end)) ≡ true
@@ -247,17 +376,10 @@ step_has_entries : (configuration : Configuration) (state : State) (ordered : Or
     → AreTied configuration state → WaitersHaveEntries state → Step configuration state ordered next → WaitersHaveEntries next
 step_has_entries configuration state ordered next tied are_there step = subst WaitersHaveEntries (sym step.1) (next_has_entries configuration state ordered tied are_there step.0.claims)
 
-run_has_entries : (configuration : Configuration) (records : List Ordered) (state final : State)
-    → AreTied configuration state → WaitersHaveEntries state → Run configuration state records final → WaitersHaveEntries final
-run_has_entries configuration [] state final tied are_there run = subst WaitersHaveEntries (sym run) are_there
-run_has_entries configuration (ordered ∷ others) state final tied are_there run =
-    run_has_entries configuration others run.0 final (step_tied configuration state ordered run.0 tied run.1)
-    (step_has_entries configuration state ordered run.0 tied are_there run.1) run.2
-
 -- no process waits in the cold state
 cold_has_entries : (configuration : Configuration) → WaitersHaveEntries (cold_state configuration)
 cold_has_entries configuration who wanted waits =
-    absurd (start_waits_not mode.ColdStart (first_core configuration who.part) 0 who.proc wanted waits)
+    absurd (start_waits_not Mode.ColdStart (first_core configuration who.part) 0 who.proc wanted waits)
 
 pub who_waits_has_entry : WhoWaitsHasEntry
-who_waits_has_entry = (cold_has_entries, step_has_entries, run_has_entries)
+who_waits_has_entry = (cold_has_entries, step_has_entries, run_keeps WaitersHaveEntries step_has_entries)

@@ -1,11 +1,8 @@
 -- Runs and findings over one list of records after another.
 use Rattle.std.proofs.Common.{◌≡◌, ◌⊎◌, List, [], ◌∷◌, ◌++◌, Bool, true, false, IsTrue, Option, Some, None, refl, sym, ap, subst, ◌∙◌, inl, inr}
-use Rattle.apex_types.specs.declared.record.Ordered.{Ordered}
-use Rattle.apex_machine.specs.Configuration.{Configuration}
-use Rattle.apex_machine.specs.Demands.{FirstFails, demands}
-use Rattle.apex_machine.specs.Pieces.{Part, Piece, touches}
-use Rattle.apex_machine.specs.Runs.{Finds, FindsNext, Goes, PieceRun, Refuses, Refusal}
 use Rattle.apex_laws.specs.JoinLaws.{FindingsJoin, FoundIsRefused, NothingFoundIsARun, RunsJoin}
+use Rattle.apex_laws.proofs.Common.{Configuration, Finds, FindsNext, FirstFails, Goes, Ordered, Part, Piece, PieceRun, Refusal, Refuses, demands, touches}
+use Rattle.apex_laws.proofs.Booleans.{never_found, one_item}
 use Rattle.apex_laws.proofs.Refusals.{silent_piece_runs}
 
 -- runs
@@ -75,26 +72,17 @@ WaitsInSet configuration piece old records refusal =
     (before : List Ordered) × (ordered : Ordered) × (after : List Ordered) × (records ≡ before ++ ordered ∷ after) × (refusal.pos ≡ ordered.pos)
     × Refuses configuration piece old before ordered refusal.cause
 
-some_is : (one other : Refusal) → ◌≡◌ {A = Option Refusal} (Some one) (Some other) → one ≡ other
-some_is one other e = cc
-
 found_refused : (configuration : Configuration) (piece : Piece) (old : Part) (records : List Ordered) (refusal : Refusal)
     → Finds configuration piece old records (Some refusal) → WaitsInSet configuration piece old records refusal
-found_refused configuration piece old [] refusal finds = let some : ◌≡◌ {A = Option Refusal} (Some refusal) None = finds in cc
+found_refused configuration piece old [] refusal finds = never_found (sym finds)
 found_refused configuration piece old (ordered ∷ others) refusal finds =
     elim (found_next (touches configuration piece ordered) configuration old ordered (λ next. Finds configuration piece next others (Some refusal)) (Some refusal) finds) [
       | inl (next, goes, more) ↦
           let rest = found_refused configuration piece next others refusal more in
           (ordered ∷ rest.0, rest.1, rest.2, ap (λ list. ordered ∷ list) rest.3, rest.4, (rest.5.0, (next, goes, rest.5.1), rest.5.2, rest.5.3))
       | inr (first, is, place, touched, fails) ↦
-          let same : refusal ≡ first = some_is refusal first is in (
-            [],
-            ordered,
-            others,
-            refl,
-            ap (λ one. one.pos) same ∙ place,
-            (old, refl, touched, subst (λ one. FirstFails (demands configuration old ordered) one.cause) (sym same) fails),
-          )
+          let same = one_item is in
+          ([], ordered, others, refl, ap (λ one. one.pos) same ∙ place, (old, refl, touched, subst (λ one. FirstFails (demands configuration old ordered) one.cause) (sym same) fails))
     ]
 
 pub found_is_refused : FoundIsRefused
@@ -151,14 +139,14 @@ find_second configuration piece old (ordered ∷ others) second reached found (n
 
 find_first : (configuration : Configuration) (piece : Piece) (old : Part) (first second : List Ordered) (refusal : Refusal)
     → Finds configuration piece old first (Some refusal) → Finds configuration piece old (first ++ second) (Some refusal)
-find_first configuration piece old [] second refusal finds = let some : ◌≡◌ {A = Option Refusal} (Some refusal) None = finds in cc
+find_first configuration piece old [] second refusal finds = never_found (sym finds)
 find_first configuration piece old (ordered ∷ others) second refusal finds =
     elim (found_next (touches configuration piece ordered) configuration old ordered (λ next. Finds configuration piece next others (Some refusal)) (Some refusal) finds) [
       | inl (next, goes, more) ↦
           goes_finding (touches configuration piece ordered) configuration old ordered next (λ part. Finds configuration piece part (others ++ second) (Some refusal)) (Some refusal) goes
           (find_first configuration piece next others second refusal more)
       | inr (first, is, place, touched, fails) ↦
-          let same : refusal ≡ first = some_is refusal first is in
+          let same = one_item is in
           refused_next (touches configuration piece ordered) configuration old ordered (λ part. Finds configuration piece part (others ++ second) (Some refusal)) refusal touched
           (ap (λ one. one.pos) same ∙ place) (subst (λ one. FirstFails (demands configuration old ordered) one.cause) (sym same) fails)
     ]

@@ -1,46 +1,26 @@
--- A process that a record does not wake or stop keeps its wait, if the record's own calls are of ready callers.
-use Rattle.std.proofs.Common.{◌≡◌, ℕ, zero, suc, List, [], ◌∷◌, ◌++◌, Bool, true, false, cond, nat_eq, ℤ, pos, negsuc, Option, Some, None, option_map, refl, sym, ap, subst, ◌∙◌, inl, inr, true≢false}
-use Rattle.std.proofs.lemmas.Bool.{and_from, and_parts, cases_Bool, eqb-true}
-use Rattle.apex_types.specs.declared.record.Body.{Body}
-use Rattle.apex_types.specs.declared.record.Body.TheVariants.{Call, Ret, Disp, Tick}
-use Rattle.apex_types.specs.declared.record.Call.{Call as CallRecord}
-use Rattle.apex_types.specs.declared.record.Out.{Out}
-use Rattle.apex_types.specs.declared.record.Out.TheVariants as out
-use Rattle.apex_types.specs.declared.record.Who.{Who}
-use Rattle.apex_types.specs.declared.operation.{CallerOperation.CallerOperation, ProcessOperation.ProcessOperation}
-use Rattle.apex_types.specs.declared.request.Request.{Request}
+-- What a record leaves in a partition: waits that go on, waiting sets, and distinct numbers.
+use Rattle.std.proofs.Common.{◌≡◌, ℕ, zero, suc, List, [], ◌∷◌, ◌++◌, Bool, true, false, cond, nat_eq, ℤ, pos, negsuc, Option, Some, None, option_map, refl, sym, ap, subst, ◌∙◌, true≢false, ◌≤◌, nat_le, nat_lt, is_some, is_none, ◌&&◌}
+use Rattle.std.proofs.lemmas.Bool.{and_from, and_parts, eqb-true, leb-true, ltb-true}
+use Rattle.std.proofs.lemmas.List.{append-nil}
+use Rattle.apex_types.specs.declared.object_kind.ObjectKind.TheVariants as kind
 use Rattle.apex_types.specs.declared.operation.ObjectOperation.TheVariants as on
-use Rattle.apex_types.specs.declared.request.Request.TheVariants as request
-use Rattle.apex_machine.specs.declared.condition.Condition.TheVariants as condition
-use Rattle.apex_machine.specs.declared.state.CoreState.{CoreState}
-use Rattle.apex_machine.specs.declared.state.Process.{Process}
-use Rattle.apex_machine.specs.declared.state.Wait.{Wait}
-use Rattle.apex_machine.specs.declared.state.Wait.TheVariants as wait
-use Rattle.apex_machine.specs.declared.state.WaitingSet.{WaitingSet}
-use Rattle.apex_machine.specs.After.{adjusted, called, caller_after, created_by, is_done, partition_by, returned, woken_if_named, ticked}
-use Rattle.apex_machine.specs.Arguments.{is_number}
-use Rattle.apex_machine.specs.ProcessConditions.{start_conditions}
-use Rattle.apex_machine.specs.Configuration.{Configuration, first_core, period_of}
-use Rattle.apex_machine.specs.Objects.{is_owner}
-use Rattle.apex_machine.specs.Ports.{channel_of, suits_use, use_of}
-use Rattle.apex_machine.specs.DueTimes.{due_of_call, entry_wait, time_out_of, wait_in, wait_of, waits_for_normal}
-use Rattle.apex_machine.specs.Processes.{after_normal, by_mutex, on_ownership, set_by, set_in}
-use Rattle.apex_machine.specs.ServiceConditions.{conditions_of}
-use Rattle.apex_machine.specs.Services.{answer_of}
-use Rattle.apex_machine.specs.State.{Mutex, Partition, State, Table, created, each_item, given_object, is_named, item_at, time_of}
-use Rattle.apex_machine.specs.Step.{IsLawfulBody, IsLawfulCall, channel_answer}
-use Rattle.apex_machine.specs.Waiting.{ends_wait, enters, is_in, is_the_set, is_waiting, set_of, waits_at}
-use Rattle.apex_machine.specs.Demands.{window_now}
-use Rattle.apex_laws.specs.Laws.{AreTied}
-use Rattle.apex_laws.proofs.Booleans.{cannot_hold, is_itself}
-use Rattle.apex_laws.proofs.Callers.{FoundReady, chosen_exists, ready_waits_not}
+use Rattle.apex_laws.proofs.Common.{AllEntries, Answer, AreTied, Body, Call, CallerOperation, CallRecord, Claim, Condition, Configuration, CoreState, Disp, Entry, GREATEST_NUMBER, HasOutcome, HasValue, IsAnswered, IsLawfulBody, IsLawfulCall}
+use Rattle.apex_laws.proofs.Common.{Mutex, ObjectKind, Out, Partition, Process, ProcessOperation, Request, Ret, State, Table, Tick, Wait, WaitingSet, Who, adjusted, answer_of, are_distinct, by_mutex, called, caller_after, channel_of}
+use Rattle.apex_laws.proofs.Common.{conditions_of, created, created_by, due_of_call, each_item, each_set, ends_wait, enters, entries_at, entries_at_end, entries_in, entry_of, entry_wait, first_core, given_object, is_done, is_free, is_in}
+use Rattle.apex_laws.proofs.Common.{is_named, is_new, is_number, is_owner, is_the_set, is_waiting, item_at, new_process, numbered, objects_by, objects_called, objects_of, on_ownership, partition_by, partition_called, period_of, returned}
+use Rattle.apex_laws.proofs.Common.{set_after, set_by, set_in, set_of, start_conditions, started, ticked, time_of, time_out_of, wait_in, wait_of, waits_at, waits_for_normal, window_now, without, woken_if_named}
+use Rattle.apex_laws.proofs.Booleans.{by_test, cannot_hold, either_way, impossible, is_itself, never_found}
+use Rattle.apex_laws.proofs.Choices.{chosen_exists, FoundReady, ready_waits_not}
 use Rattle.apex_laws.proofs.Codes.{done_is_lawful}
 use Rattle.apex_laws.proofs.Ends.{no_condition}
-use Rattle.apex_laws.proofs.Restarts.{not_named, not_restarted, not_stopped, return_case, waiting_goes_on}
-use Rattle.apex_laws.proofs.Tables.{at_each}
+use Rattle.apex_laws.proofs.Objects.{each_set_has, objects_have}
+use Rattle.apex_laws.proofs.Restarts.{call_case, done_case, not_named, not_restarted, not_stopped, return_case, start_distinct, start_set, waiting_goes_on, woken_if_named_table}
+use Rattle.apex_laws.proofs.Tables.{at_each, distinct_each, distinct_push, some_at_each, turns_each}
+use Rattle.apex_laws.proofs.Waiters.{all_push, all_weaker, all_without}
 use Rattle.apex_laws.proofs.WaitersOf.{same_who}
-use Rattle.apex_laws.proofs.Woken.{found}
-use Rattle.apex_machine.specs.declared.state.Mode.{Mode}
+use Rattle.apex_laws.proofs.Wakes.{found}
+
+-- A process that a record does not wake or stop keeps its wait, if the record's own calls are of ready callers.
 
 -- a process that waits
 
@@ -52,7 +32,7 @@ pub record FoundWaiting (wanted : WaitingSet) (found : Option Process) : Type 0 
   pub waits : is_in wanted process.wait ≡ true
 
 pub waits_exists : (wanted : WaitingSet) (found : Option Process) → waits_at wanted found ≡ true → FoundWaiting wanted found
-waits_exists wanted None waits = absurd (true≢false (sym waits))
+waits_exists wanted None waits = impossible waits
 waits_exists wanted (Some process) waits =
     let parts = and_parts process.alive (is_in wanted process.wait) waits in
     record { process = process; is_member = refl; alive = parts.0; waits = parts.1 }
@@ -65,69 +45,60 @@ goes_on wanted found new is alive waits = subst (λ one. waits_at wanted one ≡
 
 -- a wait in a set isn't the wait for NORMAL
 not_for_normal : (wanted : WaitingSet) (one : Wait) → is_in wanted one ≡ true → waits_for_normal one ≡ false
-not_for_normal wanted (wait.At set due) waits = refl
-not_for_normal wanted _ waits = absurd (true≢false (sym waits))
+not_for_normal wanted (Wait.At set due) waits = refl
+not_for_normal wanted _ waits = impossible waits
 
 -- START isn't asked for this process
 abbrev pub IsNotStarted : Request → ℕ → Type 0
-IsNotStarted (request.Process process ProcessOperation.Start) number = is_number process number ≡ false
+IsNotStarted (Request.Process process ProcessOperation.Start) number = is_number process number ≡ false
 IsNotStarted _ number = Unit {0}
 
--- the priority of a mutex, given or taken back
-ownership_alive : (before after : Bool) (priority : ℕ) (x : Process) → (on_ownership before after priority x).alive ≡ x.alive
-ownership_alive false true priority x = refl
-ownership_alive true false priority x = refl
-ownership_alive true true priority x = refl
-ownership_alive false false priority x = refl
+-- a fact about a process with the priority of a mutex, given or taken back: it holds whatever priorities the process has
+pub mutex_case : (Fact : Process → Type 0) (found : Option Mutex) (change : Mutex → Mutex) (number : ℕ) (x : Process)
+    → ((current retained : ℕ) → Fact (record x { current_priority = current; retained_priority = retained })) → Fact (by_mutex found change number x)
+mutex_case Fact None change number x any = any x.current_priority x.retained_priority
+mutex_case Fact (Some mutex) change number x any = by (is_owner mutex.owner number) (is_owner (change mutex).owner number)
+  where
+    by : (before after : Bool) → Fact (on_ownership before after mutex.priority x)
+    by false true = any _ _
+    by true false = any _ _
+    by true true = any _ _
+    by false false = any _ _
 
-ownership_wait : (before after : Bool) (priority : ℕ) (x : Process) → (on_ownership before after priority x).wait ≡ x.wait
-ownership_wait false true priority x = refl
-ownership_wait true false priority x = refl
-ownership_wait true true priority x = refl
-ownership_wait false false priority x = refl
-
-pub mutex_alive : (found : Option Mutex) (change : Mutex → Mutex) (number : ℕ) (x : Process) → (by_mutex found change number x).alive ≡ x.alive
-mutex_alive None change number x = refl
-mutex_alive (Some mutex) change number x = ownership_alive (is_owner mutex.owner number) (is_owner (change mutex).owner number) mutex.priority x
-
-pub mutex_wait : (found : Option Mutex) (change : Mutex → Mutex) (number : ℕ) (x : Process) → (by_mutex found change number x).wait ≡ x.wait
-mutex_wait None change number x = refl
-mutex_wait (Some mutex) change number x = ownership_wait (is_owner mutex.owner number) (is_owner (change mutex).owner number) mutex.priority x
-
--- NORMAL leaves who is alive so
-normal_alive : (place period now : ℕ) (x : Process) → (after_normal place period now x).alive ≡ x.alive
-normal_alive place period now x =
-    elim (waits_for_normal x.wait) as (λ waits. (cond waits (record x { wait = entry_wait period now x.period; ready_position = place }) x).alive ≡ x.alive) [ true ↦ refl | false ↦ refl ]
-
--- a change of one process
-one_alive : (own : Bool) (changed x : Process) → x.alive ≡ true → changed.alive ≡ true → (cond own changed x).alive ≡ true
-one_alive true changed x alive also = also
-one_alive false changed x alive also = alive
-
-one_wait : (own : Bool) (changed x : Process) → changed.wait ≡ x.wait → (cond own changed x).wait ≡ x.wait
-one_wait true changed x same = same
-one_wait false changed x same = refl
-
-set_in_alive : (place period now : ℕ) (mode : Mode) (operation : ProcessOperation) (x : Process) → x.alive ≡ true → (set_in place period now mode operation x).alive ≡ true
-set_in_alive place period now mode ProcessOperation.Start x alive = refl
-set_in_alive place period now mode _ x alive = alive
+-- a fact about a process in which a call sets something: it holds whatever plain fields are set, of one that is started, and of one that
+-- enters NORMAL
+pub set_case : (Fact : Process → Type 0) (place period : ℕ) (cores : List CoreState) (partition : Partition) (caller : ℕ) (asked : Request) (number : ℕ) (x : Process)
+    → ((affinity current retained position : ℕ) (suspended : Bool)
+    → Fact (record x { affinity = affinity; current_priority = current; retained_priority = retained; ready_position = position; suspended = suspended }))
+    → ((now : ℕ) → Fact (started place period now partition.mode x)) → ((now : ℕ) → Fact (record x { wait = entry_wait period now x.period; ready_position = place }))
+    → Fact (set_by place period cores partition caller asked number x)
+set_case Fact place period cores partition caller (Request.Process process operation) number x set starts enters =
+    by_test Fact (is_number process number) (set_in place period (time_of cores x.affinity) partition.mode operation x) x (λ own. by operation) (λ other. set _ _ _ _ _)
+  where
+    by : (one : ProcessOperation) → Fact (set_in place period (time_of cores x.affinity) partition.mode one x)
+    by ProcessOperation.Start = starts (time_of cores x.affinity)
+    by _ = set _ _ _ _ _
+set_case Fact place period cores partition caller (Request.SetPartitionMode next) number x set starts enters =
+    by_test Fact (waits_for_normal x.wait) (record x { wait = entry_wait period (time_of cores x.affinity) x.period; ready_position = place }) x
+    (λ waits. enters (time_of cores x.affinity)) (λ stays. set _ _ _ _ _)
+set_case Fact place period cores partition caller (Request.Object mutex (on.Mutex operation)) number x set starts enters =
+    mutex_case Fact (given_object partition.mutexes mutex) _ number x (λ current retained. set _ current retained _ _)
+set_case Fact place period cores partition caller _ number x set starts enters = set _ _ _ _ _
 
 set_by_alive : (place period : ℕ) (cores : List CoreState) (partition : Partition) (caller : ℕ) (asked : Request) (number : ℕ) (x : Process) → x.alive ≡ true
     → (set_by place period cores partition caller asked number x).alive ≡ true
-set_by_alive place period cores partition caller (request.Process process operation) number x alive =
-    one_alive (is_number process number) (set_in place period (time_of cores x.affinity) partition.mode operation x) x alive (set_in_alive place period (time_of cores x.affinity) partition.mode operation x alive)
-set_by_alive place period cores partition caller (request.SetPartitionMode next) number x alive = normal_alive place period (time_of cores x.affinity) x ∙ alive
-set_by_alive place period cores partition caller (request.Object mutex (on.Mutex operation)) number x alive = mutex_alive (given_object partition.mutexes mutex) _ number x ∙ alive
-set_by_alive place period cores partition caller _ number x alive = alive
+set_by_alive place period cores partition caller asked number x alive =
+    set_case (λ y. y.alive ≡ true) place period cores partition caller asked number x (λ affinity current retained position suspended. alive) (λ now. refl) (λ now. alive)
 
 pub set_by_wait : (place period : ℕ) (cores : List CoreState) (partition : Partition) (caller : ℕ) (asked : Request) (number : ℕ) (x : Process) → IsNotStarted asked number
     → waits_for_normal x.wait ≡ false → (set_by place period cores partition caller asked number x).wait ≡ x.wait
-set_by_wait place period cores partition caller (request.Process process ProcessOperation.Start) number x starts normal = rw starts refl
-set_by_wait place period cores partition caller (request.Process process ProcessOperation.Stop) number x starts normal = one_wait (is_number process number) x x refl
-set_by_wait place period cores partition caller (request.Process process operation) number x starts normal =
-    one_wait (is_number process number) (set_in place period (time_of cores x.affinity) partition.mode operation x) x refl
-set_by_wait place period cores partition caller (request.SetPartitionMode next) number x starts normal = rw normal refl
-set_by_wait place period cores partition caller (request.Object mutex (on.Mutex operation)) number x starts normal = mutex_wait (given_object partition.mutexes mutex) _ number x
+set_by_wait place period cores partition caller (Request.Process process ProcessOperation.Start) number x starts normal = rw starts refl
+set_by_wait place period cores partition caller (Request.Process process ProcessOperation.Stop) number x starts normal = by_test (λ (y : Process). y.wait ≡ x.wait) (is_number process number) x x (λ own. refl) (λ other. refl)
+set_by_wait place period cores partition caller (Request.Process process operation) number x starts normal =
+    by_test (λ (y : Process). y.wait ≡ x.wait) (is_number process number) (set_in place period (time_of cores x.affinity) partition.mode operation x) x (λ own. refl) (λ other. refl)
+set_by_wait place period cores partition caller (Request.SetPartitionMode next) number x starts normal = rw normal refl
+set_by_wait place period cores partition caller (Request.Object mutex (on.Mutex operation)) number x starts normal =
+    mutex_case (λ y. y.wait ≡ x.wait) (given_object partition.mutexes mutex) _ number x (λ current retained. refl)
 set_by_wait place period cores partition caller _ number x starts normal = refl
 
 -- START starts no process that is alive
@@ -137,16 +108,13 @@ not_number : (table : Table) (process : ℤ) (number : ℕ) (x : Process) → it
 not_number table (negsuc n) number x at alive none = refl
 not_number table (pos zero) number x at alive none = cc
 not_number table (pos (suc n)) number x at alive none =
-    elim (cases_Bool (nat_eq (suc n) number)) [
-      | inl same ↦
-          let conditions : start_conditions (Some x) ≡ [] = subst (λ one. start_conditions one ≡ []) (subst (λ one. item_at table one ≡ Some x) (sym (eqb-true (suc n) number same)) at) none in
-          absurd (true≢false (sym alive ∙ no_condition x.alive condition.AlreadyStarted conditions))
-      | inr differs ↦ differs
-    ]
+    cannot_hold (nat_eq (suc n) number) (λ same.
+    (let conditions : start_conditions (Some x) ≡ [] = subst (λ one. start_conditions one ≡ []) (subst (λ one. item_at table one ≡ Some x) (sym (eqb-true (suc n) number same)) at) none in
+    true≢false (sym alive ∙ no_condition x.alive Condition.AlreadyStarted conditions)))
 
 not_started : (configuration : Configuration) (who : Who) (partition : Partition) (asked : Request) (number : ℕ) (x : Process) → item_at partition.table number ≡ Some x → x.alive ≡ true
     → conditions_of configuration who partition asked ≡ [] → IsNotStarted asked number
-not_started configuration who partition (request.Process process ProcessOperation.Start) number x at alive none = not_number partition.table process number x at alive none
+not_started configuration who partition (Request.Process process ProcessOperation.Start) number x at alive none = not_number partition.table process number x at alive none
 not_started configuration who partition _ number x at alive none = tt
 
 -- after a call
@@ -166,10 +134,7 @@ pub ready_call : (configuration : Configuration) (state : State) (core : ℕ) (c
     → IsLawfulCall configuration state core call → IsReadyCall configuration (state.partitions call.who.part) core call
 ready_call configuration state core call tied law = record {
   ready = chosen_exists (window_now configuration state.cores core) state.partitions core call.who (tied.distinct call.who.part) law.choice;
-  none = λ done. done_is_lawful (conditions_of configuration call.who (state.partitions call.who.part) call.request) (channel_of (state.partitions call.who.part) call.request)
-      (answer_of (time_of state.cores core) call.who (state.partitions call.who.part) call.request) (λ number. suits_use configuration number call.who.part (use_of call.request) (state.channels number))
-      (channel_answer configuration (time_of state.cores core) call.who.part call.request state.channels) call.claim
-      law.outcome done;
+  none = done_is_lawful _ _ _ _ _ call.claim law.outcome;
 }
 
 pub calls_ready : (configuration : Configuration) (state : State) (core : ℕ) (body : Body) → AreTied configuration state
@@ -183,25 +148,17 @@ adjusted_waits : (configuration : Configuration) (cores : List CoreState) (parti
     → (number : ℕ) (x : Process) (wanted : WaitingSet) → item_at partition.table number ≡ Some x → x.alive ≡ true → is_in wanted x.wait ≡ true
     → ((adjusted place period cores partition call number x).alive ≡ true) × (is_in wanted (adjusted place period cores partition call number x).wait ≡ true)
 adjusted_waits configuration cores partition place period core call ready number x wanted at alive waits =
-    elim (is_done call.claim.out) as (λ done. is_done call.claim.out ≡ done
-    → ((cond done (set_by place period cores partition call.who.proc call.request number x) x).alive ≡ true)
-    × (is_in wanted (cond done (set_by place period cores partition call.who.proc call.request number x) x).wait ≡ true)) [
-      | true ↦ λ done.
-          let starts = not_started configuration call.who partition call.request number x at alive (ready.none done) in (
-            set_by_alive place period cores partition call.who.proc call.request number x alive,
-            ap (is_in wanted) (set_by_wait place period cores partition call.who.proc call.request number x starts (not_for_normal wanted x.wait waits)) ∙ waits,
-          )
-      | false ↦ λ not_done. (alive, waits)
-    ] refl
+    by_test (λ (y : Process). (y.alive ≡ true) × (is_in wanted y.wait ≡ true)) (is_done call.claim.out) (set_by place period cores partition call.who.proc call.request number x) x
+    (λ done. (let starts = not_started configuration call.who partition call.request number x at alive (ready.none done) in (
+      set_by_alive place period cores partition call.who.proc call.request number x alive,
+      ap (is_in wanted) (set_by_wait place period cores partition call.who.proc call.request number x starts (not_for_normal wanted x.wait waits)) ∙ waits,
+    ))) (λ not_done. (alive, waits))
 
 -- a process that is found in a table is found in a longer table too
 pub found_in_front : (table more : Table) (number : ℕ) (x : Process) → item_at table number ≡ Some x → item_at (table ++ more) number ≡ Some x
-found_in_front [] more number x at = cc
+found_in_front [] more number x at = never_found at
 found_in_front (entry ∷ entries) more number x at =
-    elim (nat_eq number entry.0) as (λ same. cond same (Some entry.1) (item_at entries number) ≡ Some x → cond same (Some entry.1) (item_at (entries ++ more) number) ≡ Some x) [
-      | true ↦ λ at. at
-      | false ↦ λ at. found_in_front entries more number x at
-    ] at
+    either_way (nat_eq number entry.0) (λ same. rw same (rw same at at)) (λ other. rw other (found_in_front entries more number x (rw other at at)))
 
 -- a process after its table was changed
 pub found_changed : (change : ℕ → Process → Process) (table more : Table) (number : ℕ) (x : Process) → item_at table number ≡ Some x
@@ -227,13 +184,6 @@ called_waits configuration cores partition place now core call ready number x wa
     let stopped = not_stopped call (record { part = call.who.part; proc = number }) stays in
     rw (other, stopped, named) (adjusted_waits configuration cores partition place (period_of configuration call.who.part) core call ready number x wanted at alive waits)
 
--- a tick and a return
-
-returned_waits : (wanted : WaitingSet) (own : Bool) (x : Process) → x.alive ≡ true → is_in wanted x.wait ≡ true
-    → ((cond own (record x { due = None }) x).alive ≡ true) × (is_in wanted (cond own (record x { due = None }) x).wait ≡ true)
-returned_waits wanted true x alive waits = (alive, waits)
-returned_waits wanted false x alive waits = (alive, waits)
-
 -- a process goes on waiting at a record that doesn't end its wait
 pub keeps_waiting : (configuration : Configuration) (cores : List CoreState) (place core : ℕ) (body : Body) (partition : Partition) (who : Who) (wanted : WaitingSet)
     → CallsReady configuration core who.part body partition → leaves body who ≡ false → waits_at wanted (item_at partition.table who.proc) ≡ true
@@ -241,42 +191,34 @@ pub keeps_waiting : (configuration : Configuration) (cores : List CoreState) (pl
 keeps_waiting configuration cores place core (Disp one) partition who wanted ready stays waits = waits
 keeps_waiting configuration cores place core (Tick woken) partition who wanted ready stays waits =
     let old = waits_exists wanted (item_at partition.table who.proc) waits in
-    let is : item_at (each_item (ticked place who.part woken) partition.table) who.proc ≡ Some (ticked place who.part woken who.proc old.process) =
-    at_each (ticked place who.part woken) partition.table who.proc ∙ ap (option_map (ticked place who.part woken who.proc)) old.is_member in
-    let same : ticked place who.part woken who.proc old.process ≡ old.process = rw stays refl in
-    goes_on wanted (item_at (each_item (ticked place who.part woken) partition.table) who.proc) old.process (is ∙ ap Some same) old.alive old.waits
+    let change = ticked place who.part woken in
+    goes_on wanted (item_at (each_item change partition.table) who.proc) (change who.proc old.process) (turns_each change partition.table who.proc old.process old.is_member)
+    (rw stays old.alive) (rw stays old.waits)
 keeps_waiting configuration cores place core (Ret ret) partition who wanted ready stays waits =
     let old = waits_exists wanted (item_at partition.table who.proc) waits in
-    let table = each_item (returned ret.who.proc) partition.table in
-    let is : item_at table who.proc ≡ Some (returned ret.who.proc who.proc old.process) =
-    at_each (returned ret.who.proc) partition.table who.proc ∙ ap (option_map (returned ret.who.proc who.proc)) old.is_member in
-    let new = returned_waits wanted (nat_eq who.proc ret.who.proc) old.process old.alive old.waits in
+    let change = returned ret.who.proc in
+    let new = by_test (λ (y : Process). (y.alive ≡ true) × (is_in wanted y.wait ≡ true)) (nat_eq who.proc ret.who.proc) (record old.process { due = None }) old.process
+    (λ own. (old.alive, old.waits)) (λ other. (old.alive, old.waits)) in
     return_case (λ next. waits_at wanted (item_at next.table who.proc) ≡ true) configuration cores place core who.part ret partition
-    (goes_on wanted (item_at table who.proc) (returned ret.who.proc who.proc old.process) is new.0 new.1) waits
+    (goes_on wanted (item_at (each_item change partition.table) who.proc) (change who.proc old.process) (turns_each change partition.table who.proc old.process old.is_member) new.0 new.1) waits
 keeps_waiting configuration cores place core (Call call) partition who wanted ready stays waits =
     let old = waits_exists wanted (item_at partition.table who.proc) waits in
     let table = partition.table in
-    elim (cases_Bool (nat_eq call.who.part who.part)) [
-      | inl own ↦
-          let here : call.who.part ≡ who.part = eqb-true call.who.part who.part own in
-          let same : who ≡ record { part = call.who.part; proc = who.proc } = same_who who (record { part = call.who.part; proc = who.proc }) (sym here) refl in
-          let caller = ready own in
-          let other : nat_eq who.proc call.who.proc ≡ false = cannot_hold (nat_eq who.proc call.who.proc) (λ caller_waits.
-          ready_waits_not core (item_at table call.who.proc) wanted caller.ready
-          (subst (λ number. waits_at wanted (item_at table number) ≡ true) (eqb-true who.proc call.who.proc caller_waits) waits)) in
-          let new = called_waits configuration cores partition place (time_of cores core) core call caller who.proc old.process wanted old.is_member old.alive old.waits other
-          (subst (λ one. ends_wait call one ≡ false) same stays) in
-          let change = called place (time_of cores core) (period_of configuration call.who.part) cores partition call in
-          let is = found_changed change table (created_by (first_core configuration call.who.part) call call.request) who.proc old.process old.is_member in
-          rw (own, not_restarted call who (sym here) stays) (goes_on wanted (item_at (each_item change table ++ created_by (first_core configuration call.who.part) call call.request) who.proc)
-          (change who.proc old.process) is new.0 new.1)
-      | inr foreign ↦
-          let change : ℕ → Process → Process = λ number process. woken_if_named place call (record { part = who.part; proc = number }) process in
-          let named : is_named who call.claim.woken ≡ false = not_named call who stays in
-          let is : item_at (each_item change table) who.proc ≡ Some (change who.proc old.process) = at_each change table who.proc ∙ ap (option_map (change who.proc)) old.is_member in
-          let same : change who.proc old.process ≡ old.process = rw named refl in
-          rw foreign (goes_on wanted (item_at (each_item change table) who.proc) old.process (is ∙ ap Some same) old.alive old.waits)
-    ]
+    either_way (nat_eq call.who.part who.part)
+    (λ own. (let here : call.who.part ≡ who.part = eqb-true call.who.part who.part own in
+    let same : who ≡ record { part = call.who.part; proc = who.proc } = same_who who (record { part = call.who.part; proc = who.proc }) (sym here) refl in
+    let other : nat_eq who.proc call.who.proc ≡ false = cannot_hold (nat_eq who.proc call.who.proc) (λ caller_waits. ready_waits_not core (item_at table call.who.proc) wanted (ready own).ready
+    (subst (λ number. waits_at wanted (item_at table number) ≡ true) (eqb-true who.proc call.who.proc caller_waits) waits)) in
+    let new = called_waits configuration cores partition place (time_of cores core) core call (ready own) who.proc old.process wanted old.is_member old.alive old.waits other
+    (subst (λ one. ends_wait call one ≡ false) same stays) in
+    let change = called place (time_of cores core) (period_of configuration call.who.part) cores partition call in
+    let more = created_by (first_core configuration call.who.part) call call.request in
+    rw (own, not_restarted call who (sym here) stays) (goes_on wanted (item_at (each_item change table ++ more) who.proc) (change who.proc old.process)
+    (found_changed change table more who.proc old.process old.is_member) new.0 new.1)))
+    (λ foreign. (let change : ℕ → Process → Process = λ number process. woken_if_named place call (record { part = who.part; proc = number }) process in
+    let named : is_named who call.claim.woken ≡ false = not_named call who stays in
+    rw foreign (goes_on wanted (item_at (each_item change table) who.proc) (change who.proc old.process) (turns_each change table who.proc old.process old.is_member)
+    (rw named old.alive) (rw named old.waits))))
 
 -- a caller that waits
 
@@ -286,18 +228,18 @@ in_set wanted None due = refl
 in_set wanted (Some set) due = refl
 
 pub begun_in : (wanted : WaitingSet) (asked : Request) (chan : Option ℕ) (now : ℕ) (x : Process) → is_in wanted (wait_of asked chan now x) ≡ is_the_set wanted (set_of asked chan)
-begun_in wanted (request.Caller (CallerOperation.TimedWait (pos delay))) chan now x = refl
-begun_in wanted (request.Caller (CallerOperation.TimedWait (negsuc n))) chan now x = refl
-begun_in wanted (request.Caller CallerOperation.PeriodicWait) chan now x = refl
-begun_in wanted (request.Caller (CallerOperation.SuspendSelf time_out)) chan now x = refl
+begun_in wanted (Request.Caller (CallerOperation.TimedWait (pos delay))) chan now x = refl
+begun_in wanted (Request.Caller (CallerOperation.TimedWait (negsuc n))) chan now x = refl
+begun_in wanted (Request.Caller CallerOperation.PeriodicWait) chan now x = refl
+begun_in wanted (Request.Caller (CallerOperation.SuspendSelf time_out)) chan now x = refl
 begun_in wanted asked chan now x = in_set wanted (set_of asked chan) (due_of_call (time_out_of asked) now)
 
 -- the caller after a call that waits
 waiting_caller : (place now : ℕ) (call : CallRecord) (x : Process) (wanted : WaitingSet) (given : Out) → call.claim.out ≡ given → is_waiting given ≡ true → x.alive ≡ true
     → is_the_set wanted (set_of call.request call.claim.chan) ≡ true
     → ((caller_after place now call x).alive ≡ true) × (is_in wanted (caller_after place now call x).wait ≡ true)
-waiting_caller place now call x wanted out.Waits given waits alive is = rw given (alive, begun_in wanted call.request call.claim.chan now x ∙ is)
-waiting_caller place now call x wanted _ given waits alive is = absurd (true≢false (sym waits))
+waiting_caller place now call x wanted Out.Waits given waits alive is = rw given (alive, begun_in wanted call.request call.claim.chan now x ∙ is)
+waiting_caller place now call x wanted _ given waits alive is = impossible waits
 
 pub entered_waits : (configuration : Configuration) (cores : List CoreState) (place core : ℕ) (call : CallRecord) (partition : Partition) → IsReadyCall configuration partition core call
     → (wanted : WaitingSet) → enters call wanted ≡ true
@@ -307,11 +249,177 @@ entered_waits configuration cores place core call partition caller wanted enters
     let parts = and_parts (is_waiting call.claim.out) (is_the_set wanted (set_of call.request call.claim.chan)) enters in
     let period = period_of configuration call.who.part in
     let changed = adjusted place period cores partition call call.who.proc ready.process in
-    let alive : changed.alive ≡ true = one_alive (is_done call.claim.out) (set_by place period cores partition call.who.proc call.request call.who.proc ready.process) ready.process
-    ready.ready.alive (set_by_alive place period cores partition call.who.proc call.request call.who.proc ready.process ready.ready.alive) in
+    let alive : changed.alive ≡ true = by_test (λ (y : Process). y.alive ≡ true) (is_done call.claim.out) (set_by place period cores partition call.who.proc call.request call.who.proc ready.process) ready.process
+    (λ done. set_by_alive place period cores partition call.who.proc call.request call.who.proc ready.process ready.ready.alive) (λ not_done. ready.ready.alive) in
     let new = waiting_caller place (time_of cores core) call changed wanted call.claim.out refl parts.0 alive parts.1 in
     let change = called place (time_of cores core) period cores partition call in
     let is = found_changed change partition.table (created_by (first_core configuration call.who.part) call call.request) call.who.proc ready.process ready.is_member in
     let caller : change call.who.proc ready.process ≡ caller_after place (time_of cores core) call changed = rw (is_itself call.who.proc) refl in
     rw (is_itself call.who.part, waiting_goes_on call parts.0) (goes_on wanted (item_at (each_item change partition.table ++ created_by (first_core configuration call.who.part) call call.request) call.who.proc)
     (caller_after place (time_of cores core) call changed) (is ∙ ap Some caller) new.0 new.1)
+
+-- The waiting sets of a partition after a record: what holds of each set before it, and what then holds of each set.
+
+-- one set
+
+-- a caller that enters has this
+abbrev pub EntersWith : ℕ → Body → WaitingSet → (Entry → Type 0) → Type 0
+EntersWith place (Call call) wanted Then = enters call wanted ≡ true → Then (entry_of place call)
+EntersWith place _ wanted Then = Unit {0}
+
+-- each entry of a set after a record: one that was in it and stays, or the caller's that enters
+pub each_entry : (Fact Then : Entry → Type 0) (place : ℕ) (body : Body) (wanted : WaitingSet) → ((entry : Entry) → leaves body entry.who ≡ false → Fact entry → Then entry)
+    → EntersWith place body wanted Then → (entries : List Entry) → AllEntries Fact entries → AllEntries Then (set_after place body wanted entries)
+each_entry Fact Then place (Disp who) wanted stays entering entries all = all_weaker Fact Then (λ entry is. stays entry refl is) entries all
+each_entry Fact Then place (Ret ret) wanted stays entering entries all = all_weaker Fact Then (λ entry is. stays entry refl is) entries all
+each_entry Fact Then place (Tick woken) wanted stays entering entries all = all_without Fact Then (λ who. is_named who woken) stays entries all
+each_entry Fact Then place (Call call) wanted stays entering entries all =
+    let rest : AllEntries Then (without (ends_wait call) entries) = all_without Fact Then (ends_wait call) stays entries all in
+    by_test (AllEntries Then) (enters call wanted) (without (ends_wait call) entries ++ entry_of place call ∷ []) (without (ends_wait call) entries)
+    (λ here. all_push Then (without (ends_wait call) entries) (entry_of place call) rest (entering here)) (λ elsewhere. rest)
+
+-- the sets of a partition
+
+-- a partition's table and mode say nothing of its sets
+pub same_sets : (partition : Partition) (table : Table) (wanted : WaitingSet) → entries_at (record partition { table = table }) wanted ≡ entries_at partition wanted
+same_sets partition table wanted = ap (λ objects. entries_in (entries_at_end wanted.kind wanted.end) (item_at objects wanted.number)) (same wanted.kind)
+  where
+    same : (one : ObjectKind) → objects_of (record partition { table = table }) one ≡ objects_of partition one
+    same kind.Buffer = refl
+    same _ = refl
+
+pub called_sets : (configuration : Configuration) (cores : List CoreState) (place core : ℕ) (call : CallRecord) (partition : Partition) (wanted : WaitingSet)
+    → entries_at (partition_called configuration cores place core call partition) wanted ≡ entries_at (objects_called configuration place call partition) wanted
+called_sets configuration cores place core call partition wanted = ap (λ objects. entries_in (entries_at_end wanted.kind wanted.end) (item_at objects wanted.number)) (same wanted.kind)
+  where
+    same : (one : ObjectKind) → objects_of (partition_called configuration cores place core call partition) one ≡ objects_of (objects_called configuration place call partition) one
+    same kind.Buffer = refl
+    same _ = refl
+
+-- the objects of the caller's partition that a call uses or creates, before their sets change
+pub used_sets : (Holds : List Entry → Type 0) (configuration : Configuration) (call : CallRecord) (partition : Partition) (wanted : WaitingSet) → Holds (entries_at partition wanted)
+    → Holds (entries_at (cond (is_done call.claim.out) (objects_by configuration call.who call.claim.val call.request partition) partition) wanted)
+used_sets Holds configuration call partition wanted has =
+    done_case (λ next. Holds (entries_at next wanted)) configuration call partition (λ done. objects_have Holds configuration call.who call.claim.val call.request partition wanted has) has
+
+-- a call of another partition
+abbrev pub IsElsewhere : ℕ → Body → Type 0
+IsElsewhere number (Call call) = nat_eq call.who.part number ≡ false
+IsElsewhere number _ = ⊥
+
+-- a set of a partition after a record, by the set before it: a call of another partition leaves it
+pub one_set_after : (Before After : List Entry → Type 0) (configuration : Configuration) (cores : List CoreState) (place core number : ℕ) (body : Body) (partition : Partition) (wanted : WaitingSet)
+    → After [] → ((IsElsewhere number body → ⊥) → (entries : List Entry) → Before entries → After (set_after place body wanted entries))
+    → (IsElsewhere number body → Before (entries_at partition wanted) → After (entries_at partition wanted))
+    → Before (entries_at partition wanted) → After (entries_at (partition_by configuration cores place core number body partition) wanted)
+one_set_after Before After configuration cores place core number (Disp who) partition wanted nobody change foreign before = change (λ none. none) (entries_at partition wanted) before
+one_set_after Before After configuration cores place core number (Ret ret) partition wanted nobody change foreign before =
+    let after = change (λ none. none) (entries_at partition wanted) before in
+    return_case (λ next. After (entries_at next wanted)) configuration cores place core number ret partition
+    (subst After (sym (same_sets partition (each_item (returned ret.who.proc) partition.table) wanted)) after) after
+one_set_after Before After configuration cores place core number (Tick woken) partition wanted nobody change foreign before =
+    subst After (sym (same_sets (each_set (set_after place (Tick woken)) partition) (each_item (ticked place number woken) partition.table) wanted))
+    (each_set_has After nobody (set_after place (Tick woken)) partition wanted (change (λ none. none) (entries_at partition wanted) before))
+one_set_after Before After configuration cores place core number (Call call) partition wanted nobody change foreign before =
+    let objects : Partition = cond (is_done call.claim.out) (objects_by configuration call.who call.claim.val call.request partition) partition in
+    call_case (λ next. After (entries_at next wanted)) configuration cores place core number call partition
+    (λ own none. subst After (sym (called_sets configuration cores place core call partition wanted))
+    (each_set_has After nobody (set_after place (Call call)) objects wanted
+    (change (λ elsewhere. true≢false (sym own ∙ elsewhere)) (entries_at objects wanted) (used_sets Before configuration call partition wanted before))))
+    (λ own mode is. subst After (sym (start_set mode configuration call.who.part place wanted)) nobody)
+    (λ elsewhere. subst After (sym (same_sets partition (woken_if_named_table place call number partition.table) wanted)) (foreign elsewhere before))
+
+-- The numbers of each table stay distinct.
+
+-- a new number
+
+-- what is nothing
+nothing : {Item : Type 0} (found : Option Item) → is_none found ≡ true → found ≡ None
+nothing None none = refl
+nothing (Some item) none = cc
+
+-- a claimed number that is new: 1 to 2,147,483,647, and of no process or object of the kind
+pub record IsNew {Item : Type 0} (items : List (ℕ × Item)) (claimed : Option ℤ) : Type 0 where
+  pub number : ℕ
+  pub is : claimed ≡ Some (pos number)
+  pub within : (1 ≤ number) × (number ≤ GREATEST_NUMBER)
+  pub none : item_at items number ≡ None
+
+-- the test says so
+pub new_is : {Item : Type 0} (items : List (ℕ × Item)) (claimed : Option ℤ) → is_new (is_free items) claimed ≡ true → IsNew items claimed
+new_is items None new = cc
+new_is items (Some (negsuc n)) new = cc
+new_is items (Some (pos n)) new =
+    let first = and_parts (nat_lt 0 n) (nat_le n GREATEST_NUMBER && is_none (item_at items n)) new in
+    let second = and_parts (nat_le n GREATEST_NUMBER) (is_none (item_at items n)) first.1 in
+    record { number = n; is = refl; within = (ltb-true 0 n first.0, leb-true n GREATEST_NUMBER second.0); none = nothing (item_at items n) second.1 }
+
+-- one more under a number that was new
+pub distinct_new : {Item : Type 0} (items : List (ℕ × Item)) (claimed : Option ℤ) (item : Item) → are_distinct items ≡ true
+    → is_new (is_free items) claimed ≡ true → are_distinct (items ++ numbered claimed item) ≡ true
+distinct_new items claimed item distinct new =
+    let is = new_is items claimed new in
+    subst (λ one. are_distinct (items ++ numbered one item) ≡ true) (sym is.is) (distinct_push items is.number item distinct (ap (λ found. is_some found) is.none))
+
+-- a table with each process changed, and a process under a number that was new
+distinct_numbered : (change : ℕ → Process → Process) (table : Table) (claimed : Option ℤ) (process : Process) → are_distinct table ≡ true
+    → is_new (is_free table) claimed ≡ true → are_distinct (each_item change table ++ numbered claimed process) ≡ true
+distinct_numbered change table claimed process distinct new =
+    let is = new_is table claimed new in
+    subst (λ one. are_distinct (each_item change table ++ numbered one process) ≡ true) (sym is.is)
+    (distinct_push (each_item change table) is.number process (distinct_each change table ∙ distinct) (some_at_each change table is.number ∙ ap (λ found. is_some found) is.none))
+
+-- a table with each process changed, and none created
+distinct_alone : (change : ℕ → Process → Process) (table : Table) → are_distinct table ≡ true → are_distinct (each_item change table ++ []) ≡ true
+distinct_alone change table distinct = ap are_distinct (append-nil (each_item change table)) ∙ distinct_each change table ∙ distinct
+
+-- a call that is done and goes through no channel claims the value of its service
+abbrev pub ClaimsValue : Partition → ℕ → CallRecord → Request → Type 0
+ClaimsValue partition now call asked = is_done call.claim.out ≡ true → channel_of partition asked ≡ None → HasValue (answer_of now call.who partition asked).val call.claim.val
+
+-- the table of the caller's partition
+distinct_called : (partition : Partition) (now core : ℕ) (call : CallRecord) (asked : Request) (change : ℕ → Process → Process) → ClaimsValue partition now call asked
+    → are_distinct partition.table ≡ true → are_distinct (each_item change partition.table ++ created_by core call asked) ≡ true
+distinct_called partition now core call (Request.CreateProcess name priority period) change claims distinct =
+    by_test (λ more. are_distinct (each_item change partition.table ++ more) ≡ true) (is_done call.claim.out) (numbered call.claim.val (new_process core name priority period)) []
+    (λ done. distinct_numbered change partition.table call.claim.val (new_process core name priority period) distinct (claims done refl)) (λ not_done. distinct_alone change partition.table distinct)
+distinct_called partition now core call _ change claims distinct = distinct_alone change partition.table distinct
+
+-- a record's own calls claim their values
+abbrev pub CallsClaimValues : ℕ → ℕ → Body → Partition → Type 0
+CallsClaimValues number now (Call call) partition = nat_eq call.who.part number ≡ true → ClaimsValue partition now call call.request
+CallsClaimValues number now _ partition = Unit {0}
+
+-- the table of a partition after a record
+pub distinct_by : (configuration : Configuration) (cores : List CoreState) (place core number : ℕ) (body : Body) (partition : Partition) → CallsClaimValues number (time_of cores core) body partition
+    → are_distinct partition.table ≡ true → are_distinct (partition_by configuration cores place core number body partition).table ≡ true
+distinct_by configuration cores place core number (Disp who) partition claims distinct = distinct
+distinct_by configuration cores place core number (Tick woken) partition claims distinct = distinct_each (ticked place number woken) partition.table ∙ distinct
+distinct_by configuration cores place core number (Ret ret) partition claims distinct =
+    return_case (λ next. are_distinct next.table ≡ true) configuration cores place core number ret partition (distinct_each (returned ret.who.proc) partition.table ∙ distinct) distinct
+distinct_by configuration cores place core number (Call call) partition claims distinct =
+    call_case (λ next. are_distinct next.table ≡ true) configuration cores place core number call partition
+    (λ own none. distinct_called partition (time_of cores core) (first_core configuration call.who.part) call call.request
+    (called place (time_of cores core) (period_of configuration call.who.part) cores partition call) (claims own) distinct)
+    (λ own mode is. start_distinct mode (first_core configuration call.who.part) place)
+    (λ elsewhere. distinct_each _ partition.table ∙ distinct)
+
+-- if no condition holds and no channel is used, the outcome is the service's
+answered : (conditions : List Condition) (channel : Option ℕ) (answer : Answer) (suited : ℕ → Bool) (through : ℕ → Answer) (claim : Claim) → conditions ≡ [] → channel ≡ None
+    → HasOutcome conditions channel answer suited through claim → IsAnswered answer claim
+answered [] None answer suited through claim none off has = has
+answered [] (Some channel) answer suited through claim none off has = never_found (sym off)
+answered (condition ∷ conditions) channel answer suited through claim none off has = cc
+
+-- a lawful call claims the value of its service
+lawful_value : (configuration : Configuration) (state : State) (core : ℕ) (call : CallRecord) → IsLawfulCall configuration state core call
+    → ClaimsValue (state.partitions call.who.part) (time_of state.cores core) call call.request
+lawful_value configuration state core call law done off =
+    (answered _ _ _ _ _ call.claim (done_is_lawful _ _ _ _ _ call.claim law.outcome done) off law.outcome).values.val
+
+pub lawful_values : (configuration : Configuration) (state : State) (core : ℕ) (body : Body) → IsLawfulBody configuration state core body
+    → (number : ℕ) → CallsClaimValues number (time_of state.cores core) body (state.partitions number)
+lawful_values configuration state core (Call call) law number =
+    λ own. subst (λ part. ClaimsValue (state.partitions part) (time_of state.cores core) call call.request) (eqb-true call.who.part number own)
+    (lawful_value configuration state core call law)
+lawful_values configuration state core _ law number = tt

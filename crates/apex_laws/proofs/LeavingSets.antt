@@ -1,45 +1,20 @@
 -- Which processes leave the waiting sets of a partition: the target of a STOP, those named at a tick, and none at another partition's
 -- record.
-use Rattle.std.proofs.Common.{◌≡◌, ℕ, List, [], ◌∷◌, true, false, cond, nat_eq, ℤ, pos, Some, None, refl, sym, ap, subst, ◌∙◌, true≢false, ◌&&◌, ◌||◌, inl, inr}
-use Rattle.std.proofs.lemmas.Bool.{and_parts, eqb-true, cases_Bool}
-use Rattle.apex_types.specs.declared.record.Body.TheVariants.{Call, Ret}
-use Rattle.apex_types.specs.declared.record.Call.{Call as CallRecord}
-use Rattle.apex_types.specs.declared.record.Claim.{Claim}
-use Rattle.apex_types.specs.declared.record.Return.{Return}
-use Rattle.apex_types.specs.declared.record.Who.{Who}
-use Rattle.apex_types.specs.declared.operation.{ProcessOperation.ProcessOperation}
-use Rattle.apex_types.specs.declared.request.Request.{Request}
-use Rattle.apex_types.specs.declared.request.Request.TheVariants as request
-use Rattle.apex_machine.specs.declared.condition.Condition.{Condition}
-use Rattle.apex_machine.specs.declared.state.Entry.{Entry}
-use Rattle.apex_machine.specs.declared.state.Process.{Process}
-use Rattle.apex_machine.specs.declared.state.Wait.{Wait}
-use Rattle.apex_machine.specs.declared.state.Wait.TheVariants as wait
-use Rattle.apex_machine.specs.declared.state.WaitingSet.{WaitingSet}
-use Rattle.apex_machine.specs.After.{each_set, is_done, objects_by, partition_by}
-use Rattle.apex_machine.specs.Answer.{done}
-use Rattle.apex_machine.specs.Arguments.{natural_of}
-use Rattle.apex_machine.specs.Demands.{AllHold, outcome_demands}
-use Rattle.apex_machine.specs.Ports.{channel_of}
-use Rattle.apex_machine.specs.ServiceConditions.{conditions_of}
-use Rattle.apex_machine.specs.Services.{answer_of, peer}
-use Rattle.apex_machine.specs.State.{Partition, is_named, is_same, item_at, time_of, set_at, is_of_object, is_same_end, entries_at_end, with_ends, objects_of}
-use Rattle.apex_machine.specs.Waiting.{ends_wait, is_in, is_no_error, is_same_set, is_target, restart_by, restart_of, set_after, stop_of, waits_at}
-use Rattle.apex_laws.specs.Laws.{AllEntries, entries_at}
-use Rattle.apex_laws.specs.PartLaws.{DueLeave, ForeignCallsLeaveSets, HasDistinctObjects, OnlyProcessesChange, is_set_used}
-use Rattle.apex_laws.specs.PartObjects.{StoppedLeaves, left_by, with_set, without_one, at_end}
-use Rattle.apex_laws.proofs.Booleans.{cannot_hold, same_if, not_second, not_first}
+use Rattle.std.proofs.Common.{◌≡◌, ℕ, List, [], ◌∷◌, true, false, cond, nat_eq, ℤ, pos, Some, None, refl, sym, ap, subst, ◌∙◌, true≢false, ◌&&◌, ◌||◌}
+use Rattle.std.proofs.lemmas.Bool.{and_parts, eqb-true}
+use Rattle.apex_laws.proofs.Common.{AllEntries, AllHold, Call, CallRecord, Claim, Condition, DueLeave, End, Entry, ForeignCallsLeaveSets, HasDistinctObjects, OnlyProcessesChange, Partition, Process, ProcessOperation, Request, Ret, Return}
+use Rattle.apex_laws.proofs.Common.{StoppedLeaves, Wait, WaitingSet, Who, answer_of, at_end, channel_of, conditions_of, done, each_set, ends_wait, entries_at, entries_at_end, is_done, is_in, is_named, is_no_error, is_of_object, is_same}
+use Rattle.apex_laws.proofs.Common.{is_same_end, is_same_set, is_set_used, is_target, item_at, left_by, natural_of, objects_by, objects_of, outcome_demands, partition_by, peer, restart_by, restart_of, set_after, set_at, stop_of, time_of}
+use Rattle.apex_laws.proofs.Common.{waits_at, with_ends, with_set, without_one}
+use Rattle.apex_laws.proofs.Booleans.{cannot_hold, either_way, not_first, not_second, same_if}
+use Rattle.apex_laws.proofs.Objects.{Leaves, of_found, sets_stay}
+use Rattle.apex_laws.proofs.PartObjects.{enters_no_other, one_of_kind_changes}
 use Rattle.apex_laws.proofs.Restarts.{restarts_none, return_case}
-use Rattle.apex_laws.proofs.OtherSets.{enters_no_other}
-use Rattle.apex_laws.proofs.EachSet.{Leaves, sets_stay, of_found}
-use Rattle.apex_laws.proofs.PartObjects.{one_of_kind_changes}
+use Rattle.apex_laws.proofs.SetNames.{ends_agree, same_end_is, set_itself}
 use Rattle.apex_laws.proofs.SoundParts.{WaitsInSet}
 use Rattle.apex_laws.proofs.Waiters.{none_leaves, without_same}
-use Rattle.apex_laws.proofs.WaitSets.{set_itself}
 use Rattle.apex_laws.proofs.WaitersOf.{same_is}
-use Rattle.apex_laws.proofs.Woken.{created_is}
-use Rattle.apex_laws.proofs.SetNames.{ends_agree, same_end_is}
-use Rattle.apex_types.specs.declared.shape.End.{End}
+use Rattle.apex_laws.proofs.Wakes.{created_is}
 
 -- ticks
 
@@ -79,11 +54,10 @@ one_set_alone change through partition wanted has becomes leaves =
     at_each_end : (end : End) → change (set_at wanted.kind wanted.number end) (entries_at partition (set_at wanted.kind wanted.number end))
         ≡ at_end wanted.end through end (entries_at partition (set_at wanted.kind wanted.number end))
     at_each_end end =
-        elim (cases_Bool (is_same_end wanted.end end)) [
-          | inl same ↦ rw same (subst (λ one. change (set_at wanted.kind wanted.number one) (entries_at partition (set_at wanted.kind wanted.number one))
-              ≡ through (entries_at partition (set_at wanted.kind wanted.number one))) (same_end_is wanted.end end same) becomes)
-          | inr differs ↦ rw differs (leaves (set_at wanted.kind wanted.number end) (not_second (is_of_object wanted.kind wanted.number (set_at wanted.kind wanted.number end)) (is_same_end wanted.end end) differs))
-        ]
+        either_way (is_same_end wanted.end end)
+        (λ same. rw same (subst (λ one. change (set_at wanted.kind wanted.number one) (entries_at partition (set_at wanted.kind wanted.number one))
+        ≡ through (entries_at partition (set_at wanted.kind wanted.number one))) (same_end_is wanted.end end same) becomes))
+        (λ differs. rw differs (leaves (set_at wanted.kind wanted.number end) (not_second (is_of_object wanted.kind wanted.number (set_at wanted.kind wanted.number end)) (is_same_end wanted.end end) differs)))
 
 -- a STOP that is done
 
@@ -93,7 +67,7 @@ stop_names [] number asked claim hold who = hold.1.1.1.1.0 who
 stop_names (condition ∷ conditions) number asked claim hold who = ap (is_named who) hold.1.1.1.1.0
 
 -- it ends the wait of its target alone
-stop_ends : (call : CallRecord) (process : ℤ) (number : ℕ) (who : Who) → process ≡ pos number → call.request ≡ request.Process process ProcessOperation.Stop → is_no_error call.claim.out ≡ true
+stop_ends : (call : CallRecord) (process : ℤ) (number : ℕ) (who : Who) → process ≡ pos number → call.request ≡ Request.Process process ProcessOperation.Stop → is_no_error call.claim.out ≡ true
     → is_named who call.claim.woken ≡ false → ends_wait call who ≡ is_same who (peer call.who process)
 stop_ends call process number who at asked no_error not_named =
     let stopped : (nat_eq who.part call.who.part && is_target (Some process) who.proc) ≡ is_same who (peer call.who process) =
@@ -115,7 +89,7 @@ stays_without number partition wanted who process at off entries all =
 pub one_leaves : (change : WaitingSet → List Entry → List Entry) (partition : Partition) (who : Who) (one : Wait) → HasDistinctObjects partition
     → ((wanted : WaitingSet) → is_in wanted one ≡ true → change wanted (entries_at partition wanted) ≡ without_one who (entries_at partition wanted))
     → ((wanted : WaitingSet) → is_in wanted one ≡ false → Leaves change partition wanted) → each_set change partition ≡ left_by who one partition
-one_leaves change partition who (wait.At wanted due) has becomes leaves =
+one_leaves change partition who (Wait.At wanted due) has becomes leaves =
     one_set_alone change (without_one who) partition wanted has (becomes wanted (set_itself wanted)) leaves
 one_leaves change partition who _ has becomes leaves = sets_stay change partition has (λ wanted off. leaves wanted refl)
 
@@ -127,7 +101,7 @@ stopped_leaves configuration number place core cores partition call is process a
     let own = subst (λ one. AllHold (outcome_demands (conditions_of configuration call.who partition one) (channel_of partition one) number one
     (answer_of (time_of cores core) call.who partition one) call.claim)) asked is.demands.1.1.1.1.1 in
     let ends : (other : Who) → ends_wait call other ≡ is_same other who =
-    λ other. stop_ends call process at.0 other at.1 asked no_error (stop_names (conditions_of configuration call.who partition (request.Process process ProcessOperation.Stop)) number (request.Process process ProcessOperation.Stop) call.claim own other) in
+    λ other. stop_ends call process at.0 other at.1 asked no_error (stop_names (conditions_of configuration call.who partition (Request.Process process ProcessOperation.Stop)) number (Request.Process process ProcessOperation.Stop) call.claim own other) in
     let becomes : (wanted : WaitingSet) → change wanted (entries_at partition wanted) ≡ without_one who (entries_at partition wanted) =
     λ wanted. (let off = enters_no_other call wanted (ap (λ one. is_set_used one wanted) asked) in
     rw off (without_same (ends_wait call) (λ other. is_same other who) ends (entries_at partition wanted))) in

@@ -1,47 +1,34 @@
 -- Processes and objects by their numbers: what is found under a number, and which numbers are new.
-use Rattle.std.proofs.Common.{◌≡◌, ℕ, ◌<◌, ◌≤◌, ℤ, pos, negsuc, List, [], ◌∷◌, Option, Some, None, Bool, true, ◌&&◌, nat_eq, nat_le, nat_lt, is_none, cond, refl, sym, ap, subst, ◌∙◌, inl, inr, true≢false}
+use Rattle.std.proofs.Common.{◌≡◌, ℕ, ◌<◌, ◌≤◌, ℤ, pos, negsuc, List, [], ◌∷◌, Option, Some, None, Bool, nat_eq, is_none, refl, sym, ap, subst, ◌∙◌, inl, inr, true≢false}
+use Rattle.std.proofs.lemmas.Bool.{eqb-true}
+use Rattle.std.proofs.lemmas.List.Elements.{All-contains}
+use Rattle.std.proofs.lemmas.Slice.Eq.{bytes_eq-Decides}
 use Rattle.std.specs.Prelude.{Contains}
 use Rattle.std.specs.Str.{bytes_eq}
-use Rattle.std.proofs.lemmas.Slice.Eq.{bytes_eq-Decides}
-use Rattle.std.proofs.lemmas.Bool.{cases_Bool, eqb-true}
-use Rattle.std.proofs.lemmas.List.Elements.{All-contains, Contains-append_left, Contains-append_right, Contains-push}
-use Rattle.apex_types.specs.declared.limits.TheConstants.{GREATEST_NUMBER}
-use Rattle.apex_machine.specs.Answer.{is_new}
-use Rattle.apex_machine.specs.State.{Blackboard, Buffer, Event, Mutex, Port, Semaphore, Table, is_free, item_at}
-use Rattle.apex_machine.specs.Names.{number_named}
 use Rattle.apex_laws.specs.NumberLaws.{AreFound, AreFoundByName, AreNew, IsNewNumber, NamesAreFound, NewNumberIsTheSentence, ObjectsAreFound, ProcessesAreFound}
-use Rattle.apex_laws.proofs.Booleans.{is_itself}
-use Rattle.apex_laws.proofs.ConditionTests.{Tells, absent, at_most_tells, below_tells, nobody, nothing_named_tells, member_cases, member_nowhere, tells_both}
-use Rattle.apex_laws.proofs.Entries.{at_its_number}
+use Rattle.apex_laws.proofs.Common.{Blackboard, Buffer, Event, GREATEST_NUMBER, Mutex, Port, Semaphore, is_free, is_new, item_at, number_named}
+use Rattle.apex_laws.proofs.Booleans.{either_way, impossible, is_itself, member_first, member_later, never_found, one_item}
+use Rattle.apex_laws.proofs.Choices.{at_its_number}
+use Rattle.apex_laws.proofs.ConditionTests.{at_most_tells, below_tells, member_cases, member_nowhere, nobody, none_tells, nothing_named_tells, Tells, tells_both}
 
 -- what is found is in the list under its number
 found_object : {Object : Type 0} → (objects : List (ℕ × Object)) (number : ℕ) (object : Object) → item_at objects number ≡ Some object → Contains objects (number, object)
-found_object [] number object at = absurd (absent object at)
+found_object [] number object at = never_found at
 found_object {Object} (entry ∷ entries) number object at =
-    elim (cases_Bool (nat_eq number entry.0)) [
-      | inl here ↦
-          let is : ◌≡◌ {A = Option Object} (Some entry.1) (Some object) = (let one : item_at (entry ∷ entries) number ≡ Some entry.1 = rw here refl in sym one ∙ at) in
-          let same : entry.1 ≡ object = cc in
-          let one : ◌≡◌ {A = ℕ × Object} entry (number, object) = (let key : entry.0 ≡ number = sym (eqb-true number entry.0 here) in λ i. (key i, same i)) in
-          subst (Contains (entry ∷ entries)) one (Contains-append_left (entry ∷ []) entries entry (Contains-push [] entry))
-      | inr other ↦
-          let later : item_at entries number ≡ Some object = (let one : item_at (entry ∷ entries) number ≡ item_at entries number = rw other refl in sym one ∙ at) in
-          Contains-append_right (entry ∷ []) entries (number, object) (found_object entries number object later)
-    ]
+    either_way (nat_eq number entry.0)
+    (λ here. (let key : entry.0 ≡ number = sym (eqb-true number entry.0 here) in let item : entry.1 ≡ object = one_item (rw here at at) in
+    let one : ◌≡◌ {A = ℕ × Object} entry (number, object) = λ i. (key i, item i) in subst (Contains (entry ∷ entries)) one (member_first entry entries)))
+    (λ other. member_later entry (number, object) entries (found_object entries number object (rw other at at)))
 
 -- if nothing is found, there is nothing
 nothing_is_there : {Object : Type 0} → (objects : List (ℕ × Object)) (number : ℕ) → item_at objects number ≡ None → (object : Object) → ¬ Contains objects (number, object)
 nothing_is_there [] number none object is_member = member_nowhere (number, object) is_member
-nothing_is_there {Object} (entry ∷ entries) number none object is_member =
-    elim (cases_Bool (nat_eq number entry.0)) [
-      | inl here ↦ absent entry.1 (let one : item_at (entry ∷ entries) number ≡ Some entry.1 = rw here refl in sym none ∙ one)
-      | inr other ↦
-          let later : item_at entries number ≡ None = (let one : item_at (entry ∷ entries) number ≡ item_at entries number = rw other refl in sym one ∙ none) in
-          elim (member_cases entry (number, object) entries is_member) [
-            | inl same ↦ true≢false (sym (ap (λ one. nat_eq number one.0) (sym same) ∙ is_itself number) ∙ other)
-            | inr there ↦ nothing_is_there entries number later object there
-          ]
-    ]
+nothing_is_there (entry ∷ entries) number none object is_member =
+    either_way (nat_eq number entry.0) (λ here. never_found (sym (rw here at none)))
+    (λ other. elim (member_cases entry (number, object) entries is_member) [
+      | inl same ↦ true≢false (sym (ap (λ one. nat_eq number one.0) (sym same) ∙ is_itself number) ∙ other)
+      | inr there ↦ nothing_is_there entries number (rw other at none) object there
+    ])
 
 none_is_there : {Object : Type 0} → (objects : List (ℕ × Object)) (number : ℕ) → ((object : Object) → ¬ Contains objects (number, object)) → item_at objects number ≡ None
 none_is_there {Object} objects number none = nobody (item_at objects number) (λ object at. none object (found_object objects number object at))
@@ -62,33 +49,18 @@ objects_are_found = record {
 -- what is found by name has the name
 one_by_name : {Object : Type 0} → (name_of : Object → List ℕ) (objects : List (ℕ × Object)) (name : List ℕ) (number : ℕ) → number_named name_of name objects ≡ Some number
     → (object : Object) × Contains objects (number, object) × (name_of object ≡ name)
-one_by_name name_of [] name number at = absurd (absent number at)
+one_by_name name_of [] name number at = never_found at
 one_by_name {Object} name_of (entry ∷ entries) name number at =
-    elim (cases_Bool (bytes_eq name (name_of entry.1))) [
-      | inl here ↦
-          let is : ◌≡◌ {A = Option ℕ} (Some entry.0) (Some number) = (let one : number_named name_of name (entry ∷ entries) ≡ Some entry.0 = rw here refl in sym one ∙ at) in
-          let same : entry.0 ≡ number = cc in
-          let one : ◌≡◌ {A = ℕ × Object} entry (number, entry.1) = λ i. (same i, entry.1) in (
-            entry.1,
-            subst (Contains (entry ∷ entries)) one (Contains-append_left (entry ∷ []) entries entry (Contains-push [] entry)),
-            sym ((bytes_eq-Decides name (name_of entry.1)).0 here),
-          )
-      | inr other ↦
-          let later : number_named name_of name entries ≡ Some number =
-          (let one : number_named name_of name (entry ∷ entries) ≡ number_named name_of name entries = rw other refl in sym one ∙ at) in
-          let found = one_by_name name_of entries name number later in
-          (found.0, Contains-append_right (entry ∷ []) entries (number, found.0) found.1, found.2)
-    ]
-
--- a test of nothing
-none_is : (found : Option ℕ) → is_none found ≡ true → found ≡ None
-none_is None is = refl
-none_is (Some number) is = absurd (true≢false (sym is))
+    either_way (bytes_eq name (name_of entry.1))
+    (λ here. (let same : entry.0 ≡ number = one_item (rw here at at) in
+    let one : ◌≡◌ {A = ℕ × Object} entry (number, entry.1) = λ i. (same i, entry.1) in
+    (entry.1, subst (Contains (entry ∷ entries)) one (member_first entry entries), sym ((bytes_eq-Decides name (name_of entry.1)).0 here))))
+    (λ other. (let found = one_by_name name_of entries name number (rw other at at) in (found.0, member_later entry (number, found.0) entries found.1, found.2)))
 
 found_by_name : {Object : Type 0} → (name_of : Object → List ℕ) → AreFoundByName name_of
 found_by_name name_of objects name = (
   one_by_name name_of objects name,
-  (λ none. (nothing_named_tells name_of name objects).0 (ap is_none none), λ unnamed. none_is (number_named name_of name objects) ((nothing_named_tells name_of name objects).1 unnamed)),
+  (λ none. (nothing_named_tells name_of name objects).0 (ap is_none none), λ unnamed. (none_tells (number_named name_of name objects)).0 ((nothing_named_tells name_of name objects).1 unnamed)),
 )
 
 pub names_are_found : NamesAreFound
@@ -101,42 +73,27 @@ names_are_found = record {
   ports = found_by_name (λ (port : Port). port.name);
 }
 
--- a process is found as an object of its table is
-as_object : (table : Table) (number : ℕ) → item_at table number ≡ item_at table number
-as_object [] number = refl
-as_object (entry ∷ entries) number = ap (λ rest. cond (nat_eq number entry.0) (Some entry.1) rest) (as_object entries number)
-
 pub processes_are_found : ProcessesAreFound
 processes_are_found table number = (
   λ distinct process. (
-    λ at. found_object table number process (sym (as_object table number) ∙ at),
+    found_object table number process,
     λ is_member. All-contains (λ entry. item_at table entry.0 ≡ Some entry.1) table (number, process) (at_its_number table distinct) is_member,
   ),
-  (
-    λ none. nothing_is_there table number (sym (as_object table number) ∙ none),
-    λ none. as_object table number ∙ none_is_there table number none,
-  ),
+  (nothing_is_there table number, none_is_there table number),
 )
 
 -- a new number, if a test decides which numbers are free
 new_tells : {Object : Type 0} → (objects : List (ℕ × Object)) (is_free : ℕ → Bool) → ((number : ℕ) → Tells (is_free number) ((object : Object) → ¬ Contains objects (number, object)))
     → (claimed : Option ℤ) → Tells (is_new is_free claimed) (IsNewNumber objects claimed)
-new_tells objects is_free tells None = (λ holds. absurd (true≢false (sym holds)), λ fact. absurd (absent (pos fact.number) fact.is))
-new_tells objects is_free tells (Some (negsuc n)) =
-    (λ holds. absurd (true≢false (sym holds)), λ fact. let one : ◌≡◌ {A = Option ℤ} (Some (negsuc n)) (Some (pos fact.number)) = fact.is in cc)
+new_tells objects is_free tells None = (impossible, λ fact. never_found fact.is)
+new_tells objects is_free tells (Some (negsuc n)) = (impossible, λ fact. let one : ◌≡◌ {A = ℤ} (negsuc n) (pos fact.number) = one_item fact.is in cc)
 new_tells {Object} objects is_free tells (Some (pos n)) =
-    let all = tells_both (nat_lt 0 n) (nat_le n GREATEST_NUMBER && is_free n) (0 < n) ((n ≤ GREATEST_NUMBER) × ((object : Object) → ¬ Contains objects (n, object)))
-    (below_tells 0 n)
-    (tells_both (nat_le n GREATEST_NUMBER) (is_free n) (n ≤ GREATEST_NUMBER) ((object : Object) → ¬ Contains objects (n, object)) (at_most_tells n GREATEST_NUMBER) (tells n)) in (
+    let all = tells_both (below_tells 0 n) (tells_both (at_most_tells n GREATEST_NUMBER) (tells n)) in (
       λ holds. let facts = all.0 holds in record { number = n; is = refl; least = facts.0; greatest = facts.1.0; free = facts.1.1 },
-      λ fact. let same : fact.number ≡ n = (let one : ◌≡◌ {A = Option ℤ} (Some (pos n)) (Some (pos fact.number)) = fact.is in cc) in
+      λ fact. let one : ◌≡◌ {A = ℤ} (pos n) (pos fact.number) = one_item fact.is in
+          let same : fact.number ≡ n = cc in
           all.1 (subst (λ one. 0 < one) same fact.least, (subst (λ one. one ≤ GREATEST_NUMBER) same fact.greatest, subst (λ one. (object : Object) → ¬ Contains objects (one, object)) same fact.free)),
     )
-
--- nothing is found
-none_tells : {X : Type 0} → (found : Option X) → Tells (is_none found) (found ≡ None)
-none_tells None = (λ holds. refl, λ fact. refl)
-none_tells (Some x) = (λ holds. absurd (true≢false (sym holds)), λ fact. absurd (absent x (sym fact)))
 
 are_new : (Object : Type 0) → AreNew Object
 are_new Object objects claimed =

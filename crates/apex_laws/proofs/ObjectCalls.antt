@@ -1,34 +1,19 @@
 -- The services of objects use and change exactly the object that they name, by the sentences of its rule.
 use Rattle.std.proofs.Common.{◌≡◌, ℕ, List, [], ◌++◌, Bool, false, cond, not, nat_eq, nat_lt, ℤ, pos, negsuc, Option, Some, None, option_map, refl, sym, ap, subst, ◌∙◌}
 use Rattle.std.proofs.lemmas.Bool.{eqb-true}
-use Rattle.apex_types.specs.declared.object_kind.ObjectKind.TheVariants as kind
-use Rattle.apex_types.specs.declared.record.Who.{Who}
-use Rattle.apex_types.specs.declared.operation.{BlackboardOperation.BlackboardOperation, BufferOperation.BufferOperation, EventOperation.EventOperation, MutexOperation.MutexOperation, NewObject.NewObject, SamplingOperation.SamplingOperation, SemaphoreOperation.SemaphoreOperation}
-use Rattle.apex_types.specs.declared.operation.ObjectOperation.TheVariants as on
-use Rattle.apex_types.specs.declared.request.Request.TheVariants as request
-use Rattle.apex_types.specs.declared.shape.End.TheVariants.{Senders, Receivers}
-use Rattle.apex_machine.specs.declared.condition.Condition.{Condition}
-use Rattle.apex_machine.specs.declared.condition.Condition.TheVariants as condition
-use Rattle.apex_machine.specs.declared.state.Entry.{Entry}
-use Rattle.apex_machine.specs.After.{is_valid, new_blackboard, new_buffer, new_event, new_mutex, new_queuing_port, new_sampling_port, new_semaphore, numbered, numbered_if}
-use Rattle.apex_machine.specs.Answer.{Answer, Effect, NewNumber, done_with}
-use Rattle.apex_machine.specs.Arguments.{is_length, is_longer, natural_of}
-use Rattle.apex_machine.specs.Channels.{QueuingPort, SamplingPort, queuing_port, sampling_port}
-use Rattle.apex_machine.specs.ObjectConditions.{acquire_conditions, message_conditions, object_conditions, owns_another}
-use Rattle.apex_machine.specs.PortConditions.{is_queuing_port, is_sampling_port}
-use Rattle.apex_machine.specs.Conditions.{conditions_for, of_caller, time_out_conditions, waiting_conditions, when}
-use Rattle.apex_machine.specs.Objects.{acquired, board_read, buffer_received, buffer_sent, cleared, displayed, event_reset, event_set, event_waited, is_owner, mutex_released, semaphore_waited, signalled}
-use Rattle.apex_machine.specs.Services.{answer_by}
-use Rattle.apex_machine.specs.State.{Blackboard, Buffer, Event, Mutex, Partition, Port, Semaphore, change_at, given_object, is_free, item_at, set_at}
-use Rattle.apex_machine.specs.Waiting.{first_waiter}
 use Rattle.apex_laws.specs.CallSentences.{Creates, OneBecomes, Operates}
-use Rattle.apex_laws.specs.ObjectSentences.{IsClearing, IsReleasing, IsResetting}
-use Rattle.apex_laws.specs.Laws.{entries_in, entries_of}
-use Rattle.apex_laws.specs.ObjectLaws.{AreApart, ObjectCallIsTheSentence}
+use Rattle.apex_types.specs.declared.object_kind.ObjectKind.TheVariants as kind
+use Rattle.apex_types.specs.declared.operation.ObjectOperation.TheVariants as on
+use Rattle.apex_laws.proofs.Common.{Answer, AreApart, Blackboard, BlackboardOperation, Buffer, BufferOperation, Condition, Effect, Event, EventOperation, IsClearing, IsReleasing, IsResetting, Mutex, MutexOperation, NewNumber, NewObject}
+use Rattle.apex_laws.proofs.Common.{ObjectCallIsTheSentence, Partition, Port, QueuingPort, Receivers, Request, SamplingOperation, SamplingPort, Semaphore, SemaphoreOperation, Senders, Who, acquire_conditions, acquired, answer_by, board_read}
+use Rattle.apex_laws.proofs.Common.{buffer_received, buffer_sent, change_at, cleared, conditions_for, displayed, done_with, event_reset, event_set, event_waited, first_waiter, given_object, is_free, is_length, is_longer, is_owner}
+use Rattle.apex_laws.proofs.Common.{is_queuing_port, is_sampling_port, is_valid, item_at, message_conditions, mutex_released, natural_of, new_blackboard, new_buffer, new_event, new_mutex, new_queuing_port, new_sampling_port, new_semaphore}
+use Rattle.apex_laws.proofs.Common.{numbered, numbered_if, object_conditions, of_caller, owns_another, queuing_port, sampling_port, semaphore_waited, set_at, signalled, time_out_conditions, waiting_conditions, when}
 use Rattle.apex_laws.proofs.Booleans.{cannot_hold, is_itself}
 use Rattle.apex_laws.proofs.Ends.{first_empty, is_created, second_empty}
 use Rattle.apex_laws.proofs.ObjectRules.{blackboard_is_the_sentence, event_is_the_sentence, mutex_is_the_sentence, queue_is_the_sentence, semaphore_is_the_sentence}
 use Rattle.apex_laws.proofs.Tables.{at_each, at_others, at_pushed}
+use Rattle.apex_laws.proofs.Wakes.{given_entries}
 
 -- one object changes
 
@@ -98,8 +83,8 @@ mapped_there size_of (Some object) size is = (object, refl)
 
 pub message_there : {Object : Type 0} (size_of : Object → ℕ) (found : Option Object) (length : ℤ) → message_conditions (option_map size_of found) length ≡ [] → (object : Object) × (found ≡ Some object)
 message_there size_of found length none =
-    let is = is_created (option_map size_of found) (λ greatest. when (is_longer greatest length) condition.LongerThanObject)
-    (first_empty (conditions_for (option_map size_of found) (λ greatest. when (is_longer greatest length) condition.LongerThanObject)) (when (not (is_length length)) condition.EmptyMessage) none) in
+    let is = is_created (option_map size_of found) (λ greatest. when (is_longer greatest length) Condition.LongerThanObject)
+    (first_empty (conditions_for (option_map size_of found) (λ greatest. when (is_longer greatest length) Condition.LongerThanObject)) (when (not (is_length length)) Condition.EmptyMessage) none) in
     mapped_there size_of found is.0 is.1
 
 lone_there : {Object : Type 0} (found : Option Object) → conditions_for found (λ object. []) ≡ [] → (object : Object) × (found ≡ Some object)
@@ -108,33 +93,27 @@ lone_there found none = let is = is_created found (λ object. []) none in (is.0,
 -- the mutex to be acquired is created, if no condition holds
 pub mutex_there : (who : Who) (partition : Partition) (mutex time_out : ℤ) → acquire_conditions who partition mutex time_out ≡ [] → (found : Mutex) × (given_object partition.mutexes mutex ≡ Some found)
 mutex_there who partition mutex time_out none =
-    let conditions : Mutex → List Condition = λ found. when (of_caller (λ process. nat_lt found.priority process.current_priority) (item_at partition.table who.proc)) condition.AboveCeiling in
+    let conditions : Mutex → List Condition = λ found. when (of_caller (λ process. nat_lt found.priority process.current_priority) (item_at partition.table who.proc)) Condition.AboveCeiling in
     let found_conditions = conditions_for (given_object partition.mutexes mutex) conditions in
     let second = found_conditions ++ time_out_conditions time_out in
-    let third = second ++ when (nat_eq who.proc 0) condition.InitialisingCaller in
+    let third = second ++ when (nat_eq who.proc 0) Condition.InitialisingCaller in
     let is = is_created (given_object partition.mutexes mutex) conditions
-    (first_empty found_conditions (time_out_conditions time_out) (first_empty second (when (nat_eq who.proc 0) condition.InitialisingCaller) (first_empty third (when (owns_another partition.mutexes mutex who.proc) condition.OwnsAnother) none))) in
+    (first_empty found_conditions (time_out_conditions time_out) (first_empty second (when (nat_eq who.proc 0) Condition.InitialisingCaller) (first_empty third (when (owns_another partition.mutexes mutex who.proc) Condition.OwnsAnother) none))) in
     (is.0, is.1)
 
--- the sets of an object that is there are apart
-given_entries : {Object : Type 0} (entries_of : Object → List Entry) (objects : List (ℕ × Object)) (given : ℤ) (found : Object) → given_object objects given ≡ Some found
-    → AreApart (entries_in entries_of (item_at objects (natural_of given))) → AreApart (entries_of found)
-given_entries entries_of objects (pos number) found at apart = subst (λ one. AreApart (entries_in entries_of one)) at apart
-given_entries entries_of objects (negsuc n) found at apart = cc
-
 -- a port that is configured
-sampling_there : (found : Option SamplingPort) (size direction refresh : ℤ) → when (not (is_sampling_port found size direction refresh)) condition.NotAsConfigured ≡ [] → (port : SamplingPort) × (found ≡ Some port)
+sampling_there : (found : Option SamplingPort) (size direction refresh : ℤ) → when (not (is_sampling_port found size direction refresh)) Condition.NotAsConfigured ≡ [] → (port : SamplingPort) × (found ≡ Some port)
 sampling_there None size direction refresh none = cc
 sampling_there (Some port) size direction refresh none = (port, refl)
 
-queuing_there : (found : Option QueuingPort) (size capacity way order : ℤ) → when (not (is_queuing_port found size capacity way order)) condition.NotAsConfigured ≡ [] → (port : QueuingPort) × (found ≡ Some port)
+queuing_there : (found : Option QueuingPort) (size capacity way order : ℤ) → when (not (is_queuing_port found size capacity way order)) Condition.NotAsConfigured ≡ [] → (port : QueuingPort) × (found ≡ Some port)
 queuing_there None size capacity way order none = cc
 queuing_there (Some port) size capacity way order none = (port, refl)
 
 pub object_call_is_the_sentence : ObjectCallIsTheSentence
-object_call_is_the_sentence configuration now who claimed (request.Create name (NewObject.Buffer size capacity discipline)) partition apart none =
+object_call_is_the_sentence configuration now who claimed (Request.Create name (NewObject.Buffer size capacity discipline)) partition apart none =
     (refl, creates partition.buffers claimed (new_buffer name size capacity discipline))
-object_call_is_the_sentence configuration now who claimed (request.Object buffer (on.Buffer (BufferOperation.Send length time_out message))) partition apart none =
+object_call_is_the_sentence configuration now who claimed (Request.Object buffer (on.Buffer (BufferOperation.Send length time_out message))) partition apart none =
     let first = first_empty (message_conditions (option_map (λ (found : Buffer). found.size) (given_object partition.buffers buffer)) length) (time_out_conditions time_out)
     (first_empty (message_conditions (option_map (λ (found : Buffer). found.size) (given_object partition.buffers buffer)) length ++ time_out_conditions time_out) (waiting_conditions who partition time_out) none) in
     let there = message_there (λ (found : Buffer). found.size) (given_object partition.buffers buffer) length first in
@@ -142,80 +121,80 @@ object_call_is_the_sentence configuration now who claimed (request.Object buffer
       refl,
       operates partition.buffers buffer found there.1 _ (λ one messages. record one { messages = messages }) (buffer_sent message time_out)
           ((queue_is_the_sentence.0 found.capacity message time_out found.discipline found.receivers found.messages (buffer_sent message time_out found)
-          (given_entries (λ (one : Buffer). one.receivers) partition.buffers buffer found there.1 (apart (set_at kind.Buffer (natural_of buffer) Receivers)))).0 refl),
+          (given_entries AreApart (λ (one : Buffer). one.receivers) partition.buffers buffer found there.1 (apart (set_at kind.Buffer (natural_of buffer) Receivers)))).0 refl),
     )
-object_call_is_the_sentence configuration now who claimed (request.Object buffer (on.Buffer (BufferOperation.Receive time_out))) partition apart none =
+object_call_is_the_sentence configuration now who claimed (Request.Object buffer (on.Buffer (BufferOperation.Receive time_out))) partition apart none =
     let there = object_there who partition (given_object partition.buffers buffer) time_out none in
     let found : Buffer = there.0 in (
       refl,
       operates partition.buffers buffer found there.1 _ (λ one messages. record one { messages = messages }) (buffer_received time_out)
           ((queue_is_the_sentence.1 time_out found.discipline found.senders found.messages (buffer_received time_out found)
-          (given_entries (λ (one : Buffer). one.senders) partition.buffers buffer found there.1 (apart (set_at kind.Buffer (natural_of buffer) Senders)))).0 refl),
+          (given_entries AreApart (λ (one : Buffer). one.senders) partition.buffers buffer found there.1 (apart (set_at kind.Buffer (natural_of buffer) Senders)))).0 refl),
     )
-object_call_is_the_sentence configuration now who claimed (request.Create name (NewObject.Blackboard size)) partition apart none =
+object_call_is_the_sentence configuration now who claimed (Request.Create name (NewObject.Blackboard size)) partition apart none =
     (refl, creates partition.blackboards claimed (new_blackboard name size))
-object_call_is_the_sentence configuration now who claimed (request.Object blackboard (on.Blackboard (BlackboardOperation.Display length message))) partition apart none =
+object_call_is_the_sentence configuration now who claimed (Request.Object blackboard (on.Blackboard (BlackboardOperation.Display length message))) partition apart none =
     let there = message_there (λ (found : Blackboard). found.size) (given_object partition.blackboards blackboard) length none in
     (refl, operates partition.blackboards blackboard there.0 there.1 _ (λ one message. record one { message = message }) (λ found. displayed message found.readers) refl)
-object_call_is_the_sentence configuration now who claimed (request.Object blackboard (on.Blackboard (BlackboardOperation.Read time_out))) partition apart none =
+object_call_is_the_sentence configuration now who claimed (Request.Object blackboard (on.Blackboard (BlackboardOperation.Read time_out))) partition apart none =
     let there = object_there who partition (given_object partition.blackboards blackboard) time_out none in
     let found : Blackboard = there.0 in (
       refl,
       operates partition.blackboards blackboard found there.1 _ (λ one message. record one { message = message }) (λ found. board_read time_out found.message)
           ((blackboard_is_the_sentence.1 time_out found.message (board_read time_out found.message)).0 refl),
     )
-object_call_is_the_sentence configuration now who claimed (request.Object blackboard (on.Blackboard BlackboardOperation.Clear)) partition apart none =
+object_call_is_the_sentence configuration now who claimed (Request.Object blackboard (on.Blackboard BlackboardOperation.Clear)) partition apart none =
     let there = lone_there (given_object partition.blackboards blackboard) none in
     (refl, operates partition.blackboards blackboard there.0 there.1 (λ found effect. IsClearing effect) (λ one message. record one { message = message }) (λ found. cleared) refl)
-object_call_is_the_sentence configuration now who claimed (request.Create name (NewObject.Semaphore value maximum discipline)) partition apart none =
+object_call_is_the_sentence configuration now who claimed (Request.Create name (NewObject.Semaphore value maximum discipline)) partition apart none =
     (refl, creates partition.semaphores claimed (new_semaphore name value maximum discipline))
-object_call_is_the_sentence configuration now who claimed (request.Object semaphore (on.Semaphore (SemaphoreOperation.Wait time_out))) partition apart none =
+object_call_is_the_sentence configuration now who claimed (Request.Object semaphore (on.Semaphore (SemaphoreOperation.Wait time_out))) partition apart none =
     let there = object_there who partition (given_object partition.semaphores semaphore) time_out none in
     let found : Semaphore = there.0 in (
       refl,
       operates partition.semaphores semaphore found there.1 _ (λ one value. record one { value = value }) (λ found. semaphore_waited time_out found.value)
           ((semaphore_is_the_sentence.0 time_out found.value (semaphore_waited time_out found.value)).0 refl),
     )
-object_call_is_the_sentence configuration now who claimed (request.Object semaphore (on.Semaphore SemaphoreOperation.Signal)) partition apart none =
+object_call_is_the_sentence configuration now who claimed (Request.Object semaphore (on.Semaphore SemaphoreOperation.Signal)) partition apart none =
     let there = lone_there (given_object partition.semaphores semaphore) none in
     let found : Semaphore = there.0 in (
       refl,
       operates partition.semaphores semaphore found there.1 _ (λ one value. record one { value = value }) (λ found. signalled found.maximum (first_waiter found.discipline found.waiters) found.value)
           ((semaphore_is_the_sentence.1 found.maximum found.discipline found.waiters found.value (signalled found.maximum (first_waiter found.discipline found.waiters) found.value)
-          (given_entries (λ (one : Semaphore). one.waiters) partition.semaphores semaphore found there.1 (apart (set_at kind.Semaphore (natural_of semaphore) Receivers)))).0 refl),
+          (given_entries AreApart (λ (one : Semaphore). one.waiters) partition.semaphores semaphore found there.1 (apart (set_at kind.Semaphore (natural_of semaphore) Receivers)))).0 refl),
     )
-object_call_is_the_sentence configuration now who claimed (request.Create name NewObject.Event) partition apart none = (refl, creates partition.events claimed (new_event name))
-object_call_is_the_sentence configuration now who claimed (request.Object event (on.Event EventOperation.Set)) partition apart none =
+object_call_is_the_sentence configuration now who claimed (Request.Create name NewObject.Event) partition apart none = (refl, creates partition.events claimed (new_event name))
+object_call_is_the_sentence configuration now who claimed (Request.Object event (on.Event EventOperation.Set)) partition apart none =
     let there = lone_there (given_object partition.events event) none in
     (refl, operates partition.events event there.0 there.1 _ (λ one up. record one { up = up }) (λ found. event_set found.waiters) refl)
-object_call_is_the_sentence configuration now who claimed (request.Object event (on.Event EventOperation.Reset)) partition apart none =
+object_call_is_the_sentence configuration now who claimed (Request.Object event (on.Event EventOperation.Reset)) partition apart none =
     let there = lone_there (given_object partition.events event) none in
     (refl, operates partition.events event there.0 there.1 (λ found effect. IsResetting effect) (λ one up. record one { up = up }) (λ found. event_reset) refl)
-object_call_is_the_sentence configuration now who claimed (request.Object event (on.Event (EventOperation.Wait time_out))) partition apart none =
+object_call_is_the_sentence configuration now who claimed (Request.Object event (on.Event (EventOperation.Wait time_out))) partition apart none =
     let there = object_there who partition (given_object partition.events event) time_out none in
     let found : Event = there.0 in (
       refl,
       operates partition.events event found there.1 _ (λ one up. record one { up = up }) (λ found. event_waited time_out found.up)
           ((event_is_the_sentence.2 time_out found.up (event_waited time_out found.up)).0 refl),
     )
-object_call_is_the_sentence configuration now who claimed (request.Create name (NewObject.Mutex priority discipline)) partition apart none =
+object_call_is_the_sentence configuration now who claimed (Request.Create name (NewObject.Mutex priority discipline)) partition apart none =
     (refl, creates partition.mutexes claimed (new_mutex name priority discipline))
-object_call_is_the_sentence configuration now who claimed (request.Object mutex (on.Mutex (MutexOperation.Acquire time_out))) partition apart none =
+object_call_is_the_sentence configuration now who claimed (Request.Object mutex (on.Mutex (MutexOperation.Acquire time_out))) partition apart none =
     let there = mutex_there who partition mutex time_out none in
     let found : Mutex = there.0 in (
       refl,
       operates partition.mutexes mutex found there.1 _ (λ one changed. changed) (acquired who.proc time_out)
           ((mutex_is_the_sentence.0 who.proc time_out found (acquired who.proc time_out found)).0 refl),
     )
-object_call_is_the_sentence configuration now who claimed (request.Object mutex (on.Mutex MutexOperation.Release)) partition apart none =
-    let there = is_created (given_object partition.mutexes mutex) (λ found. when (not (is_owner found.owner who.proc)) condition.NotOwner) none in
+object_call_is_the_sentence configuration now who claimed (Request.Object mutex (on.Mutex MutexOperation.Release)) partition apart none =
+    let there = is_created (given_object partition.mutexes mutex) (λ found. when (not (is_owner found.owner who.proc)) Condition.NotOwner) none in
     let found : Mutex = there.0 in (
       refl,
       operates partition.mutexes mutex found there.1 (λ found effect. IsReleasing found effect) (λ one changed. changed) (λ found. mutex_released (first_waiter found.discipline found.waiters) found)
           ((mutex_is_the_sentence.1 found (mutex_released (first_waiter found.discipline found.waiters) found)
-          (given_entries (λ (one : Mutex). one.waiters) partition.mutexes mutex found there.1 (apart (set_at kind.Mutex (natural_of mutex) Receivers)))).0 refl),
+          (given_entries AreApart (λ (one : Mutex). one.waiters) partition.mutexes mutex found there.1 (apart (set_at kind.Mutex (natural_of mutex) Receivers)))).0 refl),
     )
-object_call_is_the_sentence configuration now who claimed (request.Create name (NewObject.SamplingPort size direction refresh)) partition apart none =
+object_call_is_the_sentence configuration now who claimed (Request.Create name (NewObject.SamplingPort size direction refresh)) partition apart none =
     let there = sampling_there (sampling_port configuration who.part name) size direction refresh (second_empty _ _ none) in
     let port : SamplingPort = there.0 in
     let new : Port = record { name = name; size = port.size; direction = port.direction; channel = port.channel; valid = false } in (
@@ -227,7 +206,7 @@ object_call_is_the_sentence configuration now who claimed (request.Create name (
             (sym there.1) (creates partition.sampling_ports claimed new),
       ),
     )
-object_call_is_the_sentence configuration now who claimed (request.Create name (NewObject.QueuingPort size capacity way order)) partition apart none =
+object_call_is_the_sentence configuration now who claimed (Request.Create name (NewObject.QueuingPort size capacity way order)) partition apart none =
     let there = queuing_there (queuing_port configuration who.part name) size capacity way order (second_empty _ _ none) in
     let port : QueuingPort = there.0 in
     let new : Port = record { name = name; size = port.size; direction = port.direction; channel = port.channel; valid = false } in (
@@ -239,7 +218,7 @@ object_call_is_the_sentence configuration now who claimed (request.Create name (
             (sym there.1) (creates partition.queuing_ports claimed new),
       ),
     )
-object_call_is_the_sentence configuration now who claimed (request.SamplingPort port SamplingOperation.Read) partition apart none =
+object_call_is_the_sentence configuration now who claimed (Request.SamplingPort port SamplingOperation.Read) partition apart none =
     let change : Port → Port = λ found. record found { valid = is_valid claimed } in (
       refl,
       λ number found names at. subst (λ given. OneBecomes partition.sampling_ports (change_at (natural_of given) change partition.sampling_ports) number (change found)) (sym names)

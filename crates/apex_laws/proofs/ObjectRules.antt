@@ -1,34 +1,159 @@
--- What each rule of an object or a channel computes is exactly what its sentences say.
-use Rattle.std.proofs.Common.{◌≡◌, ℕ, zero, suc, ◌-◌, ◌≤◌, ℤ, pos, List, [], ◌∷◌, length, Option, Some, None, Bool, true, false, cond, ◌||◌, nat_eq, nat_le, nat_lt, IsTrue, refl, sym, ap, subst, ◌∙◌, inl, inr, arith, true≢false}
-use Rattle.std.proofs.lemmas.Bool.{cases_Bool, eqb-true, eq-eqb, eqb-false, ltb-true, leb-true}
-use Rattle.apex_types.specs.declared.code.Code.TheVariants as code
-use Rattle.apex_types.specs.declared.discipline.Discipline.{Discipline}
-use Rattle.apex_machine.specs.declared.state.Entry.{Entry}
-use Rattle.apex_machine.specs.Answer.{Effect, answering, unmet, waiting, effect_on}
-use Rattle.apex_machine.specs.Arguments.{is_over}
-use Rattle.apex_machine.specs.Channels.{capacity_of, is_at_destination, is_at_source, receiving_discipline, refresh_of, sending_discipline}
-use Rattle.apex_machine.specs.Configuration.{Configuration}
-use Rattle.apex_machine.specs.Objects.{acquired, acquired_again, acquired_from, at_maximum, board_read, handed_on as hand_on, mutex_released, not_acquired, raised, released_once, semaphore_waited, signalled, event_waited}
-use Rattle.apex_machine.specs.Ports.{Ask, Receive, Read, Send, Use, Write, sampled, suits, used, written}
-use Rattle.apex_machine.specs.Queue.{Messages, appended, not_yet, received, sent}
-use Rattle.apex_machine.specs.State.{Channel, Content, Mutex, Queued, Sampled, Stamped}
-use Rattle.apex_machine.specs.Waiting.{IsFirst, first_waiter}
-use Rattle.apex_laws.specs.ObjectLaws.{AreApart, BlackboardIsTheSentence, ChannelIsTheSentence, EventIsTheSentence, MutexIsTheSentence, QueueIsTheSentence, SamplingIsTheSentence, SemaphoreIsTheSentence}
-use Rattle.apex_laws.specs.ObjectSentences.{IsAcquiring, IsEventWait, IsReading, IsReceiving, IsReleasing, IsSampling, IsSemaphoreWait, IsSending, IsSignal, IsUnmet, IsUse, no_error, reads, tells_channel}
-use Rattle.apex_laws.specs.ObjectSentences.IsUnmet.{at_once, waits}
-use Rattle.apex_laws.specs.ObjectSentences.IsSending.{first_gets_it, no_room, room}
-use Rattle.apex_laws.specs.ObjectSentences.IsReceiving.{no_message, oldest_leaves, sender_wakes}
-use Rattle.apex_laws.specs.ObjectSentences.IsReading.{displayed as on_board, empty as board_empty}
-use Rattle.apex_laws.specs.ObjectSentences.IsSemaphoreWait.{none_left, takes_one}
-use Rattle.apex_laws.specs.ObjectSentences.IsSignal.{adds_one, at_maximum as is_at_maximum, first_goes_on}
-use Rattle.apex_laws.specs.ObjectSentences.IsEventWait.{is_down, is_up}
+-- What each rule of an object or a channel computes, and the first of a waiting set, is exactly what the sentences say.
+use Rattle.std.proofs.Common.{◌≡◌, ◌⊎◌, List, [], ◌∷◌, Option, Some, None, true, false, cond, refl, sym, ap, subst, ◌∙◌, inl, inr, arith, true≢false, ℕ, zero, suc, ◌-◌, ◌≤◌, ℤ, pos, length, Bool, ◌||◌, nat_eq, nat_le, nat_lt, IsTrue}
+use Rattle.std.proofs.lemmas.Bool.{eqb-true, eq-eqb, eqb-false, ltb-true, leb-true}
+use Rattle.std.proofs.lemmas.List.Elements.{All-cons, All-contains, All-contains_itself, All-nil, All-weaker}
+use Rattle.std.specs.Prelude.{Contains}
 use Rattle.apex_laws.specs.ObjectSentences.IsAcquiring.{of_another, once_more, was_free}
+use Rattle.apex_laws.specs.ObjectSentences.IsEventWait.{is_down, is_up}
+use Rattle.apex_laws.specs.ObjectSentences.IsReading.{displayed as on_board, empty as board_empty}
+use Rattle.apex_laws.specs.ObjectSentences.IsReceiving.{no_message, oldest_leaves, sender_wakes}
 use Rattle.apex_laws.specs.ObjectSentences.IsReleasing.{freed, handed_on, not_last}
 use Rattle.apex_laws.specs.ObjectSentences.IsSampling.{empty, too_old, valid}
+use Rattle.apex_laws.specs.ObjectSentences.IsSemaphoreWait.{none_left, takes_one}
+use Rattle.apex_laws.specs.ObjectSentences.IsSending.{first_gets_it, no_room, room}
+use Rattle.apex_laws.specs.ObjectSentences.IsSignal.{adds_one, at_maximum as is_at_maximum, first_goes_on}
+use Rattle.apex_laws.specs.ObjectSentences.IsUnmet.{at_once, waits}
 use Rattle.apex_laws.specs.ObjectSentences.IsUse.{asks_destination, asks_source, receives, samples, sends, writes}
-use Rattle.apex_laws.proofs.Firsts.{first_is, first_is_the_sentence}
+use Rattle.apex_laws.proofs.Common.{AllEntries, AreApart, Ask, BlackboardIsTheSentence, Channel, ChannelIsTheSentence, Code, Configuration, Content, Discipline, Effect, Entry, EventIsTheSentence, FirstIsTheSentence, IsAcquiring, IsEventWait}
+use Rattle.apex_laws.proofs.Common.{IsFirst, IsReading, IsReceiving, IsReleasing, IsSampling, IsSemaphoreWait, IsSending, IsSignal, IsUnmet, IsUse, Messages, Mutex, MutexIsTheSentence, Precedes, Queued, QueueIsTheSentence, Read, Receive}
+use Rattle.apex_laws.proofs.Common.{Sampled, SamplingIsTheSentence, SemaphoreIsTheSentence, Send, Stamped, Use, Write, acquired, acquired_again, acquired_from, answering, appended, at_maximum, board_read, capacity_of, effect_on}
+use Rattle.apex_laws.proofs.Common.{event_waited, first_waiter, hand_on, is_at_destination, is_at_source, is_over, mutex_released, no_error, not_acquired, not_yet, precedes, raised, reads, received, receiving_discipline, refresh_of}
+use Rattle.apex_laws.proofs.Common.{released_once, sampled, semaphore_waited, sending_discipline, sent, signalled, sooner_entry, suits, tells_channel, unmet, used, waiting, written}
+use Rattle.apex_laws.proofs.Booleans.{by_test, cannot_hold, impossible, member_first, member_later, never_found, one_item}
 use Rattle.apex_laws.proofs.ConditionTests.{over_tells}
-use Rattle.apex_laws.proofs.Booleans.{cannot_hold}
+
+-- The first of a waiting set is the entry that no other precedes.
+
+-- standing in a set
+
+-- an entry is the first of a list or one of the rest
+member_cases : (entry other : Entry) (entries : List Entry) → Contains (entry ∷ entries) other → (other ≡ entry) ⊎ Contains entries other
+member_cases entry other entries is_member =
+    All-contains (λ one. (one ≡ entry) ⊎ Contains entries one) (entry ∷ entries) other
+    (All-cons (λ one. (one ≡ entry) ⊎ Contains entries one) entry entries (inl refl)
+    (All-weaker (Contains entries) (λ one. (one ≡ entry) ⊎ Contains entries one) (λ one there. inr there) entries (All-contains_itself entries))) is_member
+
+-- no entry is in an empty set
+member_nowhere : (entry : Entry) → Contains [] entry → ⊥
+member_nowhere entry is_member = All-contains (λ one. ⊥) [] entry (All-nil (λ one. ⊥)) is_member
+
+-- what holds for all entries holds for one of them
+has_it : (Fact : Entry → Type 0) (entries : List Entry) (entry : Entry) → AllEntries Fact entries → Contains entries entry → Fact entry
+has_it Fact [] entry all is_member = absurd (member_nowhere entry is_member)
+has_it Fact (other ∷ entries) entry all is_member =
+    elim (member_cases other entry entries is_member) [
+      | inl same ↦ subst Fact (sym same) all.0
+      | inr later ↦ has_it Fact entries entry all.1 later
+    ]
+
+-- two entries of one place are one
+one_place : (entries : List Entry) → AreApart entries → (one other : Entry) → Contains entries one → Contains entries other → one.place ≡ other.place → one ≡ other
+one_place [] apart one other is_member also same = absurd (member_nowhere one is_member)
+one_place (entry ∷ entries) apart one other is_member also same =
+    elim (member_cases entry one entries is_member) [
+      | inl first ↦ elim (member_cases entry other entries also) [
+        | inl second ↦ first ∙ sym second
+        | inr later ↦ absurd (has_it (λ next. ¬ (entry.place ≡ next.place)) entries other apart.0 later (ap (λ next. next.place) (sym first) ∙ same))
+      ]
+      | inr later ↦ elim (member_cases entry other entries also) [
+        | inl second ↦ absurd (has_it (λ next. ¬ (entry.place ≡ next.place)) entries one apart.0 later (ap (λ next. next.place) (sym second) ∙ sym same))
+        | inr there ↦ one_place entries apart.1 one other later there same
+      ]
+    ]
+
+-- preceding is an order
+
+precedes_is : (which : Discipline) (one other : Entry) → precedes which one other ≡ true → Precedes which one other
+precedes_is Discipline.Fifo one other before = grind arith
+precedes_is Discipline.Priority one other before = grind arith
+
+precedes_by : (which : Discipline) (one other : Entry) → Precedes which one other → precedes which one other ≡ true
+precedes_by Discipline.Fifo one other before = grind arith
+precedes_by Discipline.Priority one other (inl more) = grind arith
+precedes_by Discipline.Priority one other (inr (same, sooner)) = grind arith
+
+not_itself : (which : Discipline) (one : Entry) → precedes which one one ≡ false
+not_itself Discipline.Fifo one = grind arith
+not_itself Discipline.Priority one = grind arith
+
+not_both : (which : Discipline) (one other : Entry) → precedes which one other ≡ true → precedes which other one ≡ false
+not_both Discipline.Fifo one other before = grind arith
+not_both Discipline.Priority one other before = grind arith
+
+not_chain : (which : Discipline) (one middle other : Entry) → precedes which one middle ≡ false → precedes which middle other ≡ false → precedes which one other ≡ false
+not_chain Discipline.Fifo one middle other first second = grind arith
+not_chain Discipline.Priority one middle other first second = grind arith
+
+same_place : (which : Discipline) (one other : Entry) → precedes which one other ≡ false → precedes which other one ≡ false → one.place ≡ other.place
+same_place Discipline.Fifo one other first second = grind arith
+same_place Discipline.Priority one other first second = grind arith
+
+-- the walk
+
+-- the entry is in the set, and none of the set passes the test against it
+record IsFound (which : Discipline) (entries : List Entry) (entry : Entry) : Type 0 where
+  is_member : Contains entries entry
+  first : AllEntries (λ other. precedes which other entry ≡ false) entries
+
+-- what all of a set have against one, they have against one that isn't preceded by it
+none_before : (which : Discipline) (one other : Entry) (entries : List Entry) → precedes which one other ≡ false → AllEntries (λ next. precedes which next one ≡ false) entries
+    → AllEntries (λ next. precedes which next other ≡ false) entries
+none_before which one other [] not_before all = tt
+none_before which one other (entry ∷ entries) not_before all = (not_chain which entry one other all.0 not_before, none_before which one other entries not_before all.1)
+
+empty_set : (which : Discipline) (entries : List Entry) → first_waiter which entries ≡ None → entries ≡ []
+empty_set which [] none = refl
+empty_set which (entry ∷ entries) none = absurd (some (first_waiter which entries) none)
+  where
+    some : (found : Option Entry) → sooner_entry which entry found ≡ None → ⊥
+    some None none = never_found (sym none)
+    some (Some other) none =
+        by_test (λ first. first ≡ None → ⊥) (precedes which other entry) (Some other) (Some entry) (λ before none. never_found (sym none)) (λ after none. never_found (sym none)) none
+
+found_first : (which : Discipline) (entries : List Entry) (entry : Entry) → first_waiter which entries ≡ Some entry → IsFound which entries entry
+found_first which [] entry is = cc
+found_first which (other ∷ entries) entry is = by (first_waiter which entries) refl (λ next some. found_first which entries next some) is
+  where
+    here : AllEntries (λ next. precedes which next other ≡ false) entries → Some other ≡ Some entry → IsFound which (other ∷ entries) entry
+    here all some = subst (IsFound which (other ∷ entries)) (one_item some) (record { is_member = member_first other entries; first = (not_itself which other, all) })
+
+    by : (found : Option Entry) → first_waiter which entries ≡ found → ((next : Entry) → first_waiter which entries ≡ Some next → IsFound which entries next)
+        → sooner_entry which other found ≡ Some entry → IsFound which (other ∷ entries) entry
+    by None none later is = here (subst (AllEntries (λ next. precedes which next other ≡ false)) (sym (empty_set which entries none)) tt) is
+    by (Some next) some later is =
+        let rest = later next some in
+        by_test (λ first. first ≡ Some entry → IsFound which (other ∷ entries) entry) (precedes which next other) (Some next) (Some other)
+        (λ before is. subst (IsFound which (other ∷ entries)) (one_item is) (record { is_member = member_later other next entries rest.is_member; first = (not_both which next other before, rest.first) }))
+        (λ not_before is. here (none_before which next other entries not_before rest.first) is) is
+
+-- the two ways
+
+pub first_is : (which : Discipline) (entries : List Entry) (entry : Entry) → first_waiter which entries ≡ Some entry → IsFirst which entries entry
+first_is which entries entry is =
+    let found = found_first which entries entry is in
+    record {
+      is_member = found.is_member;
+      first = λ other is_member before. true≢false (sym (precedes_by which other entry before) ∙ has_it (λ next. precedes which next entry ≡ false) entries other found.first is_member);
+    }
+
+is_the_first : (which : Discipline) (entries : List Entry) → AreApart entries → (entry : Entry) → IsFirst which entries entry → first_waiter which entries ≡ Some entry
+is_the_first which entries apart entry first = by (first_waiter which entries) refl
+  where
+    by : (found : Option Entry) → first_waiter which entries ≡ found → found ≡ Some entry
+    by None none = absurd (member_nowhere entry (subst (λ one. Contains one entry) (empty_set which entries none) first.is_member))
+    by (Some other) some =
+        let found = found_first which entries other some in
+        let not_other : precedes which other entry ≡ false = cannot_hold (precedes which other entry) (λ before. first.first other found.is_member (precedes_is which other entry before)) in
+        let not_entry : precedes which entry other ≡ false = has_it (λ next. precedes which next other ≡ false) entries entry found.first first.is_member in
+        ap Some (one_place entries apart other entry found.is_member first.is_member (same_place which other entry not_other not_entry))
+
+pub nobody_first : (which : Discipline) (entries : List Entry) → entries ≡ [] → first_waiter which entries ≡ None
+nobody_first which entries none = ap (first_waiter which) none
+
+pub first_is_the_sentence : FirstIsTheSentence
+first_is_the_sentence which entries apart = (λ entry. (first_is which entries entry, is_the_first which entries apart entry), (empty_set which entries, nobody_first which entries))
+
+-- What each rule of an object or a channel computes is exactly what its sentences say.
 
 -- a time-out that is not over
 not_over : (time_out : ℤ) → ¬ (time_out ≡ pos 0) → is_over time_out ≡ false
@@ -37,14 +162,16 @@ not_over time_out differs = cannot_hold (is_over time_out) (λ over. differs ((o
 -- what cannot be had
 unmet_says : {Object : Type 0} (time_out : ℤ) (object : Object) (effect : Effect Object) → effect ≡ record { answer = unmet time_out; next = object } → IsUnmet time_out object effect
 unmet_says {Object} time_out object effect is =
-    elim (is_over time_out) as (λ over. is_over time_out ≡ over → effect ≡ record { answer = cond over (answering code.NotAvailable) waiting; next = object } → IsUnmet time_out object effect) [
-      | true ↦ λ over is. at_once ((over_tells time_out).0 over) is
-      | false ↦ λ later is. waits (λ over. true≢false (sym ((over_tells time_out).1 over) ∙ later)) is
-    ] refl is
+    by_test (λ answer. effect ≡ record { answer = answer; next = object } → IsUnmet time_out object effect) (is_over time_out) (answering Code.NotAvailable) waiting
+    (λ over is. at_once ((over_tells time_out).0 over) is) (λ later is. waits (λ over. true≢false (sym ((over_tells time_out).1 over) ∙ later)) is) is
 
 unmet_by : {Object : Type 0} (time_out : ℤ) (object : Object) (effect : Effect Object) → IsUnmet time_out object effect → effect ≡ record { answer = unmet time_out; next = object }
 unmet_by time_out object effect (at_once over is) = rw ((over_tells time_out).1 over) is
 unmet_by time_out object effect (waits later is) = rw (not_over time_out later) is
+
+-- what cannot be had of what is this
+unmet_at : {Object : Type 0} (time_out : ℤ) (object other : Object) (effect : Effect Object) → object ≡ other → IsUnmet time_out object effect → effect ≡ record { answer = unmet time_out; next = other }
+unmet_at time_out object other effect same is = unmet_by time_out other effect (subst (λ one. IsUnmet time_out one effect) same is)
 
 -- an empty set has no first
 no_first : (which : Discipline) (entries : List Entry) → first_waiter which entries ≡ None → AreApart entries → entries ≡ []
@@ -60,23 +187,18 @@ sending_says : (capacity : ℕ) (message : List ℕ) (time_out : ℤ) (which : D
 sending_says capacity message time_out which receivers messages effect apart (Some receiver) first is = first_gets_it receiver (first_is which receivers receiver first) is
 sending_says capacity message time_out which receivers messages effect apart None none is =
     let empty_set = no_first which receivers none apart in
-    elim (nat_lt (length messages) capacity) as (λ fits. nat_lt (length messages) capacity ≡ fits → effect ≡ cond fits (appended message messages) (not_yet time_out messages)
-    → IsSending capacity message time_out which receivers messages effect) [
-      | true ↦ λ fits is. room empty_set (ltb-true (length messages) capacity fits) is
-      | false ↦ λ full is. no_room empty_set (grind arith) (unmet_says time_out messages effect is)
-    ] refl is
+    by_test (λ one. effect ≡ one → IsSending capacity message time_out which receivers messages effect) (nat_lt (length messages) capacity) (appended message messages) (not_yet time_out messages)
+    (λ fits is. room empty_set (ltb-true (length messages) capacity fits) is) (λ full is. no_room empty_set (grind arith) (unmet_says time_out messages effect is)) is
 
 sending_by : (capacity : ℕ) (message : List ℕ) (time_out : ℤ) (which : Discipline) (receivers : List Entry) (messages : Messages) (effect : Effect Messages) → AreApart receivers
     → IsSending capacity message time_out which receivers messages effect → effect ≡ sent capacity message time_out (first_waiter which receivers) messages
 sending_by capacity message time_out which receivers messages effect apart (first_gets_it receiver first is) = rw (first_by which receivers receiver apart first) is
 sending_by capacity message time_out which receivers messages effect apart (room none fits is) =
-    let first : first_waiter which receivers ≡ None = ap (first_waiter which) none in
     let test : nat_lt (length messages) capacity ≡ true = grind arith in
-    rw (first, test) is
+    rw (ap (first_waiter which) none, test) is
 sending_by capacity message time_out which receivers messages effect apart (no_room none full unmet) =
-    let first : first_waiter which receivers ≡ None = ap (first_waiter which) none in
     let test : nat_lt (length messages) capacity ≡ false = grind arith in
-    rw (first, test) (unmet_by time_out messages effect unmet)
+    rw (ap (first_waiter which) none, test) (unmet_by time_out messages effect unmet)
 
 receiving_says : (time_out : ℤ) (which : Discipline) (senders : List Entry) (messages : Messages) (effect : Effect Messages) → AreApart senders
     → (first : Option Entry) → first_waiter which senders ≡ first → effect ≡ received time_out first messages → IsReceiving time_out which senders messages effect
@@ -92,8 +214,7 @@ receiving_by time_out which senders messages effect apart (oldest_leaves message
 receiving_by time_out which senders messages effect apart (sender_wakes message others sender at first is) =
     is ∙ sym (ap (λ one. received time_out one messages) (first_by which senders sender apart first) ∙ ap (received time_out (Some sender)) at)
 receiving_by time_out which senders messages effect apart (no_message none unmet_one) =
-    let same : IsUnmet time_out [] effect = subst (λ one. IsUnmet time_out one effect) none unmet_one in
-    unmet_by time_out [] effect same ∙ sym (ap (received time_out (first_waiter which senders)) none)
+    unmet_at time_out messages [] effect none unmet_one ∙ sym (ap (received time_out (first_waiter which senders)) none)
 
 pub queue_is_the_sentence : QueueIsTheSentence
 queue_is_the_sentence = (
@@ -111,9 +232,7 @@ reading_says time_out (Some message) effect is = on_board message refl is
 
 reading_by : (time_out : ℤ) (message : Option (List ℕ)) (effect : Effect (Option (List ℕ))) → IsReading time_out message effect → effect ≡ board_read time_out message
 reading_by time_out message effect (on_board found at is) = is ∙ sym (ap (board_read time_out) at)
-reading_by time_out message effect (board_empty none unmet_one) =
-    let same : IsUnmet time_out None effect = subst (λ one. IsUnmet time_out one effect) none unmet_one in
-    unmet_by time_out None effect same ∙ sym (ap (board_read time_out) none)
+reading_by time_out message effect (board_empty none unmet_one) = unmet_at time_out message None effect none unmet_one ∙ sym (ap (board_read time_out) none)
 
 pub blackboard_is_the_sentence : BlackboardIsTheSentence
 blackboard_is_the_sentence = (
@@ -132,31 +251,25 @@ waiting_by : (time_out : ℤ) (value : ℕ) (effect : Effect ℕ) → IsSemaphor
 waiting_by time_out value effect (takes_one rest at is) =
     let above : value ≡ suc rest = omega (arith, at) in
     is ∙ sym (ap (semaphore_waited time_out) above)
-waiting_by time_out value effect (none_left none unmet_one) =
-    let same : IsUnmet time_out 0 effect = subst (λ one. IsUnmet time_out one effect) none unmet_one in
-    unmet_by time_out 0 effect same ∙ sym (ap (semaphore_waited time_out) none)
+waiting_by time_out value effect (none_left none unmet_one) = unmet_at time_out value 0 effect none unmet_one ∙ sym (ap (semaphore_waited time_out) none)
 
 signal_says : (maximum : ℕ) (which : Discipline) (waiters : List Entry) (value : ℕ) (effect : Effect ℕ) → AreApart waiters
     → (first : Option Entry) → first_waiter which waiters ≡ first → effect ≡ signalled maximum first value → IsSignal maximum which waiters value effect
 signal_says maximum which waiters value effect apart (Some waiter) first is = first_goes_on waiter (first_is which waiters waiter first) is
 signal_says maximum which waiters value effect apart None none is =
     let empty_set = no_first which waiters none apart in
-    elim (nat_lt value maximum) as (λ below. nat_lt value maximum ≡ below → effect ≡ cond below (raised value) (at_maximum value) → IsSignal maximum which waiters value effect) [
-      | true ↦ λ below is. adds_one empty_set (ltb-true value maximum below) is
-      | false ↦ λ full is. is_at_maximum empty_set (grind arith) is
-    ] refl is
+    by_test (λ one. effect ≡ one → IsSignal maximum which waiters value effect) (nat_lt value maximum) (raised value) (at_maximum value)
+    (λ below is. adds_one empty_set (ltb-true value maximum below) is) (λ full is. is_at_maximum empty_set (grind arith) is) is
 
 signal_by : (maximum : ℕ) (which : Discipline) (waiters : List Entry) (value : ℕ) (effect : Effect ℕ) → AreApart waiters
     → IsSignal maximum which waiters value effect → effect ≡ signalled maximum (first_waiter which waiters) value
 signal_by maximum which waiters value effect apart (first_goes_on waiter first is) = rw (first_by which waiters waiter apart first) is
 signal_by maximum which waiters value effect apart (adds_one none below is) =
-    let first : first_waiter which waiters ≡ None = ap (first_waiter which) none in
     let test : nat_lt value maximum ≡ true = grind arith in
-    rw (first, test) is
+    rw (ap (first_waiter which) none, test) is
 signal_by maximum which waiters value effect apart (is_at_maximum none full is) =
-    let first : first_waiter which waiters ≡ None = ap (first_waiter which) none in
     let test : nat_lt value maximum ≡ false = grind arith in
-    rw (first, test) is
+    rw (ap (first_waiter which) none, test) is
 
 pub semaphore_is_the_sentence : SemaphoreIsTheSentence
 semaphore_is_the_sentence = (
@@ -172,9 +285,7 @@ event_says time_out false effect is = is_down refl (unmet_says time_out false ef
 
 event_by : (time_out : ℤ) (up : Bool) (effect : Effect Bool) → IsEventWait time_out up effect → effect ≡ event_waited time_out up
 event_by time_out up effect (is_up at is) = is ∙ sym (ap (event_waited time_out) at)
-event_by time_out up effect (is_down at unmet_one) =
-    let same : IsUnmet time_out false effect = subst (λ one. IsUnmet time_out one effect) at unmet_one in
-    unmet_by time_out false effect same ∙ sym (ap (event_waited time_out) at)
+event_by time_out up effect (is_down at unmet_one) = unmet_at time_out up false effect at unmet_one ∙ sym (ap (event_waited time_out) at)
 
 pub event_is_the_sentence : EventIsTheSentence
 event_is_the_sentence = (
@@ -189,28 +300,23 @@ acquiring_says : (caller : ℕ) (time_out : ℤ) (mutex : Mutex) (effect : Effec
     → IsAcquiring caller time_out mutex effect
 acquiring_says caller time_out mutex effect None free is = was_free free is
 acquiring_says caller time_out mutex effect (Some owner) owned is =
-    elim (nat_eq owner caller) as (λ own. nat_eq owner caller ≡ own → effect ≡ cond own (acquired_again mutex) (not_acquired time_out mutex) → IsAcquiring caller time_out mutex effect) [
-      | true ↦ λ own is. once_more (owned ∙ ap Some (eqb-true owner caller own)) is
-      | false ↦ λ other is. of_another owner owned (eqb-false owner caller other) (unmet_says time_out mutex effect is)
-    ] refl is
+    by_test (λ one. effect ≡ one → IsAcquiring caller time_out mutex effect) (nat_eq owner caller) (acquired_again mutex) (not_acquired time_out mutex)
+    (λ own is. once_more (owned ∙ ap Some (eqb-true owner caller own)) is) (λ other is. of_another owner owned (eqb-false owner caller other) (unmet_says time_out mutex effect is)) is
 
 acquiring_by : (caller : ℕ) (time_out : ℤ) (mutex : Mutex) (effect : Effect Mutex) → IsAcquiring caller time_out mutex effect → effect ≡ acquired caller time_out mutex
 acquiring_by caller time_out mutex effect (was_free free is) = is ∙ sym (ap (λ owner. acquired_from owner caller time_out mutex) free)
 acquiring_by caller time_out mutex effect (once_more own is) =
-    let test : nat_eq caller caller ≡ true = eq-eqb caller caller refl in
-    is ∙ sym (ap (λ owner. acquired_from owner caller time_out mutex) own ∙ ap (λ same. cond same (acquired_again mutex) (not_acquired time_out mutex)) test)
+    is ∙ sym (ap (λ owner. acquired_from owner caller time_out mutex) own ∙ ap (λ same. cond same (acquired_again mutex) (not_acquired time_out mutex)) (eq-eqb caller caller refl))
 acquiring_by caller time_out mutex effect (of_another owner owned differs unmet_one) =
-    let test : nat_eq owner caller ≡ false = elim (cases_Bool (nat_eq owner caller)) [ inl same ↦ absurd (differs (eqb-true owner caller same)) | inr other ↦ other ] in
+    let test : nat_eq owner caller ≡ false = cannot_hold (nat_eq owner caller) (λ same. differs (eqb-true owner caller same)) in
     unmet_by time_out mutex effect unmet_one
     ∙ sym (ap (λ one. acquired_from one caller time_out mutex) owned ∙ ap (λ same. cond same (acquired_again mutex) (not_acquired time_out mutex)) test)
 
 releasing_says : (mutex : Mutex) (effect : Effect Mutex) → AreApart mutex.waiters → (first : Option Entry) → first_waiter mutex.discipline mutex.waiters ≡ first
     → effect ≡ mutex_released first mutex → IsReleasing mutex effect
 releasing_says mutex effect apart first at is =
-    elim (nat_lt 1 mutex.count) as (λ more. nat_lt 1 mutex.count ≡ more → effect ≡ cond more (released_once mutex) (hand_on first mutex) → IsReleasing mutex effect) [
-      | true ↦ λ more is. not_last (ltb-true 1 mutex.count more) is
-      | false ↦ λ last is. by first at (grind arith) is
-    ] refl is
+    by_test (λ one. effect ≡ one → IsReleasing mutex effect) (nat_lt 1 mutex.count) (released_once mutex) (hand_on first mutex)
+    (λ more is. not_last (ltb-true 1 mutex.count more) is) (λ last is. by first at (grind arith) is) is
   where
     by : (first : Option Entry) → first_waiter mutex.discipline mutex.waiters ≡ first → mutex.count ≤ 1 → effect ≡ hand_on first mutex → IsReleasing mutex effect
     by None none last is = freed last (no_first mutex.discipline mutex.waiters none apart) is
@@ -238,10 +344,8 @@ mutex_is_the_sentence = (
 sampling_says : (now refresh : ℕ) (last : Option Stamped) (effect : Effect (Option Stamped)) → effect ≡ sampled now refresh last → IsSampling now refresh last effect
 sampling_says now refresh None effect is = empty refl is
 sampling_says now refresh (Some found) effect is =
-    elim (nat_le (now - found.stamp) refresh) as (λ fresh. nat_le (now - found.stamp) refresh ≡ fresh → effect ≡ reads no_error (cond fresh 1 0) found.message (Some found) → IsSampling now refresh (Some found) effect) [
-      | true ↦ λ fresh is. valid found refl (leb-true (now - found.stamp) refresh fresh) is
-      | false ↦ λ old is. too_old found refl (grind arith) is
-    ] refl is
+    by_test (λ (number : ℕ). effect ≡ reads no_error number found.message (Some found) → IsSampling now refresh (Some found) effect) (nat_le (now - found.stamp) refresh) 1 0
+    (λ fresh is. valid found refl (leb-true (now - found.stamp) refresh fresh) is) (λ old is. too_old found refl (grind arith) is) is
 
 sampling_by : (now refresh : ℕ) (last : Option Stamped) (effect : Effect (Option Stamped)) → IsSampling now refresh last effect → effect ≡ sampled now refresh last
 sampling_by now refresh last effect (empty none is) = is ∙ sym (ap (sampled now refresh) none)
@@ -272,20 +376,15 @@ use_says configuration now number partition channel (Write message) (Sampled las
 use_says configuration now number partition channel Read (Sampled last) effect at senders receivers suited is =
     samples last (sampled now (refresh_of configuration number) last) refl at (sampling_says now (refresh_of configuration number) last (sampled now (refresh_of configuration number) last) refl) is
 use_says configuration now number partition channel (Send message time_out) (Queued messages) effect at senders receivers suited is =
-    sends message time_out messages (sent (capacity_of configuration number) message time_out (first_waiter (receiving_discipline configuration number) channel.receivers) messages) refl at
-    (sending_says (capacity_of configuration number) message time_out (receiving_discipline configuration number) channel.receivers messages
-    (sent (capacity_of configuration number) message time_out (first_waiter (receiving_discipline configuration number) channel.receivers) messages) receivers
-    (first_waiter (receiving_discipline configuration number) channel.receivers) refl refl) is
+    sends message time_out messages _ refl at
+    ((queue_is_the_sentence.0 (capacity_of configuration number) message time_out (receiving_discipline configuration number) channel.receivers messages _ receivers).0 refl) is
 use_says configuration now number partition channel (Receive time_out) (Queued messages) effect at senders receivers suited is =
-    receives time_out messages (received time_out (first_waiter (sending_discipline configuration number) channel.senders) messages) refl at
-    (receiving_says time_out (sending_discipline configuration number) channel.senders messages
-    (received time_out (first_waiter (sending_discipline configuration number) channel.senders) messages) senders
-    (first_waiter (sending_discipline configuration number) channel.senders) refl refl) is
-use_says configuration now number partition channel (Write message) (Queued messages) effect at senders receivers suited is = absurd (true≢false (sym suited))
-use_says configuration now number partition channel Read (Queued messages) effect at senders receivers suited is = absurd (true≢false (sym suited))
-use_says configuration now number partition channel (Send message time_out) (Sampled last) effect at senders receivers suited is = absurd (true≢false (sym suited))
-use_says configuration now number partition channel (Receive time_out) (Sampled last) effect at senders receivers suited is = absurd (true≢false (sym suited))
-use_says configuration now number partition channel Ask (Sampled last) effect at senders receivers suited is = absurd (true≢false (sym suited))
+    receives time_out messages _ refl at ((queue_is_the_sentence.1 time_out (sending_discipline configuration number) channel.senders messages _ senders).0 refl) is
+use_says configuration now number partition channel (Write message) (Queued messages) effect at senders receivers suited is = impossible suited
+use_says configuration now number partition channel Read (Queued messages) effect at senders receivers suited is = impossible suited
+use_says configuration now number partition channel (Send message time_out) (Sampled last) effect at senders receivers suited is = impossible suited
+use_says configuration now number partition channel (Receive time_out) (Sampled last) effect at senders receivers suited is = impossible suited
+use_says configuration now number partition channel Ask (Sampled last) effect at senders receivers suited is = impossible suited
 use_says configuration now number partition channel Ask (Queued messages) effect at senders receivers suited is =
     ask_says configuration now number partition channel messages effect at (is_at_source configuration number partition) refl suited is
 

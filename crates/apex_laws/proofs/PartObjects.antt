@@ -1,32 +1,74 @@
--- A call changes the one object that it names.
-use Rattle.std.proofs.Common.{◌≡◌, append-nil, ℕ, List, [], ◌++◌, Bool, true, false, cond, nat_eq, ℤ, Option, Some, refl, sym, ap, ◌∙◌, None}
-use Rattle.apex_types.specs.declared.object_kind.ObjectKind.{ObjectKind}
+-- A call leaves all sets and objects of a partition but those of the object that it names.
+use Rattle.std.proofs.Common.{◌≡◌, ℕ, List, [], ◌∷◌, Bool, true, false, nat_eq, ℤ, Option, Some, None, is_some, refl, sym, ap, subst, ◌∙◌, true≢false, ◌&&◌, append-nil, ◌++◌, cond}
 use Rattle.apex_types.specs.declared.object_kind.ObjectKind.TheVariants as kind
-use Rattle.apex_types.specs.declared.record.Body.TheVariants.{Call}
-use Rattle.apex_types.specs.declared.record.Call.{Call as CallRecord}
-use Rattle.apex_types.specs.declared.operation.{BlackboardOperation.BlackboardOperation, EventOperation.EventOperation, SamplingOperation.SamplingOperation}
-use Rattle.apex_types.specs.declared.request.Request.{Request}
 use Rattle.apex_types.specs.declared.operation.ObjectOperation.TheVariants as on
-use Rattle.apex_types.specs.declared.request.Request.TheVariants as request
-use Rattle.apex_machine.specs.declared.state.Entry.{Entry}
-use Rattle.apex_machine.specs.declared.state.WaitingSet.{WaitingSet}
-use Rattle.apex_machine.specs.After.{each_set, is_done, is_valid, objects_by, with_sets, new_object, numbered_if}
-use Rattle.apex_machine.specs.Arguments.{natural_of}
-use Rattle.apex_machine.specs.Configuration.{Configuration}
-use Rattle.apex_machine.specs.Objects.{object_effect}
-use Rattle.apex_machine.specs.State.{ObjectOf, Partition, Port, change_at, each_item, item_at, objects_of, set_at, is_of_object, is_same_kind, entries_at_end, with_objects}
-use Rattle.apex_machine.specs.Waiting.{set_after}
-use Rattle.apex_laws.specs.PartLaws.{HasDistinctObjects, is_set_used}
-use Rattle.apex_laws.specs.PartObjects.{OneObjectChanges, objects_changed}
-use Rattle.apex_laws.proofs.Booleans.{differs_back, same_if, not_second, not_first}
-use Rattle.apex_laws.proofs.OtherSets.{enters_no_other, other_sets_stay}
-use Rattle.apex_laws.proofs.EachSet.{Leaves, OnSets, all_stay_with, each_itself, object_stays, objects_stay, one_changes, put_if, sets_stay}
-use Rattle.apex_types.specs.Shapes.{kind_used}
-use Rattle.apex_types.specs.Requested.{kind_of}
-use Rattle.apex_laws.proofs.SetNames.{ends_agree, ends_kept}
-use Rattle.apex_laws.proofs.Objects.{new_has_none}
-use Rattle.apex_types.specs.declared.shape.End.{End}
-use Rattle.apex_types.specs.declared.operation.ObjectOperation.{ObjectOperation}
+use Rattle.apex_laws.proofs.Common.{AllHold, BlackboardOperation, Call, CallRecord, Claim, Condition, Configuration, End, Entry, EventOperation, HasDistinctObjects, IsSoundPart, ObjectKind, ObjectOf, ObjectOperation, OneObjectChanges}
+use Rattle.apex_laws.proofs.Common.{OtherSetsStay, Partition, Port, Request, SamplingOperation, WaitingSet, WaitsIn, Who, answer_of, change_at, channel_of, conditions_of, each_item, each_set, enters, entries_at, entries_at_end, is_done}
+use Rattle.apex_laws.proofs.Common.{is_named, is_no_error, is_of_object, is_same_kind, is_set_used, is_target, is_valid, item_at, kind_of, kind_used, names_one_of, natural_of, new_object, numbered_if, object_effect, objects_by}
+use Rattle.apex_laws.proofs.Common.{objects_changed, objects_of, outcome_demands, restart_of, restarts, set_after, set_at, stop_of, stops, stops_some, time_of, waits_at, with_objects, with_sets}
+use Rattle.apex_laws.proofs.Booleans.{cannot_hold, differs_back, is_itself, neither_first, neither_later, not_first, not_second, same_if}
+use Rattle.apex_laws.proofs.Objects.{all_stay_with, each_itself, Leaves, new_has_none, object_stays, objects_stay, one_changes, OnSets, put_if, sets_stay}
+use Rattle.apex_laws.proofs.Restarts.{goes_on}
+use Rattle.apex_laws.proofs.SetNames.{ends_agree, ends_kept, one_set}
+use Rattle.apex_laws.proofs.SoundParts.{WaitsInSet}
+use Rattle.apex_laws.proofs.Untouched.{set_stays}
+use Rattle.apex_laws.proofs.Waiters.{all_weaker}
+use Rattle.apex_laws.proofs.WaitersOf.{not_named}
+use Rattle.apex_laws.proofs.Wakes.{answer_wakes, entering_is_the_sentence, nobody, suspended_elsewhere}
+
+-- An own call leaves the waiting sets that its request doesn't use.
+
+-- who enters
+
+-- a caller enters only a set that its request uses
+entered_is_used : {asked : Request} {chan : Option ℕ} {wanted : WaitingSet} → WaitsIn asked chan wanted → is_set_used asked wanted ≡ true
+entered_is_used WaitsIn.sends_through = refl
+entered_is_used WaitsIn.receives_through = refl
+entered_is_used _ = is_itself _
+
+pub enters_no_other : (call : CallRecord) (wanted : WaitingSet) → is_set_used call.request wanted ≡ false → enters call wanted ≡ false
+enters_no_other call wanted unused =
+    cannot_hold (enters call wanted) (λ here. true≢false (sym (entered_is_used ((entering_is_the_sentence call wanted).0 here).1) ∙ unused))
+
+-- who leaves
+
+-- a call that is no STOP, or not done, stops no process
+not_stopping : (stopping : Option ℤ) (no_error here : Bool) (number : ℕ) → (is_some stopping && no_error) ≡ false → (no_error && (here && is_target stopping number)) ≡ false
+not_stopping None no_error here number none = not_second no_error (here && false) (not_second here false refl)
+not_stopping (Some target) true here number none = absurd (true≢false none)
+not_stopping (Some target) false here number none = refl
+
+pub stops_nobody : (call : CallRecord) (who : Who) → (is_some (stop_of call.request) && is_no_error call.claim.out) ≡ false → stops call who ≡ false
+stops_nobody call who none = not_stopping (stop_of call.request) (is_no_error call.claim.out) (nat_eq who.part call.who.part) who.proc none
+
+-- a call that stops no process restarts no partition
+pub restarts_nobody : (call : CallRecord) (number : ℕ) → stops_some call ≡ false → restarts call number ≡ false
+restarts_nobody call number none = not_first (is_some (restart_of call)) (nat_eq number call.who.part) (neither_first _ _ none)
+
+-- a process that an own call names waits in no set that the request does not use
+named_uses : (number place now : ℕ) (partition : Partition) (caller : Who) (asked : Request) (claim : Claim) → IsSoundPart number place partition
+    → (conditions : List Condition) (channel : Option ℕ) → AllHold (outcome_demands conditions channel number asked (answer_of now caller partition asked) claim)
+    → (wanted : WaitingSet) → is_set_used asked wanted ≡ false → (who : Who) → who.part ≡ number → waits_at wanted (item_at partition.table who.proc) ≡ true → is_named who claim.woken ≡ true → ⊥
+named_uses number place now partition caller asked claim sound (condition ∷ conditions) channel hold wanted unused who here waits named = nobody who claim.woken hold.1.1.1.1.0 named
+named_uses number place now partition caller asked claim sound [] (Some channel) hold wanted unused who here waits named =
+    true≢false (sym named ∙ not_named who claim.woken (subst (λ part. names_one_of part claim.woken ≡ false) (sym here) hold.1.1.0))
+named_uses number place now partition caller asked claim sound [] None hold wanted unused who here waits named =
+    (answer_wakes (λ one. waits_at wanted (item_at partition.table one.proc) ≡ true → ⊥) now caller partition asked
+    (λ other used. all_weaker (WaitsInSet number other partition) (λ entry. waits_at wanted (item_at partition.table entry.who.proc) ≡ true → ⊥)
+    (λ entry is also. true≢false (sym used ∙ ap (is_set_used asked) (one_set other wanted (item_at partition.table entry.who.proc) is.1 also) ∙ unused))
+    (entries_at partition other) (sound.is_member other))
+    (λ process target is suspends waits. suspended_elsewhere partition process target wanted is suspends waits)).has
+    who (sym (hold.1.1.1.1.0 who) ∙ named) waits
+
+pub other_sets_stay : OtherSetsStay
+other_sets_stay configuration number place core cores partition call is not_stop wanted unused =
+    set_stays (WaitsInSet number wanted partition) place call wanted (entries_at partition wanted) (is.sound.is_member wanted) (enters_no_other call wanted unused)
+    (λ entry is_member. goes_on call entry.who (restarts_nobody call entry.who.part not_stop)
+    (cannot_hold (is_named entry.who call.claim.woken) (λ named. named_uses number place (time_of cores core) partition call.who call.request call.claim is.sound
+    (conditions_of configuration call.who partition call.request) (channel_of partition call.request) is.demands.1.1.1.1.1 wanted unused entry.who is_member.0 is_member.1 named))
+    (stops_nobody call entry.who (neither_later _ _ not_stop)))
+
+-- A call changes the one object that it names.
 
 -- a change of each set, and of the objects of one kind
 abbrev LeavesUnused : (WaitingSet → List Entry → List Entry) → Partition → Request → Type 0
@@ -82,7 +124,7 @@ one_of_kind_changes kind change partition done number rule new has becomes leave
     (λ another end off. leaves (set_at other another end) (of_other kind other number another differs end off)))
 
 -- a set that is none of the object's is not used
-object_unused : (number : ℤ) (operation : ObjectOperation) (wanted : WaitingSet) → is_of_object (kind_used operation) (natural_of number) wanted ≡ false → is_set_used (request.Object number operation) wanted ≡ false
+object_unused : (number : ℤ) (operation : ObjectOperation) (wanted : WaitingSet) → is_of_object (kind_used operation) (natural_of number) wanted ≡ false → is_set_used (Request.Object number operation) wanted ≡ false
 object_unused number (on.Blackboard BlackboardOperation.Clear) wanted off = refl
 object_unused number (on.Event EventOperation.Reset) wanted off = refl
 object_unused number _ wanted off = off
@@ -125,10 +167,10 @@ changed_by : (configuration : Configuration) (place : ℕ) (call : CallRecord) (
     → ((wanted : WaitingSet) → is_set_used asked wanted ≡ false → set_after place (Call call) wanted [] ≡ [])
     → each_set (set_after place (Call call)) (cond (is_done call.claim.out) (objects_by configuration call.who call.claim.val asked partition) partition)
     ≡ objects_changed configuration place call asked partition
-changed_by configuration place call partition (request.Object number operation) has leaves empty =
+changed_by configuration place call partition (Request.Object number operation) has leaves empty =
     one_of_kind_changes (kind_used operation) (set_after place (Call call)) partition (is_done call.claim.out) (natural_of number) (λ found. (object_effect call.who.proc operation found).next) _ has
     (λ found at. refl) (λ wanted off. leaves wanted (object_unused number operation wanted off))
-changed_by configuration place call partition (request.Create name object) has leaves empty =
+changed_by configuration place call partition (Request.Create name object) has leaves empty =
     let change = set_after place (Call call) in
     let kind = kind_of object in
     one_of_kind_created kind change partition (is_done call.claim.out) call.claim.val (new_object configuration call.who.part name object) has
@@ -136,12 +178,12 @@ changed_by configuration place call partition (request.Create name object) has l
     ends_agree kind (λ end. change (set_at kind number end)) (λ end entries. entries) new
     (λ off end. ap (change (set_at kind number end)) (none end) ∙ empty (set_at kind number end) refl ∙ sym (none end)) ∙ ends_kept kind new))
     (λ wanted. leaves wanted refl)
-changed_by configuration place call partition (request.SamplingPort port SamplingOperation.Read) has leaves empty =
+changed_by configuration place call partition (Request.SamplingPort port SamplingOperation.Read) has leaves empty =
     ports_change kind.SamplingPort (set_after place (Call call)) partition (is_done call.claim.out)
     (change_at (natural_of port) (λ (found : Port). record found { valid = is_valid call.claim.val }) partition.sampling_ports) has (each_itself _) (λ wanted. leaves wanted refl)
-changed_by configuration place call partition (request.SamplingPort port (SamplingOperation.Write length message)) has leaves empty =
+changed_by configuration place call partition (Request.SamplingPort port (SamplingOperation.Write length message)) has leaves empty =
     ap (each_set (set_after place (Call call))) (same_if (is_done call.claim.out) partition) ∙ sets_stay (set_after place (Call call)) partition has (λ wanted off. leaves wanted refl)
-changed_by configuration place call partition (request.QueuingPort port operation) has leaves empty =
+changed_by configuration place call partition (Request.QueuingPort port operation) has leaves empty =
     ap (each_set (set_after place (Call call))) (same_if (is_done call.claim.out) partition) ∙ sets_stay (set_after place (Call call)) partition has (λ wanted off. leaves wanted off)
 changed_by configuration place call partition _ has leaves empty =
     ap (each_set (set_after place (Call call))) (same_if (is_done call.claim.out) partition) ∙ sets_stay (set_after place (Call call)) partition has (λ wanted off. leaves wanted refl)

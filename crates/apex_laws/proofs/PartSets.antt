@@ -1,24 +1,15 @@
 -- The waiting sets of a sound partition, changed one after another.
-use Rattle.std.proofs.Common.{◌≡◌, ℕ, List, [], ◌∷◌, ◌++◌, true, false, cond, nat_eq, ℤ, Option, Some, None, IsTrue, is_some, refl, sym, ap, subst, ◌∙◌, inl, inr, true≢false, ◌&&◌, ◌||◌}
-use Rattle.std.proofs.lemmas.Bool.{cases_Bool, eq-eqb}
-use Rattle.apex_types.specs.declared.record.Who.{Who}
-use Rattle.apex_machine.specs.declared.state.Entry.{Entry}
-use Rattle.apex_machine.specs.declared.state.Process.{Process}
-use Rattle.apex_machine.specs.declared.state.WaitingSet.{WaitingSet}
-use Rattle.apex_machine.specs.After.{each_set}
-use Rattle.apex_machine.specs.State.{Partition, Table, is_named, is_same, item_at}
-use Rattle.apex_machine.specs.Waiting.{ends_wait, entry_of, is_no_error, stops, waits_at, without}
-use Rattle.apex_laws.specs.Laws.{AllEntries, entries_at}
-use Rattle.apex_laws.specs.PartLaws.{HasDistinctObjects}
-use Rattle.apex_laws.specs.PartObjects.{left_by, without_one}
-use Rattle.apex_laws.specs.PartSets.{EachNamedLeaves, LeavesEverySet, NamedLeave, left_if_there, named_left}
-use Rattle.apex_laws.proofs.Booleans.{cannot_hold, or_false}
-use Rattle.apex_laws.proofs.Restarts.{restarts_none}
-use Rattle.apex_laws.proofs.EachSet.{each_set_each, sets_stay}
+use Rattle.std.proofs.Common.{◌≡◌, ℕ, List, [], ◌∷◌, ◌++◌, true, false, cond, nat_eq, ℤ, Option, Some, None, IsTrue, is_some, refl, sym, ap, subst, ◌∙◌, true≢false, ◌&&◌, ◌||◌}
+use Rattle.std.proofs.lemmas.Bool.{eq-eqb}
+use Rattle.apex_laws.specs.PartSets.{EachNamedLeaves, LeavesEverySet, left_if_there, named_left, NamedLeave}
+use Rattle.apex_laws.proofs.Common.{AllEntries, Entry, HasDistinctObjects, Partition, Process, Table, WaitingSet, Who, each_set, ends_wait, entries_at, entry_of, is_named, is_no_error, is_same, item_at, left_by, stops, waits_at, without}
+use Rattle.apex_laws.proofs.Common.{without_one}
+use Rattle.apex_laws.proofs.Booleans.{cannot_hold, either_way, or_false}
 use Rattle.apex_laws.proofs.LeavingSets.{one_leaves, stays_without}
-use Rattle.apex_laws.proofs.Objects.{each_set_has}
-use Rattle.apex_laws.proofs.OtherSets.{stops_nobody}
+use Rattle.apex_laws.proofs.Objects.{each_set_each, each_set_has, sets_stay}
+use Rattle.apex_laws.proofs.PartObjects.{stops_nobody}
 use Rattle.apex_laws.proofs.Records.{sets_changed}
+use Rattle.apex_laws.proofs.Restarts.{restarts_none}
 use Rattle.apex_laws.proofs.SoundParts.{sets_distinct}
 use Rattle.apex_laws.proofs.TickLeaves.{without_none, without_without}
 use Rattle.apex_laws.proofs.Waiters.{all_without, none_leaves, without_same}
@@ -83,11 +74,9 @@ there_leaves number table partition who None at has are_there =
 one_named_leaves : (number : ℕ) (table : Table) (partition : Partition) (who : Who) → HasDistinctObjects partition → AllWaitThere number table partition
     → cond (nat_eq who.part number) (left_if_there who (item_at table who.proc) partition) partition ≡ each_set (leave_all who) partition
 one_named_leaves number table partition who has are_there =
-    elim (cases_Bool (nat_eq who.part number)) [
-      | inl here ↦ rw here (there_leaves number table partition who (item_at table who.proc) refl has are_there)
-      | inr elsewhere ↦ rw elsewhere (sym (nobody_leaves number table partition who has are_there
-          (λ wanted here waits. true≢false (sym (eq-eqb who.part number here) ∙ elsewhere))))
-    ]
+    either_way (nat_eq who.part number) (λ here. rw here (there_leaves number table partition who (item_at table who.proc) refl has are_there))
+    (λ elsewhere. rw elsewhere (sym (nobody_leaves number table partition who has are_there
+    (λ wanted here waits. true≢false (sym (eq-eqb who.part number here) ∙ elsewhere)))))
 
 -- the entries that are left when one process has left
 still_wait_there : (number : ℕ) (table : Table) (partition : Partition) (who : Who) → AllWaitThere number table partition → AllWaitThere number table (each_set (leave_all who) partition)

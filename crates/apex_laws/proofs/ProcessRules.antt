@@ -1,32 +1,18 @@
--- What the rules compute of a process is exactly what the sentences say.
-use Rattle.std.proofs.Common.{◌≡◌, ℕ, ◌+◌, ◌*◌, ◌/◌, ◌%◌, ◌<◌, ◌≤◌, ℤ, pos, negsuc, List, [], Option, Some, None, Bool, true, false, cond, nat_eq, nat_le, IsTrue, refl, sym, ap, ◌∙◌, inl, inr, arith, true≢false, ◌&&◌}
-use Rattle.std.proofs.lemmas.Bool.{and_from, and_parts, eqb-true, eq-eqb, leb-true, cases_lt}
+-- What the rules compute of a process, and answer to its services, is exactly what the sentences say.
+use Rattle.std.proofs.Common.{◌≡◌, ℕ, ◌+◌, ◌*◌, ◌/◌, ◌%◌, ◌<◌, ◌≤◌, ℤ, pos, negsuc, List, [], Option, Some, None, Bool, true, false, cond, nat_eq, nat_le, IsTrue, refl, sym, ap, ◌∙◌, inl, inr, arith, true≢false, ◌&&◌, ◌∷◌}
 use Rattle.std.proofs.Math.Nat.{mul-le-mul_right}
-use Rattle.apex_types.specs.declared.code.Code.{Code}
-use Rattle.apex_types.specs.declared.code.Code.TheVariants as code
-use Rattle.apex_types.specs.declared.record.Call.{Call as CallRecord}
-use Rattle.apex_types.specs.declared.record.Out.{Out}
-use Rattle.apex_types.specs.declared.record.Out.TheVariants as out
-use Rattle.apex_types.specs.declared.operation.{CallerOperation.CallerOperation, MutexOperation.MutexOperation, ProcessOperation.ProcessOperation}
-use Rattle.apex_types.specs.declared.request.Request.{Request}
+use Rattle.std.proofs.lemmas.Bool.{and_from, and_parts, eqb-true, eq-eqb, leb-true, cases_lt}
+use Rattle.apex_laws.specs.ProcessLaws.{AnswerIsTheSentence, CallerIsTheSentence, CreationIsTheSentence, DueIsTheSentence, ReleaseIsTheSentence, SettingIsTheSentence, StoppingIsTheSentence, WakingIsTheSentence}
 use Rattle.apex_types.specs.declared.operation.ObjectOperation.TheVariants as on
-use Rattle.apex_types.specs.declared.request.Request.TheVariants as request
-use Rattle.apex_machine.specs.declared.state.Mode.{Mode}
-use Rattle.apex_machine.specs.declared.state.Process.{Process}
-use Rattle.apex_machine.specs.declared.state.Wait.{Wait}
-use Rattle.apex_machine.specs.declared.state.Wait.TheVariants as wait
-use Rattle.apex_machine.specs.declared.state.WaitingSet.{WaitingSet}
-use Rattle.apex_machine.specs.Arguments.{is_number, is_over, natural_of}
-use Rattle.apex_machine.specs.Conditions.{is_normal}
-use Rattle.apex_machine.specs.Objects.{acquired, is_owner, mutex_released}
-use Rattle.apex_machine.specs.DueTimes.{due_by, due_of_call, entry_wait, first_release, time_out_of, wait_in, wait_of, waits_for_normal}
-use Rattle.apex_machine.specs.Processes.{after_normal, by_mutex, caller_after, caller_with, code_when_due, on_ownership, outcome_of, owed, released, release_taken, service_of_wait, wait_ended, renews, started, stopped, woken_by}
-use Rattle.apex_machine.specs.State.{Mutex, given_object, time_of}
-use Rattle.apex_machine.specs.Waiting.{first_waiter, is_waiting, set_of}
-use Rattle.apex_laws.specs.ProcessLaws.{CallerIsTheSentence, DueIsTheSentence, ReleaseIsTheSentence, SettingIsTheSentence, StoppingIsTheSentence, WakingIsTheSentence}
-use Rattle.apex_laws.specs.ProcessSentences.{HasDueTime, IsBegun, IsCaller, IsEntry, IsFirstRelease, IsMutexChange, IsNormalEntered, IsOwnerChange, IsReleased, IsStarted, IsWoken, OnTarget, Renews, WaitsForOther, taking}
-use Rattle.apex_laws.proofs.Booleans.{cannot_hold, same_if}
-use Rattle.apex_laws.proofs.ConditionTests.{normal_tells, number_tells, owner_tells}
+use Rattle.apex_laws.proofs.Common.{Answer, CallerOperation, CallRecord, Code, HasDueTime, IsAtRelease, IsBegun, IsCaller, IsEntry, IsFirstRelease, IsMutexChange, IsNormalEntered, IsOverOrWaits, IsOwnerChange, IsReleased, IsResuming}
+use Rattle.apex_laws.proofs.Common.{IsStarted, IsWoken, Mode, Mutex, MutexOperation, OnTarget, Out, Process, ProcessOperation, Renews, Request, Wait, WaitingSet, WaitsForOther, Who, acquired, after_normal, by_mutex, caller_after}
+use Rattle.apex_laws.proofs.Common.{caller_with, code_when_due, created, done, due_by, due_of_call, entry_wait, first_release, first_waiter, given_object, is_normal, is_number, is_over, is_owner, is_released, is_suspension, is_waiting}
+use Rattle.apex_laws.proofs.Common.{item_at, mutex_released, natural_of, next_release, on_ownership, outcome_of, owed, peer, release_taken, released, renews, resuming, service_of_wait, set_of, started, stopped, taking, time_of, time_out_of}
+use Rattle.apex_laws.proofs.Common.{wait_ended, wait_in, wait_of, waiting, waits_for_normal, waking, woken_by}
+use Rattle.apex_laws.proofs.Booleans.{by_test, cannot_hold, impossible, never_found, same_if}
+use Rattle.apex_laws.proofs.ConditionTests.{normal_tells, number_tells, over_tells, owner_tells, Tells}
+
+-- What the rules compute of a process is exactly what the sentences say.
 
 -- a target
 
@@ -37,10 +23,8 @@ not_number process number differs = cannot_hold (is_number process number) (λ i
 on_target : (process : ℤ) (number : ℕ) (Changed : Type 0) (changed old new : Process) → ((new ≡ changed) → Changed) → (Changed → new ≡ changed)
     → (new ≡ cond (is_number process number) changed old → OnTarget process number Changed old new) × (OnTarget process number Changed old new → new ≡ cond (is_number process number) changed old)
 on_target process number Changed changed old new says by = (
-  λ is. elim (is_number process number) as (λ own. is_number process number ≡ own → new ≡ cond own changed old → OnTarget process number Changed old new) [
-    | true ↦ λ own is. inl ((number_tells process number).0 own, says is)
-    | false ↦ λ other is. inr (λ own. true≢false (sym ((number_tells process number).1 own) ∙ other), is)
-  ] refl is,
+  λ is. by_test (λ one. new ≡ one → OnTarget process number Changed old new) (is_number process number) changed old
+      (λ own is. inl ((number_tells process number).0 own, says is)) (λ other is. inr (λ own. true≢false (sym ((number_tells process number).1 own) ∙ other), is)) is,
   back,
 )
   where
@@ -93,36 +77,33 @@ entry_says period now (Some own) above = IsEntry.periodic own (first_release per
 entry_by : (period now : ℕ) (own : Option ℕ) (entry : Wait) → 0 < period → IsEntry period now own entry → entry ≡ entry_wait period now own
 entry_by period now own entry above (IsEntry.aperiodic none is) = is ∙ sym (ap (entry_wait period now) none)
 entry_by period now own entry above (IsEntry.periodic of time some first is) =
-    is ∙ ap wait.FirstRelease (one_release period now time (first_release period now) first (first_release_is period now above)) ∙ sym (ap (entry_wait period now) some)
+    is ∙ ap Wait.FirstRelease (one_release period now time (first_release period now) first (first_release_is period now above)) ∙ sym (ap (entry_wait period now) some)
 
 -- a process that is started
 started_says : (place period now : ℕ) (current : Mode) (old new : Process) → 0 < period → new ≡ started place period now current old → IsStarted place period now current old new
 started_says place period now current old new above is =
-    elim (is_normal current) as (λ normal. is_normal current ≡ normal → new ≡ record old { current_priority = old.base_priority; alive = true; wait = cond normal (entry_wait period now old.period) wait.NormalMode; ready_position = place }
-    → IsStarted place period now current old new) [
-      | true ↦ λ normal is. IsStarted.in_normal (entry_wait period now old.period) ((normal_tells current).0 normal) (entry_says period now old.period above) is
-      | false ↦ λ not_normal is. IsStarted.before_normal (λ normal. true≢false (sym (ap is_normal normal) ∙ not_normal)) is
-    ] refl is
+    by_test (λ entry. new ≡ record old { current_priority = old.base_priority; alive = true; wait = entry; ready_position = place } → IsStarted place period now current old new) (is_normal current) (entry_wait period now old.period) Wait.NormalMode
+    (λ normal is. IsStarted.in_normal (entry_wait period now old.period) ((normal_tells current).0 normal) (entry_says period now old.period above) is)
+    (λ not_normal is. IsStarted.before_normal (λ normal. true≢false (sym (ap is_normal normal) ∙ not_normal)) is) is
 
 started_by : (place period now : ℕ) (current : Mode) (old new : Process) → 0 < period → IsStarted place period now current old new → new ≡ started place period now current old
 started_by place period now current old new above (IsStarted.in_normal entry normal enters is) =
     is ∙ ap (λ one. record old { current_priority = old.base_priority; alive = true; wait = one; ready_position = place })
-    (entry_by period now old.period entry above enters ∙ sym (ap (λ test. cond test (entry_wait period now old.period) wait.NormalMode) (ap is_normal normal)))
+    (entry_by period now old.period entry above enters ∙ sym (ap (λ test. cond test (entry_wait period now old.period) Wait.NormalMode) (ap is_normal normal)))
 started_by place period now current old new above (IsStarted.before_normal differs is) =
     is ∙ ap (λ one. record old { current_priority = old.base_priority; alive = true; wait = one; ready_position = place })
-    (sym (ap (λ test. cond test (entry_wait period now old.period) wait.NormalMode) (cannot_hold (is_normal current) (λ normal. differs ((normal_tells current).0 normal)))))
+    (sym (ap (λ test. cond test (entry_wait period now old.period) Wait.NormalMode) (cannot_hold (is_normal current) (λ normal. differs ((normal_tells current).0 normal)))))
 
 -- the wait for NORMAL
-for_normal_is : (one : Wait) → waits_for_normal one ≡ true → one ≡ wait.NormalMode
-for_normal_is wait.NormalMode is = refl
-for_normal_is _ is = absurd (true≢false (sym is))
+for_normal_is : (one : Wait) → waits_for_normal one ≡ true → one ≡ Wait.NormalMode
+for_normal_is Wait.NormalMode is = refl
+for_normal_is _ is = impossible is
 
 normal_says : (place period now : ℕ) (old new : Process) → 0 < period → new ≡ after_normal place period now old → IsNormalEntered place period now old new
 normal_says place period now old new above is =
-    elim (waits_for_normal old.wait) as (λ waits. waits_for_normal old.wait ≡ waits → new ≡ cond waits (record old { wait = entry_wait period now old.period; ready_position = place }) old → IsNormalEntered place period now old new) [
-      | true ↦ λ waits is. IsNormalEntered.waited (entry_wait period now old.period) (for_normal_is old.wait waits) (entry_says period now old.period above) is
-      | false ↦ λ not_waiting is. IsNormalEntered.else_stays (λ waits. true≢false (sym (ap waits_for_normal waits) ∙ not_waiting)) is
-    ] refl is
+    by_test (λ one. new ≡ one → IsNormalEntered place period now old new) (waits_for_normal old.wait) (record old { wait = entry_wait period now old.period; ready_position = place }) old
+    (λ waits is. IsNormalEntered.waited (entry_wait period now old.period) (for_normal_is old.wait waits) (entry_says period now old.period above) is)
+    (λ not_waiting is. IsNormalEntered.else_stays (λ waits. true≢false (sym (ap waits_for_normal waits) ∙ not_waiting)) is) is
 
 normal_by : (place period now : ℕ) (old new : Process) → 0 < period → IsNormalEntered place period now old new → new ≡ after_normal place period now old
 normal_by place period now old new above (IsNormalEntered.waited entry waits enters is) =
@@ -164,60 +145,50 @@ mutex_change (Some mutex) change number old new = (
 
 -- every service
 pub setting_is_the_sentence : SettingIsTheSentence
-setting_is_the_sentence place period cores partition caller (request.Process process (ProcessOperation.InitializeCoreAffinity core)) number old new above =
+setting_is_the_sentence place period cores partition caller (Request.Process process (ProcessOperation.InitializeCoreAffinity core)) number old new above =
     on_target process number (new ≡ record old { affinity = natural_of core }) (record old { affinity = natural_of core }) old new (λ is. is) (λ is. is)
-setting_is_the_sentence place period cores partition caller (request.Process process ProcessOperation.Start) number old new above =
+setting_is_the_sentence place period cores partition caller (Request.Process process ProcessOperation.Start) number old new above =
     on_target process number (IsStarted place period (time_of cores old.affinity) partition.mode old new) (started place period (time_of cores old.affinity) partition.mode old) old new
     (started_says place period (time_of cores old.affinity) partition.mode old new above) (started_by place period (time_of cores old.affinity) partition.mode old new above)
-setting_is_the_sentence place period cores partition caller (request.Process process ProcessOperation.Suspend) number old new above =
+setting_is_the_sentence place period cores partition caller (Request.Process process ProcessOperation.Suspend) number old new above =
     on_target process number (new ≡ record old { suspended = true }) (record old { suspended = true }) old new (λ is. is) (λ is. is)
-setting_is_the_sentence place period cores partition caller (request.Process process ProcessOperation.Resume) number old new above =
+setting_is_the_sentence place period cores partition caller (Request.Process process ProcessOperation.Resume) number old new above =
     on_target process number (new ≡ record old { suspended = false; ready_position = place }) (record old { suspended = false; ready_position = place }) old new (λ is. is) (λ is. is)
-setting_is_the_sentence place period cores partition caller (request.Process process (ProcessOperation.SetPriority priority)) number old new above =
+setting_is_the_sentence place period cores partition caller (Request.Process process (ProcessOperation.SetPriority priority)) number old new above =
     on_target process number (new ≡ record old { current_priority = natural_of priority; ready_position = place }) (record old { current_priority = natural_of priority; ready_position = place }) old new (λ is. is) (λ is. is)
-setting_is_the_sentence place period cores partition caller (request.SetPartitionMode next) number old new above =
+setting_is_the_sentence place period cores partition caller (Request.SetPartitionMode next) number old new above =
     (normal_says place period (time_of cores old.affinity) old new above, normal_by place period (time_of cores old.affinity) old new above)
-setting_is_the_sentence place period cores partition caller (request.Object mutex (on.Mutex (MutexOperation.Acquire time_out))) number old new above =
+setting_is_the_sentence place period cores partition caller (Request.Object mutex (on.Mutex (MutexOperation.Acquire time_out))) number old new above =
     mutex_change (given_object partition.mutexes mutex) (λ found. (acquired caller time_out found).next) number old new
-setting_is_the_sentence place period cores partition caller (request.Object mutex (on.Mutex MutexOperation.Release)) number old new above =
+setting_is_the_sentence place period cores partition caller (Request.Object mutex (on.Mutex MutexOperation.Release)) number old new above =
     mutex_change (given_object partition.mutexes mutex) (λ found. (mutex_released (first_waiter found.discipline found.waiters) found).next) number old new
-setting_is_the_sentence place period cores partition caller (request.Process process ProcessOperation.Stop) number old new above =
+setting_is_the_sentence place period cores partition caller (Request.Process process ProcessOperation.Stop) number old new above =
     (λ is. is ∙ same_if (is_number process number) old, λ is. is ∙ sym (same_if (is_number process number) old))
 setting_is_the_sentence place period cores partition caller _ number old new above = (λ is. is, λ is. is)
 
 -- who falls due
 
-has_due : (one : Wait) (now : ℕ) → due_by now one ≡ true → (time : ℕ) × HasDueTime one time × (time ≤ now)
-has_due (wait.FirstRelease time) now due = (time, refl, leb-true time now due)
-has_due (wait.Until time) now due = (time, refl, leb-true time now due)
-has_due (wait.PeriodicRelease time) now due = (time, refl, leb-true time now due)
-has_due (wait.Suspended (Some time)) now due = (time, refl, leb-true time now due)
-has_due (wait.Suspended None) now due = absurd (true≢false (sym due))
-has_due (wait.At set (Some time)) now due = (time, refl, leb-true time now due)
-has_due (wait.At set None) now due = absurd (true≢false (sym due))
-has_due _ now due = absurd (true≢false (sym due))
-
 -- the time of a wait has come
-come : (time due now : ℕ) → time ≡ due → time ≤ now → nat_le due now ≡ true
-come time due now same below = let at : due ≤ now = omega (arith, same, below) in grind arith
+come_tells : (due now : ℕ) → Tells (nat_le due now) ((time : ℕ) × (time ≡ due) × (time ≤ now))
+come_tells due now = (λ holds. (due, refl, leb-true due now holds), λ has. let same = has.1 in let below = has.2 in let at : due ≤ now = omega (arith, same, below) in grind arith)
 
-reached : (one : Wait) (time now : ℕ) → HasDueTime one time → time ≤ now → due_by now one ≡ true
-reached (wait.FirstRelease due) time now has below = come time due now has below
-reached (wait.Until due) time now has below = come time due now has below
-reached (wait.PeriodicRelease due) time now has below = come time due now has below
-reached (wait.Suspended (Some due)) time now has below = come time due now has below
-reached (wait.Suspended None) time now has below = absurd has
-reached (wait.At set (Some due)) time now has below = come time due now has below
-reached (wait.At set None) time now has below = absurd has
-reached _ time now has below = absurd has
+due_tells : (one : Wait) (now : ℕ) → Tells (due_by now one) ((time : ℕ) × HasDueTime one time × (time ≤ now))
+due_tells (Wait.FirstRelease due) now = come_tells due now
+due_tells (Wait.Until due) now = come_tells due now
+due_tells (Wait.PeriodicRelease due) now = come_tells due now
+due_tells (Wait.Suspended (Some due)) now = come_tells due now
+due_tells (Wait.Suspended None) now = (impossible, λ has. absurd has.1)
+due_tells (Wait.At set (Some due)) now = come_tells due now
+due_tells (Wait.At set None) now = (impossible, λ has. absurd has.1)
+due_tells _ now = (impossible, λ has. absurd has.1)
 
 pub due_is_the_sentence : DueIsTheSentence
 due_is_the_sentence core now process = (
   λ due.
       let parts = and_parts (nat_eq process.affinity core) (due_by now process.wait) due in
-      let has = has_due process.wait now parts.1 in
+      let has = (due_tells process.wait now).0 parts.1 in
       record { affinity = eqb-true process.affinity core parts.0; time = has.0; due = has.1; reached = has.2 },
-  λ is. and_from _ _ (eq-eqb process.affinity core is.affinity) (reached process.wait is.time now is.due is.reached),
+  λ is. and_from _ _ (eq-eqb process.affinity core is.affinity) ((due_tells process.wait now).1 (is.time, is.due, is.reached)),
 )
 
 -- the end of a wait
@@ -229,25 +200,25 @@ ended place old one at =
     ap (λ (waits : Wait). wait_ended place (owed (service_of_wait waits) (code_when_due waits) []) (record old { wait = waits })) at
 
 woken_from : (place : ℕ) (message : List ℕ) (old : Process) (one : Wait) → old.wait ≡ one
-    → woken_by place message old ≡ wait_ended place (owed (service_of_wait one) code.NoError message) (record old { wait = one })
+    → woken_by place message old ≡ wait_ended place (owed (service_of_wait one) Code.NoError message) (record old { wait = one })
 woken_from place message old one at =
-    ap (λ (waits : Wait). wait_ended place (owed (service_of_wait waits) code.NoError message) (record old { wait = waits })) at
+    ap (λ (waits : Wait). wait_ended place (owed (service_of_wait waits) Code.NoError message) (record old { wait = waits })) at
 
 -- a caller that waits in a set
 waits_in_set : (now : ℕ) (asked : Request) (chan : Option ℕ) (process : Process) (set : WaitingSet) → set_of asked chan ≡ Some set
-    → wait_of asked chan now process ≡ wait.At set (due_of_call (time_out_of asked) now)
-waits_in_set now (request.Caller (CallerOperation.TimedWait (pos delay))) chan process set at = let none : ◌≡◌ {A = Option WaitingSet} None (Some set) = at in cc
-waits_in_set now (request.Caller (CallerOperation.TimedWait (negsuc n))) chan process set at = let none : ◌≡◌ {A = Option WaitingSet} None (Some set) = at in cc
-waits_in_set now (request.Caller CallerOperation.PeriodicWait) chan process set at = let none : ◌≡◌ {A = Option WaitingSet} None (Some set) = at in cc
-waits_in_set now (request.Caller (CallerOperation.SuspendSelf time_out)) chan process set at = let none : ◌≡◌ {A = Option WaitingSet} None (Some set) = at in cc
+    → wait_of asked chan now process ≡ Wait.At set (due_of_call (time_out_of asked) now)
+waits_in_set now (Request.Caller (CallerOperation.TimedWait (pos delay))) chan process set at = never_found at
+waits_in_set now (Request.Caller (CallerOperation.TimedWait (negsuc n))) chan process set at = never_found at
+waits_in_set now (Request.Caller CallerOperation.PeriodicWait) chan process set at = never_found at
+waits_in_set now (Request.Caller (CallerOperation.SuspendSelf time_out)) chan process set at = never_found at
 waits_in_set now asked chan process set at = ap (λ one. wait_in one (due_of_call (time_out_of asked) now)) at
 
 -- a caller that took a release
 taken : (place now : ℕ) (call : CallRecord) (old : Process) (asked : Request) → Renews asked
-    → record old { ready_position = place; last_release = release_taken asked old; due = Some (outcome_of call code.NoError); called_at = now }
-    ≡ record (taking asked old) { ready_position = place; due = Some (outcome_of call code.NoError); called_at = now }
-taken place now call old (request.Caller (CallerOperation.TimedWait ticks)) renews = refl
-taken place now call old (request.Caller CallerOperation.PeriodicWait) renews = refl
+    → record old { ready_position = place; last_release = release_taken asked old; due = Some (outcome_of call Code.NoError); called_at = now }
+    ≡ record (taking asked old) { ready_position = place; due = Some (outcome_of call Code.NoError); called_at = now }
+taken place now call old (Request.Caller (CallerOperation.TimedWait ticks)) renews = refl
+taken place now call old (Request.Caller CallerOperation.PeriodicWait) renews = refl
 taken place now call old _ renews = absurd renews
 
 -- a caller that is refused keeps its position and its release
@@ -262,33 +233,33 @@ kept_so place now call old given =
     never false = refl
 
 released_says : (place : ℕ) (old new : Process) (one : Wait) (time : ℕ) → old.wait ≡ one → HasDueTime one time → new ≡ released place old → IsReleased place old new
-released_says place old new (wait.FirstRelease due) time at has is = IsReleased.first_release due at (is ∙ ended place old (wait.FirstRelease due) at)
-released_says place old new (wait.Until due) time at has is = IsReleased.delay due at (is ∙ ended place old (wait.Until due) at)
-released_says place old new (wait.PeriodicRelease due) time at has is = IsReleased.release due at (is ∙ ended place old (wait.PeriodicRelease due) at)
-released_says place old new (wait.Suspended due) time at has is = IsReleased.suspension due at (is ∙ ended place old (wait.Suspended due) at)
-released_says place old new (wait.At set due) time at has is = IsReleased.object set due at (is ∙ ended place old (wait.At set due) at)
-released_says place old new wait.Nothing time at has is = absurd has
-released_says place old new wait.NormalMode time at has is = absurd has
+released_says place old new (Wait.FirstRelease due) time at has is = IsReleased.first_release due at (is ∙ ended place old (Wait.FirstRelease due) at)
+released_says place old new (Wait.Until due) time at has is = IsReleased.delay due at (is ∙ ended place old (Wait.Until due) at)
+released_says place old new (Wait.PeriodicRelease due) time at has is = IsReleased.release due at (is ∙ ended place old (Wait.PeriodicRelease due) at)
+released_says place old new (Wait.Suspended due) time at has is = IsReleased.suspension due at (is ∙ ended place old (Wait.Suspended due) at)
+released_says place old new (Wait.At set due) time at has is = IsReleased.object set due at (is ∙ ended place old (Wait.At set due) at)
+released_says place old new Wait.Nothing time at has is = absurd has
+released_says place old new Wait.NormalMode time at has is = absurd has
 
 released_by : (place : ℕ) (old new : Process) → IsReleased place old new → new ≡ released place old
-released_by place old new (IsReleased.first_release due at is) = is ∙ sym (ended place old (wait.FirstRelease due) at)
-released_by place old new (IsReleased.delay due at is) = is ∙ sym (ended place old (wait.Until due) at)
-released_by place old new (IsReleased.release due at is) = is ∙ sym (ended place old (wait.PeriodicRelease due) at)
-released_by place old new (IsReleased.suspension due at is) = is ∙ sym (ended place old (wait.Suspended due) at)
-released_by place old new (IsReleased.object set due at is) = is ∙ sym (ended place old (wait.At set due) at)
+released_by place old new (IsReleased.first_release due at is) = is ∙ sym (ended place old (Wait.FirstRelease due) at)
+released_by place old new (IsReleased.delay due at is) = is ∙ sym (ended place old (Wait.Until due) at)
+released_by place old new (IsReleased.release due at is) = is ∙ sym (ended place old (Wait.PeriodicRelease due) at)
+released_by place old new (IsReleased.suspension due at is) = is ∙ sym (ended place old (Wait.Suspended due) at)
+released_by place old new (IsReleased.object set due at is) = is ∙ sym (ended place old (Wait.At set due) at)
 
 pub release_is_the_sentence : ReleaseIsTheSentence
 release_is_the_sentence place time old new has = (released_says place old new old.wait time refl has, released_by place old new)
 
 woken_says : (place : ℕ) (message : List ℕ) (old new : Process) (one : Wait) → old.wait ≡ one → WaitsForOther one → new ≡ woken_by place message old → IsWoken place message old new
-woken_says place message old new (wait.Suspended due) at waits is = IsWoken.suspension due at (is ∙ woken_from place message old (wait.Suspended due) at)
-woken_says place message old new (wait.At set due) at waits is = IsWoken.object set due at (is ∙ woken_from place message old (wait.At set due) at)
-woken_says place message old new wait.Nothing at waits is = absurd waits
+woken_says place message old new (Wait.Suspended due) at waits is = IsWoken.suspension due at (is ∙ woken_from place message old (Wait.Suspended due) at)
+woken_says place message old new (Wait.At set due) at waits is = IsWoken.object set due at (is ∙ woken_from place message old (Wait.At set due) at)
+woken_says place message old new Wait.Nothing at waits is = absurd waits
 woken_says place message old new _ at waits is = absurd waits
 
 woken_back : (place : ℕ) (message : List ℕ) (old new : Process) → IsWoken place message old new → new ≡ woken_by place message old
-woken_back place message old new (IsWoken.suspension due at is) = is ∙ sym (woken_from place message old (wait.Suspended due) at)
-woken_back place message old new (IsWoken.object set due at is) = is ∙ sym (woken_from place message old (wait.At set due) at)
+woken_back place message old new (IsWoken.suspension due at is) = is ∙ sym (woken_from place message old (Wait.Suspended due) at)
+woken_back place message old new (IsWoken.object set due at is) = is ∙ sym (woken_from place message old (Wait.At set due) at)
 
 pub waking_is_the_sentence : WakingIsTheSentence
 waking_is_the_sentence place message old new waits = (woken_says place message old new old.wait refl waits, woken_back place message old new)
@@ -300,19 +271,19 @@ stopping_is_the_sentence old new = (λ is. is, λ is. is)
 
 -- a call that renews
 renews_is : (asked : Request) → renews asked ≡ true → Renews asked
-renews_is (request.Caller (CallerOperation.TimedWait (pos n))) is = ap pos (eqb-true n 0 is)
-renews_is (request.Caller (CallerOperation.TimedWait (negsuc n))) is = absurd (true≢false (sym is))
-renews_is (request.Caller CallerOperation.PeriodicWait) is = tt
-renews_is _ is = absurd (true≢false (sym is))
+renews_is (Request.Caller (CallerOperation.TimedWait (pos n))) is = ap pos (eqb-true n 0 is)
+renews_is (Request.Caller (CallerOperation.TimedWait (negsuc n))) is = impossible is
+renews_is (Request.Caller CallerOperation.PeriodicWait) is = tt
+renews_is _ is = impossible is
 
 renews_by : (asked : Request) → Renews asked → renews asked ≡ true
-renews_by (request.Caller (CallerOperation.TimedWait ticks)) is = ap is_over is
-renews_by (request.Caller CallerOperation.PeriodicWait) is = refl
+renews_by (Request.Caller (CallerOperation.TimedWait ticks)) is = ap is_over is
+renews_by (Request.Caller CallerOperation.PeriodicWait) is = refl
 renews_by _ is = absurd is
 
 -- a call that doesn't renew takes no release
 takes_none : (asked : Request) (process : Process) → ¬ Renews asked → release_taken asked process ≡ process.last_release
-takes_none (request.Caller CallerOperation.PeriodicWait) process not_renewing = absurd (not_renewing tt)
+takes_none (Request.Caller CallerOperation.PeriodicWait) process not_renewing = absurd (not_renewing tt)
 takes_none _ process not_renewing = refl
 
 -- what is begun is what the rule says
@@ -325,20 +296,20 @@ begun_is now asked chan process begun (IsBegun.object set at is) = is ∙ sym (w
 caller_says : (place now : ℕ) (call : CallRecord) (old new : Process) (given : Out) → call.claim.out ≡ given
     → (IsTrue (is_waiting given) → IsBegun now call.request call.claim.chan old (wait_of call.request call.claim.chan now old))
     → new ≡ record (caller_with place now call given old) { called_at = now } → IsCaller place now call old new
-caller_says place now call old new out.Waits at begins is = IsCaller.waits (wait_of call.request call.claim.chan now old) at (begins refl) is
-caller_says place now call old new out.Never at begins is = IsCaller.ends (stopped old) at refl is
-caller_says place now call old new (out.Answer code.NoError) at begins is =
+caller_says place now call old new Out.Waits at begins is = IsCaller.waits (wait_of call.request call.claim.chan now old) at (begins refl) is
+caller_says place now call old new Out.Never at begins is = IsCaller.ends (stopped old) at refl is
+caller_says place now call old new (Out.Answer Code.NoError) at begins is =
     elim (renews call.request) as (λ renewed. renews call.request ≡ renewed → new ≡ record old {
       ready_position = cond (renewed && true) place old.ready_position;
       last_release = release_taken call.request old;
-      due = Some (outcome_of call code.NoError);
+      due = Some (outcome_of call Code.NoError);
       called_at = now;
     } → IsCaller place now call old new) [
       | true ↦ λ renewed is. IsCaller.is_renewed at (renews_is call.request renewed) (is ∙ taken place now call old call.request (renews_is call.request renewed))
       | false ↦ λ not_renewed is. IsCaller.is_answered at (λ renewed. true≢false (sym (renews_by call.request renewed) ∙ not_renewed))
-          (is ∙ ap (λ release. record old { last_release = release; due = Some (outcome_of call code.NoError); called_at = now }) (takes_none call.request old (λ renewed. true≢false (sym (renews_by call.request renewed) ∙ not_renewed))))
+          (is ∙ ap (λ release. record old { last_release = release; due = Some (outcome_of call Code.NoError); called_at = now }) (takes_none call.request old (λ renewed. true≢false (sym (renews_by call.request renewed) ∙ not_renewed))))
     ] refl is
-caller_says place now call old new (out.Answer given) at begins is = IsCaller.is_refused given at (λ same. cc) (is ∙ kept_so place now call old given)
+caller_says place now call old new (Out.Answer given) at begins is = IsCaller.is_refused given at (λ same. cc) (is ∙ kept_so place now call old given)
 
 caller_by : (place now : ℕ) (call : CallRecord) (old new : Process) → IsCaller place now call old new → new ≡ caller_after place now call old
 caller_by place now call old new (IsCaller.waits begun at begins is) =
@@ -348,20 +319,91 @@ caller_by place now call old new (IsCaller.ends one at is_stopped is) =
     is ∙ ap (λ (process : Process). let one : Process = record process { called_at = now } in one) is_stopped ∙ sym (ap (λ given. record (caller_with place now call given old) { called_at = now }) at)
 caller_by place now call old new (IsCaller.is_renewed at renewed is) =
     is ∙ sym (taken place now call old call.request renewed)
-    ∙ ap (λ test. record old { ready_position = cond (test && true) place old.ready_position; last_release = release_taken call.request old; due = Some (outcome_of call code.NoError); called_at = now }) (sym (renews_by call.request renewed))
+    ∙ ap (λ test. record old { ready_position = cond (test && true) place old.ready_position; last_release = release_taken call.request old; due = Some (outcome_of call Code.NoError); called_at = now }) (sym (renews_by call.request renewed))
     ∙ sym (ap (λ given. record (caller_with place now call given old) { called_at = now }) at)
 caller_by place now call old new (IsCaller.is_answered at not_renewing is) =
-    is ∙ ap (λ release. record old { last_release = release; due = Some (outcome_of call code.NoError); called_at = now }) (sym (takes_none call.request old not_renewing))
-    ∙ ap (λ test. record old { ready_position = cond (test && true) place old.ready_position; last_release = release_taken call.request old; due = Some (outcome_of call code.NoError); called_at = now })
+    is ∙ ap (λ release. record old { last_release = release; due = Some (outcome_of call Code.NoError); called_at = now }) (sym (takes_none call.request old not_renewing))
+    ∙ ap (λ test. record old { ready_position = cond (test && true) place old.ready_position; last_release = release_taken call.request old; due = Some (outcome_of call Code.NoError); called_at = now })
     (sym (cannot_hold (renews call.request) (λ renewed. not_renewing (renews_is call.request renewed))))
     ∙ sym (ap (λ given. record (caller_with place now call given old) { called_at = now }) at)
 caller_by place now call old new (IsCaller.is_refused given at differs is) =
     is ∙ refused_so place now call old given differs ∙ sym (ap (λ one. record (caller_with place now call one old) { called_at = now }) at)
   where
-    refused_so : (place now : ℕ) (call : CallRecord) (old : Process) (given : Code) → ¬ (given ≡ code.NoError)
-        → record old { due = Some (outcome_of call given); called_at = now } ≡ record (caller_with place now call (out.Answer given) old) { called_at = now }
-    refused_so place now call old code.NoError differs = absurd (differs refl)
+    refused_so : (place now : ℕ) (call : CallRecord) (old : Process) (given : Code) → ¬ (given ≡ Code.NoError)
+        → record old { due = Some (outcome_of call given); called_at = now } ≡ record (caller_with place now call (Out.Answer given) old) { called_at = now }
+    refused_so place now call old Code.NoError differs = absurd (differs refl)
     refused_so place now call old given differs = sym (kept_so place now call old given)
 
 pub caller_is_the_sentence : CallerIsTheSentence
 caller_is_the_sentence place now call old new begins = (caller_says place now call old new call.claim.out refl begins, caller_by place now call old new)
+
+-- What the services of process management and time give is exactly what the sentences say.
+
+-- over at once, or waiting
+over_or_waits : (Over : Type 0) (test : Bool) (answer : Answer) → (test ≡ true → Over) → (Over → test ≡ true)
+    → (answer ≡ cond test done waiting → IsOverOrWaits Over answer) × (IsOverOrWaits Over answer → answer ≡ cond test done waiting)
+over_or_waits Over test answer is by = (
+  λ gives. by_test (λ one. answer ≡ one → IsOverOrWaits Over answer) test done waiting
+      (λ over gives. IsOverOrWaits.over (is over) gives) (λ later gives. IsOverOrWaits.later (λ over. true≢false (sym (by over) ∙ later)) gives) gives,
+  back,
+)
+  where
+    back : IsOverOrWaits Over answer → answer ≡ cond test done waiting
+    back (IsOverOrWaits.over over gives) = rw (by over) gives
+    back (IsOverOrWaits.later later gives) = rw (cannot_hold test (λ over. later (is over))) gives
+
+-- the next release
+release_is : (now : ℕ) (found : Option Process) → is_released now found ≡ true → IsAtRelease now found
+release_is now None is = impossible is
+release_is now (Some process) is = leb-true (next_release process) now is
+
+release_by : (now : ℕ) (found : Option Process) → IsAtRelease now found → is_released now found ≡ true
+release_by now None is = absurd is
+release_by now (Some process) is = grind arith
+
+-- RESUME
+suspension_is : (one : Wait) → is_suspension one ≡ true → (due : Option ℕ) × (one ≡ Wait.Suspended due)
+suspension_is (Wait.Suspended due) is = (due, refl)
+suspension_is _ is = impossible is
+
+resuming_says : (target : Who) (found : Option Process) (answer : Answer) → answer ≡ resuming target found → IsResuming target found answer
+resuming_says target None answer gives = IsResuming.nobody refl gives
+resuming_says target (Some process) answer gives =
+    by_test (λ one. answer ≡ one → IsResuming target (Some process) answer) (is_suspension process.wait) (waking (target ∷ [])) done
+    (λ suspends gives. (let is = suspension_is process.wait suspends in IsResuming.suspended_itself process is.0 refl is.1 gives))
+    (λ not_suspended gives. IsResuming.was_marked process refl (λ due is. true≢false (sym (ap is_suspension is) ∙ not_suspended)) gives) gives
+
+resuming_by : (target : Who) (found : Option Process) (answer : Answer) → IsResuming target found answer → answer ≡ resuming target found
+resuming_by target found answer (IsResuming.suspended_itself process due at is gives) =
+    gives ∙ sym (ap (resuming target) at ∙ ap (λ test. cond test (waking (target ∷ [])) done) (ap is_suspension is))
+resuming_by target found answer (IsResuming.was_marked process at not_suspended gives) =
+    gives ∙ sym (ap (resuming target) at ∙ ap (λ test. cond test (waking (target ∷ [])) done)
+    (cannot_hold (is_suspension process.wait) (λ is. let one = suspension_is process.wait is in not_suspended one.0 one.1)))
+resuming_by target found answer (IsResuming.nobody none gives) = gives ∙ sym (ap (resuming target) none)
+
+pub answer_is_the_sentence : AnswerIsTheSentence
+answer_is_the_sentence now who partition (Request.Caller (CallerOperation.SuspendSelf time_out)) answer = over_or_waits (time_out ≡ pos 0) (is_over time_out) answer (over_tells time_out).0 (λ is. ap is_over is)
+answer_is_the_sentence now who partition (Request.Caller (CallerOperation.TimedWait ticks)) answer = over_or_waits (ticks ≡ pos 0) (is_over ticks) answer (over_tells ticks).0 (λ is. ap is_over is)
+answer_is_the_sentence now who partition (Request.Caller CallerOperation.PeriodicWait) answer =
+    over_or_waits (IsAtRelease now (item_at partition.table who.proc)) (is_released now (item_at partition.table who.proc)) answer
+    (release_is now (item_at partition.table who.proc)) (release_by now (item_at partition.table who.proc))
+answer_is_the_sentence now who partition (Request.Process process ProcessOperation.Resume) answer =
+    (resuming_says (peer who process) (created partition.table process) answer, resuming_by (peer who process) (created partition.table process) answer)
+answer_is_the_sentence now who partition _ answer = (λ gives. gives, λ gives. gives)
+
+pub creation_is_the_sentence : CreationIsTheSentence
+creation_is_the_sentence core name priority period = record {
+  name = refl;
+  base_priority = refl;
+  current_priority = refl;
+  retained_priority = refl;
+  affinity = refl;
+  period = refl;
+  alive = refl;
+  suspended = refl;
+  wait = refl;
+  due = refl;
+  last_release = refl;
+  ready_position = refl;
+  called_at = refl;
+}

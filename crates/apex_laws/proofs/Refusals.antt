@@ -1,12 +1,7 @@
 -- The first refusal of a piece: there is at most one, and without one the piece has a run.
 use Rattle.std.proofs.Common.{◌≡◌, List, [], ◌∷◌, Bool, true, false, Option, Some, None, refl, sym, ap, subst, ◌∙◌, inl, inr}
 use Rattle.apex_types.specs.declared.cause.Cause.{Cause}
-use Rattle.apex_types.specs.declared.record.Ordered.{Ordered}
-use Rattle.apex_machine.specs.Configuration.{Configuration}
-use Rattle.apex_machine.specs.Demands.{AllHold, Demand, FirstFails, demands}
-use Rattle.apex_machine.specs.Pieces.{Part, Piece, touches}
-use Rattle.apex_machine.specs.Runs.{Finds, FindsNext, Goes, PieceRun, Refusal}
-use Rattle.apex_laws.specs.Laws.{OneFirstRefusal}
+use Rattle.apex_laws.proofs.Common.{AllHold, Configuration, Demand, Finds, FindsNext, FirstFails, Goes, OneFirstRefusal, Ordered, Part, Piece, PieceRun, Refusal, demands, touches}
 
 -- without a refusal
 

@@ -2,25 +2,10 @@
 use Rattle.std.proofs.Common.{◌≡◌, ℕ, List, [], ◌∷◌, true, false, cond, nat_eq, Option, Some, None, is_some, refl, sym, ap, ◌∙◌, true≢false, ◌||◌}
 use Rattle.std.proofs.lemmas.Bool.{eq-eqb}
 use Rattle.apex_types.specs.declared.object_kind.ObjectKind.TheVariants as kind
-use Rattle.apex_types.specs.declared.record.Body.TheVariants.{Call, Ret}
-use Rattle.apex_types.specs.declared.record.Call.{Call as CallRecord}
-use Rattle.apex_types.specs.declared.record.Return.{Return}
-use Rattle.apex_types.specs.declared.record.Out.{Out}
-use Rattle.apex_types.specs.declared.record.Out.TheVariants as out
-use Rattle.apex_types.specs.declared.record.Who.{Who}
-use Rattle.apex_types.specs.declared.request.Request.{Request}
-use Rattle.apex_types.specs.declared.request.Request.TheVariants as request
-use Rattle.apex_machine.specs.declared.state.CoreState.{CoreState}
-use Rattle.apex_machine.specs.declared.state.Mode.{Mode}
-use Rattle.apex_machine.specs.declared.state.Mode.TheVariants as mode
-use Rattle.apex_machine.specs.declared.state.WaitingSet.{WaitingSet}
-use Rattle.apex_machine.specs.After.{is_done, objects_by, own_partition, partition_by, partition_called, returned, woken_if_named}
-use Rattle.apex_machine.specs.Configuration.{Configuration}
-use Rattle.apex_machine.specs.State.{Partition, Table, each_item, first_processes, initialising_process, is_named, item_at, started_partition, entries_at_end, objects_of}
-use Rattle.apex_machine.specs.Waiting.{ends_wait, is_no_error, is_waiting, restart_by, restart_of, restarts, stops, waits_at}
-use Rattle.apex_laws.specs.Laws.{are_distinct, entries_at, entries_in}
-use Rattle.apex_laws.proofs.Booleans.{neither, neither_first, neither_later, not_first, not_second}
-use Rattle.apex_types.specs.declared.object_kind.ObjectKind.{ObjectKind}
+use Rattle.apex_laws.proofs.Common.{Call, CallRecord, Configuration, CoreState, Mode, ObjectKind, Out, Partition, Request, Ret, Return, Table, WaitingSet, Who, are_distinct, each_item, ends_wait, entries_at, entries_at_end, entries_in}
+use Rattle.apex_laws.proofs.Common.{first_processes, initialising_process, is_done, is_named, is_no_error, is_waiting, item_at, objects_by, objects_of, own_partition, partition_by, partition_called, restart_by, restart_of, restarts}
+use Rattle.apex_laws.proofs.Common.{returned, started_partition, stops, waits_at, woken_if_named}
+use Rattle.apex_laws.proofs.Booleans.{by_test, neither, neither_first, neither_later, never_found, not_first, not_second}
 
 -- the caller's partition
 
@@ -40,10 +25,7 @@ pub done_case : (Holds : Partition → Type 0) (configuration : Configuration) (
     → (is_done call.claim.out ≡ true → Holds (objects_by configuration call.who call.claim.val call.request partition)) → Holds partition
     → Holds (cond (is_done call.claim.out) (objects_by configuration call.who call.claim.val call.request partition) partition)
 done_case Holds configuration call partition used stays =
-    elim (is_done call.claim.out) as (λ done. is_done call.claim.out ≡ done → Holds (cond done (objects_by configuration call.who call.claim.val call.request partition) partition)) [
-      | true ↦ used
-      | false ↦ λ not_done. stays
-    ] refl
+    by_test Holds (is_done call.claim.out) (objects_by configuration call.who call.claim.val call.request partition) partition used (λ not_done. stays)
 
 -- the processes of another partition after a call, with those woken that the call names
 abbrev pub woken_if_named_table : ℕ → CallRecord → ℕ → Table → Table
@@ -56,33 +38,30 @@ pub call_case : (Holds : Partition → Type 0) (configuration : Configuration) (
     → (nat_eq call.who.part number ≡ false → Holds (record partition { table = woken_if_named_table place call number partition.table }))
     → Holds (partition_by configuration cores place core number (Call call) partition)
 call_case Holds configuration cores place core number call partition goes_on restarted foreign =
-    elim (nat_eq call.who.part number) as (λ own. nat_eq call.who.part number ≡ own → Holds (cond own (own_partition (restart_of call) configuration cores place core call partition)
-    (record partition { table = woken_if_named_table place call number partition.table }))) [
-      | true ↦ λ own. own_case Holds configuration cores place core call partition (goes_on own) (restarted own)
-      | false ↦ foreign
-    ] refl
+    by_test Holds (nat_eq call.who.part number) (own_partition (restart_of call) configuration cores place core call partition) (record partition { table = woken_if_named_table place call number partition.table })
+    (λ own. own_case Holds configuration cores place core call partition (goes_on own) (restarted own)) foreign
 
 -- what holds of a partition after a return
 pub return_case : (Holds : Partition → Type 0) (configuration : Configuration) (cores : List CoreState) (place core number : ℕ) (ret : Return) (partition : Partition)
     → Holds (record partition { table = each_item (returned ret.who.proc) partition.table }) → Holds partition → Holds (partition_by configuration cores place core number (Ret ret) partition)
 return_case Holds configuration cores place core number ret partition back stays =
-    elim (nat_eq ret.who.part number) as (λ own. Holds (cond own (record partition { table = each_item (returned ret.who.proc) partition.table }) partition)) [ true ↦ back | false ↦ stays ]
+    by_test Holds (nat_eq ret.who.part number) (record partition { table = each_item (returned ret.who.proc) partition.table }) partition (λ own. back) (λ other. stays)
 
 -- which calls restart no partition
 
 -- a call that waits
 waits_on : (asked : Request) (given : Out) → is_waiting given ≡ true → restart_by asked given ≡ None
-waits_on (request.SetPartitionMode next) out.Waits waits = refl
-waits_on (request.SetPartitionMode next) _ waits = absurd (true≢false (sym waits))
+waits_on (Request.SetPartitionMode next) Out.Waits waits = refl
+waits_on (Request.SetPartitionMode next) _ waits = absurd (true≢false (sym waits))
 waits_on _ given waits = refl
 
 pub waiting_goes_on : (call : CallRecord) → is_waiting call.claim.out ≡ true → restart_of call ≡ None
 waiting_goes_on call waits = waits_on call.request call.claim.out waits
 
 -- a call that answers
-pub answering_goes_on : (asked : Request) (given : Out) → ¬ (given ≡ out.Never) → restart_by asked given ≡ None
-answering_goes_on (request.SetPartitionMode next) out.Never answers = absurd (answers refl)
-answering_goes_on (request.SetPartitionMode next) _ answers = refl
+pub answering_goes_on : (asked : Request) (given : Out) → ¬ (given ≡ Out.Never) → restart_by asked given ≡ None
+answering_goes_on (Request.SetPartitionMode next) Out.Never answers = absurd (answers refl)
+answering_goes_on (Request.SetPartitionMode next) _ answers = refl
 answering_goes_on _ given answers = refl
 
 -- a call that isn't done
@@ -124,10 +103,10 @@ not_restarted call who here stays = by (restart_of call) refl
         absurd (true≢false (sym restarted ∙ neither_first (restarts call who.part) (is_named who call.claim.woken || stops call who) stays))
 
 -- a call that restarts a partition does not return
-pub never_returns : (asked : Request) (given : Out) (entered : Mode) → restart_by asked given ≡ Some entered → given ≡ out.Never
-never_returns (request.SetPartitionMode next) out.Never entered is = refl
-never_returns (request.SetPartitionMode next) _ entered is = let no : ◌≡◌ {A = Option Mode} None (Some entered) = is in cc
-never_returns _ given entered is = let no : ◌≡◌ {A = Option Mode} None (Some entered) = is in cc
+pub never_returns : (asked : Request) (given : Out) (entered : Mode) → restart_by asked given ≡ Some entered → given ≡ Out.Never
+never_returns (Request.SetPartitionMode next) Out.Never entered is = refl
+never_returns (Request.SetPartitionMode next) _ entered is = never_found is
+never_returns _ given entered is = never_found is
 
 -- so it is no STOP
 pub restart_stops_none : (call : CallRecord) (entered : Mode) → restart_of call ≡ Some entered → (who : Who) → stops call who ≡ false
@@ -141,7 +120,7 @@ restart_ends call who mode is here = rw (is, eq-eqb who.part call.who.part here)
 
 -- its processes have distinct numbers
 pub start_distinct : (mode : Mode) (core place : ℕ) → are_distinct (first_processes mode core place) ≡ true
-start_distinct mode.Idle core place = refl
+start_distinct Mode.Idle core place = refl
 start_distinct _ core place = refl
 
 -- its sets are empty
@@ -155,12 +134,10 @@ start_set mode configuration number place wanted = none_of wanted.kind
 -- no process waits in it
 first_waits_not : (core place process : ℕ) (wanted : WaitingSet) → waits_at wanted (item_at ((0, initialising_process core place) ∷ []) process) ≡ true → ⊥
 first_waits_not core place process wanted waits =
-    elim (nat_eq process 0) as (λ first. waits_at wanted (cond first (Some (initialising_process core place)) None) ≡ true → ⊥) [
-      | true ↦ λ waits. true≢false (sym waits)
-      | false ↦ λ waits. true≢false (sym waits)
-    ] waits
+    by_test (λ found. waits_at wanted found ≡ true → ⊥) (nat_eq process 0) (Some (initialising_process core place)) None
+    (λ first waits. true≢false (sym waits)) (λ other waits. true≢false (sym waits)) waits
 
 pub start_waits_not : (mode : Mode) (core place process : ℕ) (wanted : WaitingSet) → waits_at wanted (item_at (first_processes mode core place) process) ≡ true → ⊥
-start_waits_not mode.Idle core place process wanted waits = true≢false (sym waits)
-start_waits_not mode.ColdStart core place process wanted waits = first_waits_not core place process wanted waits
+start_waits_not Mode.Idle core place process wanted waits = true≢false (sym waits)
+start_waits_not Mode.ColdStart core place process wanted waits = first_waits_not core place process wanted waits
 start_waits_not _ core place process wanted waits = first_waits_not core place process wanted waits

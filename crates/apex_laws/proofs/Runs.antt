@@ -1,18 +1,10 @@
 -- Steps and runs of the machine, and local steps and runs of its pieces.
-use Rattle.std.proofs.Common.{◌≡◌, suc, List, [], ◌∷◌, Bool, true, false, IsTrue, IsFalse, refl, sym, ap, subst, ◌∙◌, inl, inr}
-use Rattle.std.proofs.lemmas.Bool.{cases_Bool}
-use Rattle.apex_types.specs.declared.record.Ordered.{Ordered}
-use Rattle.apex_machine.specs.After.{after}
-use Rattle.apex_machine.specs.Configuration.{Configuration}
-use Rattle.apex_machine.specs.Demands.{LocalStep}
-use Rattle.apex_machine.specs.Pieces.{Part, Piece, is_configured, part, touches}
-use Rattle.apex_machine.specs.Runs.{ArePlaced, Goes, PieceRun}
-use Rattle.apex_machine.specs.State.{State}
-use Rattle.apex_laws.specs.Laws.{AtMostOneNextState, OneRun, PiecesCompose, PiecesFollow, RunOfEach}
-use Rattle.apex_laws.proofs.Demanded.{demanded}
-use Rattle.apex_laws.proofs.Lawful.{lawful}
-use Rattle.apex_laws.proofs.Parts.{part_of_after}
+use Rattle.std.proofs.Common.{◌≡◌, suc, List, [], ◌∷◌, Bool, true, false, IsTrue, IsFalse, refl, sym, ap, subst, ◌∙◌}
+use Rattle.apex_laws.proofs.Common.{ArePlaced, AtMostOneNextState, Configuration, Goes, LocalStep, OneRun, Ordered, Part, Piece, PieceRun, PiecesCompose, PiecesFollow, RunOfEach, State, after, is_configured, part, touches}
+use Rattle.apex_laws.proofs.Booleans.{either_way}
+use Rattle.apex_laws.proofs.Demanded.{demanded, lawful}
 use Rattle.apex_laws.proofs.Stays.{step_tied}
+use Rattle.apex_laws.proofs.Tables.{part_of_after}
 use Rattle.apex_laws.proofs.Untouched.{untouched_part}
 
 -- steps
@@ -79,10 +71,8 @@ one_run configuration state (ordered ∷ others) reached windows tied placed run
     let step = pieces_compose configuration state ordered (λ piece. (nexts piece).0) windows tied placed.0
     (λ piece is touched. goes_by_step (touches configuration piece ordered) configuration (part piece state) ordered (nexts piece).0 touched ((nexts piece).1 is).0) in
     let arrives : (piece : Piece) → IsTrue (is_configured configuration piece) → part piece step.0 ≡ (nexts piece).0 =
-    λ piece is. elim (cases_Bool (touches configuration piece ordered)) [
-      | inl touched ↦ step.2 piece is touched
-      | inr off ↦ step.3 piece is off ∙ sym (goes_nowhere (touches configuration piece ordered) configuration (part piece state) ordered (nexts piece).0 off ((nexts piece).1 is).0)
-    ] in
+    λ piece is. either_way (touches configuration piece ordered) (λ touched. step.2 piece is touched)
+    (λ off. step.3 piece is off ∙ sym (goes_nowhere (touches configuration piece ordered) configuration (part piece state) ordered (nexts piece).0 off ((nexts piece).1 is).0)) in
     let count : suc state.count ≡ step.0.count = sym (ap (λ one. one.count) step.1.1) in
     let rest = one_run configuration step.0 others reached windows (step_tied configuration state ordered step.0 tied step.1) (subst (λ place. ArePlaced place others) count placed.1)
     (λ piece is. subst (λ old. PieceRun configuration piece old others (reached piece)) (sym (arrives piece is)) ((nexts piece).1 is).1) in

@@ -1,15 +1,13 @@
--- Kinds, ends and waiting sets by their tests.
-use Rattle.std.proofs.Common.{◌≡◌, ℕ, List, Bool, true, false, nat_eq, refl, sym, true≢false}
-use Rattle.std.specs.Prelude.{[]}
+-- Kinds, ends and waiting sets by their tests, and the one set in which a process waits.
+use Rattle.std.proofs.Common.{◌≡◌, ℕ, List, Bool, true, false, nat_eq, refl, sym, true≢false, Option, Some, None, ap, ◌∙◌}
 use Rattle.std.proofs.lemmas.Bool.{and_parts, eqb-true}
-use Rattle.apex_types.specs.declared.object_kind.ObjectKind.{ObjectKind}
+use Rattle.std.specs.Prelude.{[]}
 use Rattle.apex_types.specs.declared.object_kind.ObjectKind.TheVariants as kind
-use Rattle.apex_types.specs.declared.shape.End.{End}
-use Rattle.apex_types.specs.declared.shape.End.TheVariants.{Senders, Receivers}
-use Rattle.apex_machine.specs.declared.state.Entry.{Entry}
-use Rattle.apex_machine.specs.declared.state.WaitingSet.{WaitingSet}
-use Rattle.apex_machine.specs.State.{ObjectOf, Partition, channel_set, entries_at_end, is_of_channel, is_of_object, is_same_end, is_same_kind, is_same_set, objects_of, with_ends, with_objects}
+use Rattle.apex_laws.proofs.Common.{End, Entry, ObjectKind, ObjectOf, Partition, Process, Receivers, Senders, Wait, WaitingSet, channel_set, entries_at_end, is_in, is_of_channel, is_of_object, is_same_end, is_same_kind, is_same_set}
+use Rattle.apex_laws.proofs.Common.{is_the_set, objects_of, waits_at, waits_for_nothing, with_ends, with_objects}
 use Rattle.apex_laws.proofs.Booleans.{is_itself}
+
+-- Kinds, ends and waiting sets by their tests.
 
 -- kinds
 
@@ -121,3 +119,30 @@ ends_agree _ change other found same = refl
 pub ends_kept : (kind : ObjectKind) (found : ObjectOf kind) → with_ends kind (λ end entries. entries) found ≡ found
 ends_kept kind.Buffer found = refl
 ends_kept _ found = refl
+
+-- Waiting sets by their names: a process waits in one at most.
+
+-- the set that is found is the one that is wanted
+pub found_set : (wanted : WaitingSet) (found : Option WaitingSet) → is_the_set wanted found ≡ true → found ≡ Some wanted
+found_set wanted None is = absurd (true≢false (sym is))
+found_set wanted (Some found) is = ap Some (same_set_is found wanted is)
+
+-- what waits for nothing waits in no set
+pub in_no_set : (wanted : WaitingSet) (one : Wait) → waits_for_nothing one ≡ true → is_in wanted one ≡ false
+in_no_set wanted Wait.Nothing nothing = refl
+in_no_set wanted _ nothing = absurd (true≢false (sym nothing))
+
+-- one wait is in one set
+one_wait : (one other : WaitingSet) (wait : Wait) → is_in one wait ≡ true → is_in other wait ≡ true → one ≡ other
+one_wait one other (Wait.At found due) here also = sym (same_set_is found one here) ∙ same_set_is found other also
+one_wait one other _ here also = absurd (true≢false (sym here))
+
+-- so a process waits in one set
+pub one_set : (one other : WaitingSet) (found : Option Process) → waits_at one found ≡ true → waits_at other found ≡ true → one ≡ other
+one_set one other None here also = absurd (true≢false (sym here))
+one_set one other (Some process) here also =
+    one_wait one other process.wait (and_parts process.alive _ here).1 (and_parts process.alive _ also).1
+
+-- so who waits in a set of an object waits in no channel's
+pub off_channel : (wanted other : WaitingSet) (found : Option Process) → is_of_channel wanted ≡ false → waits_at wanted found ≡ true → waits_at other found ≡ true → is_of_channel other ≡ false
+off_channel wanted other found off waits also = ap is_of_channel (one_set other wanted found also waits) ∙ off

@@ -1,52 +1,25 @@
 -- A partition stays sound, by its own demands.
-use Rattle.std.proofs.Common.{◌≡◌, ℕ, suc, ◌+◌, ◌<◌, ◌≤◌, List, [], ◌∷◌, ◌++◌, true, false, cond, nat_eq, ℤ, Option, Some, None, IsTrue, refl, sym, ap, subst, ◌∙◌, inl, inr, arith, true≢false}
-use Rattle.std.proofs.lemmas.Bool.{cases_Bool, eqb-true}
+use Rattle.std.proofs.Common.{◌≡◌, ℕ, suc, ◌+◌, ◌<◌, ◌≤◌, List, [], ◌∷◌, ◌++◌, true, false, cond, nat_eq, ℤ, Option, Some, None, IsTrue, refl, sym, ap, subst, ◌∙◌, arith, true≢false}
+use Rattle.std.proofs.lemmas.Bool.{eqb-true}
 use Rattle.std.proofs.lemmas.List.{append-nil}
 use Rattle.apex_types.specs.declared.object_kind.ObjectKind.TheVariants as kind
-use Rattle.apex_types.specs.declared.record.Body.{Body}
-use Rattle.apex_types.specs.declared.record.Body.TheVariants.{Call, Ret, Disp, Tick}
-use Rattle.apex_types.specs.declared.record.Call.{Call as CallRecord}
-use Rattle.apex_types.specs.declared.record.Claim.{Claim}
-use Rattle.apex_types.specs.declared.record.Who.{Who}
-use Rattle.apex_types.specs.declared.operation.{QueuingOperation.QueuingOperation, SamplingOperation.SamplingOperation}
-use Rattle.apex_types.specs.declared.request.Request.{Request}
-use Rattle.apex_types.specs.declared.request.Request.TheVariants as request
-use Rattle.apex_types.specs.declared.shape.End.TheVariants.{Senders, Receivers}
-use Rattle.apex_machine.specs.declared.condition.Condition.{Condition}
-use Rattle.apex_machine.specs.declared.state.CoreState.{CoreState}
-use Rattle.apex_machine.specs.declared.state.Entry.{Entry}
-use Rattle.apex_machine.specs.declared.state.Mode.{Mode}
-use Rattle.apex_machine.specs.declared.state.Mode.TheVariants as mode
-use Rattle.apex_machine.specs.declared.state.WaitingSet.{WaitingSet}
-use Rattle.apex_machine.specs.After.{each_set, is_done, objects_by, objects_called, partition_called, partition_by, returned, ticked, new_object, numbered_if}
-use Rattle.apex_machine.specs.Answer.{Answer, HasValue, is_new}
-use Rattle.apex_machine.specs.Configuration.{Configuration, first_core}
-use Rattle.apex_machine.specs.Demands.{AllHold, AllWaitAt, WakesHere, call_demands, outcome_demands, own_call_demands, partition_demands, has_entry_in}
-use Rattle.apex_machine.specs.Ports.{channel_of}
-use Rattle.apex_machine.specs.ServiceConditions.{conditions_of}
-use Rattle.apex_machine.specs.Services.{answer_of}
-use Rattle.apex_machine.specs.State.{Partition, Table, cold_partition, each_item, is_free, is_named, is_same, item_at, objects_of, started_partition, time_of, channel_set, is_of_channel}
-use Rattle.apex_machine.specs.Waiting.{ends_wait, set_after, waits_at}
-use Rattle.apex_laws.specs.Laws.{AllEntries, IsInOrder, are_distinct, entries_at}
-use Rattle.apex_laws.specs.PartLaws.{HasDistinctObjects, IsSoundPart, PartStaysSound, RunningIsInNoSet}
-use Rattle.apex_laws.proofs.Booleans.{cannot_hold, differs_back, holds_if, other_holds}
-use Rattle.apex_laws.proofs.Callers.{FoundReady, choice_exists, ready_waits_not}
+use Rattle.apex_laws.proofs.Common.{AllEntries, AllHold, AllWaitAt, Answer, Body, Call, CallRecord, Claim, Condition, Configuration, CoreState, Disp, Entry, HasDistinctObjects, HasValue, IsInOrder, IsSoundPart, Mode, Partition}
+use Rattle.apex_laws.proofs.Common.{PartStaysSound, QueuingOperation, Receivers, Request, Ret, RunningIsInNoSet, SamplingOperation, Senders, Table, Tick, WaitingSet, WakesHere, Who, answer_of, are_distinct, call_demands, channel_of}
+use Rattle.apex_laws.proofs.Common.{channel_set, cold_partition, conditions_of, each_item, each_set, ends_wait, entries_at, first_core, has_entry_in, is_done, is_free, is_named, is_new, is_of_channel, is_same, item_at, kind_of, kind_used}
+use Rattle.apex_laws.proofs.Common.{new_object, numbered_if, objects_by, objects_called, objects_of, outcome_demands, own_call_demands, partition_by, partition_called, partition_demands, returned, set_after, started_partition, ticked}
+use Rattle.apex_laws.proofs.Common.{time_of, waits_at}
+use Rattle.apex_laws.proofs.Booleans.{cannot_hold, differs_back, either_way, holds_if, never_found, other_holds}
+use Rattle.apex_laws.proofs.Choices.{choice_exists, FoundReady, ready_waits_not}
 use Rattle.apex_laws.proofs.Codes.{not_done}
-use Rattle.apex_laws.proofs.Distinct.{CallsClaimValues, distinct_by, distinct_new}
-use Rattle.apex_laws.proofs.Exact.{object_has_entry}
-use Rattle.apex_laws.proofs.InOrder.{EntersNew, none_in_order, set_stays_in_order}
-use Rattle.apex_laws.proofs.Keeps.{CallsReady, IsReadyCall, entered_waits, keeps_waiting, leaves}
-use Rattle.apex_laws.proofs.Restarts.{call_case, done_case, goes_on, restarts_other, return_case, start_set, start_waits_not, woken_if_named_table}
+use Rattle.apex_laws.proofs.Exact.{not_stopped, object_has_entry}
+use Rattle.apex_laws.proofs.Keeps.{CallsClaimValues, CallsReady, distinct_by, distinct_new, each_entry, entered_waits, EntersWith, IsElsewhere, IsReadyCall, keeps_waiting, leaves, one_set_after}
 use Rattle.apex_laws.proofs.Objects.{of_objects}
-use Rattle.apex_laws.proofs.SetsAfter.{EntersWith, IsElsewhere, each_entry, one_set_after}
-use Rattle.apex_laws.proofs.WaitersAfter.{not_stopped}
+use Rattle.apex_laws.proofs.Restarts.{call_case, done_case, goes_on, restarts_other, return_case, start_set, start_waits_not, woken_if_named_table}
+use Rattle.apex_laws.proofs.SetNames.{off_channel, put_holds}
+use Rattle.apex_laws.proofs.Stays.{EntersNew, none_in_order, set_stays_in_order}
 use Rattle.apex_laws.proofs.Tables.{distinct_each}
 use Rattle.apex_laws.proofs.Waiters.{all_weaker, member_not}
-use Rattle.apex_laws.proofs.WaitSets.{off_channel}
 use Rattle.apex_laws.proofs.WaitersOf.{same_is}
-use Rattle.apex_types.specs.Shapes.{kind_used}
-use Rattle.apex_types.specs.Requested.{kind_of}
-use Rattle.apex_laws.proofs.SetNames.{put_holds}
 
 -- own calls, by their demands
 
@@ -60,7 +33,7 @@ demands_none (condition ∷ conditions) channel number asked answer claim hold d
 demands_value : (conditions : List Condition) (channel : Option ℕ) (number : ℕ) (asked : Request) (answer : Answer) (claim : Claim) → conditions ≡ [] → channel ≡ None
     → AllHold (outcome_demands conditions channel number asked answer claim) → HasValue answer.val claim.val
 demands_value [] None number asked answer claim none off hold = hold.1.1.0.val
-demands_value [] (Some channel) number asked answer claim none off hold = let no : ◌≡◌ {A = Option ℕ} (Some channel) None = off in cc
+demands_value [] (Some channel) number asked answer claim none off hold = never_found (sym off)
 demands_value (condition ∷ conditions) channel number asked answer claim none off hold = cc
 
 -- so the caller is ready, and if the call is done, no error condition holds
@@ -102,19 +75,17 @@ pub named_wait : (wanted : WaitingSet) (number : ℕ) (table : Table) (others : 
     → waits_at wanted (item_at table who.proc) ≡ true
 named_wait wanted number table [] all who here named = absurd (true≢false (sym named))
 named_wait wanted number table (other ∷ others) all who here named =
-    elim (cases_Bool (is_same who other)) [
-      | inl same ↦
-          let is : who ≡ other = same_is who other same in
-          subst (λ one. waits_at wanted (item_at table one.proc) ≡ true) (sym is) (all.0 (ap (λ one. one.part) (sym is) ∙ here))
-      | inr differs ↦ named_wait wanted number table others all.1 who here (other_holds _ _ named differs)
-    ]
+    either_way (is_same who other)
+    (λ same. (let is : who ≡ other = same_is who other same in
+    subst (λ one. waits_at wanted (item_at table one.proc) ≡ true) (sym is) (all.0 (ap (λ one. one.part) (sym is) ∙ here))))
+    (λ differs. named_wait wanted number table others all.1 who here (other_holds _ _ named differs))
 
 -- so a process that such a call names here waits in a channel's set
 pub named_across : (asked : Request) (chan : Option ℕ) (number : ℕ) (table : Table) (others : List Who) → WakesHere asked chan number table others → (who : Who) → who.part ≡ number
     → is_named who others ≡ true → (wanted : WaitingSet) × (is_of_channel wanted ≡ true) × (waits_at wanted (item_at table who.proc) ≡ true)
-named_across (request.QueuingPort port (QueuingOperation.Send length time_out message)) (Some channel) number table others wakes who here named =
+named_across (Request.QueuingPort port (QueuingOperation.Send length time_out message)) (Some channel) number table others wakes who here named =
     (channel_set channel Receivers, refl, named_wait (channel_set channel Receivers) number table others wakes who here named)
-named_across (request.QueuingPort port (QueuingOperation.Receive time_out)) (Some channel) number table others wakes who here named =
+named_across (Request.QueuingPort port (QueuingOperation.Receive time_out)) (Some channel) number table others wakes who here named =
     (channel_set channel Senders, refl, named_wait (channel_set channel Senders) number table others wakes who here named)
 named_across _ chan number table others wakes who here named = absurd wakes
 
@@ -147,13 +118,13 @@ new_distinct objects claimed (Some new) distinct fresh = distinct_new objects cl
 -- so it is with the objects of all kinds, and what is used keeps its number
 used_distinct : (configuration : Configuration) (now : ℕ) (who : Who) (claimed : Option ℤ) (asked : Request) (partition : Partition) → HasDistinctObjects partition
     → (channel_of partition asked ≡ None → HasValue (answer_of now who partition asked).val claimed) → HasDistinctObjects (objects_by configuration who claimed asked partition)
-used_distinct configuration now who claimed (request.Create name object) partition has value other =
+used_distinct configuration now who claimed (Request.Create name object) partition has value other =
     put_holds (kind_of object) _ partition other (λ kind objects. are_distinct objects ≡ true)
     (λ same. new_distinct (objects_of partition (kind_of object)) claimed (new_object configuration who.part name object) (has (kind_of object)) (value refl)) (λ differs. has other)
-used_distinct configuration now who claimed (request.Object number operation) partition has value other =
+used_distinct configuration now who claimed (Request.Object number operation) partition has value other =
     put_holds (kind_used operation) _ partition other (λ kind objects. are_distinct objects ≡ true)
     (λ same. distinct_each _ (objects_of partition (kind_used operation)) ∙ has (kind_used operation)) (λ differs. has other)
-used_distinct configuration now who claimed (request.SamplingPort port SamplingOperation.Read) partition has value other =
+used_distinct configuration now who claimed (Request.SamplingPort port SamplingOperation.Read) partition has value other =
     put_holds kind.SamplingPort _ partition other (λ kind objects. are_distinct objects ≡ true)
     (λ same. distinct_each _ partition.sampling_ports ∙ has kind.SamplingPort) (λ differs. has other)
 used_distinct configuration now who claimed _ partition has value other = has other
@@ -292,12 +263,12 @@ sound_later number place later partition most sound = record {
 
 cold_sound : (configuration : Configuration) (number place : ℕ) → IsSoundPart number place (cold_partition configuration number)
 cold_sound configuration number place =
-    let empty : (wanted : WaitingSet) → entries_at (cold_partition configuration number) wanted ≡ [] = start_set mode.ColdStart configuration number 0 in record {
+    let empty : (wanted : WaitingSet) → entries_at (cold_partition configuration number) wanted ≡ [] = start_set Mode.ColdStart configuration number 0 in record {
       distinct = refl;
-      objects = start_has_distinct mode.ColdStart configuration number 0;
+      objects = start_has_distinct Mode.ColdStart configuration number 0;
       is_member = λ wanted. subst (AllEntries (WaitsInSet number wanted (cold_partition configuration number))) (sym (empty wanted)) tt;
       order = λ wanted. subst (IsInOrder place) (sym (empty wanted)) (none_in_order place);
-      waiters = λ wanted process off waits. absurd (start_waits_not mode.ColdStart (first_core configuration number) 0 process wanted waits);
+      waiters = λ wanted process off waits. absurd (start_waits_not Mode.ColdStart (first_core configuration number) 0 process wanted waits);
     }
 
 pub part_stays_sound : PartStaysSound

@@ -1,47 +1,23 @@
--- A step keeps a state tied, and so does a run.
-use Rattle.std.proofs.Common.{◌≡◌, ℕ, List, [], ◌∷◌, true, false, nat_eq, Option, Some, None, IsTrue, refl, sym, subst, ◌∙◌, true≢false, ◌&&◌}
+-- A run's states stay tied, and their waiting sets in order.
+use Rattle.std.proofs.Common.{◌≡◌, ℕ, List, [], ◌∷◌, true, false, nat_eq, Option, Some, None, IsTrue, refl, sym, subst, ◌∙◌, true≢false, ◌&&◌, suc, ◌<◌, ◌++◌, Bool, arith}
 use Rattle.std.proofs.lemmas.Bool.{eqb-true, eq-eqb}
 use Rattle.apex_types.specs.declared.object_kind.ObjectKind.TheVariants as kind
-use Rattle.apex_types.specs.declared.record.Body.{Body}
-use Rattle.apex_types.specs.declared.record.Body.TheVariants.{Call, Ret, Disp, Tick}
-use Rattle.apex_types.specs.declared.record.Call.{Call as CallRecord}
-use Rattle.apex_types.specs.declared.record.Ordered.{Ordered}
-use Rattle.apex_types.specs.declared.record.Who.{Who}
-use Rattle.apex_types.specs.declared.operation.{QueuingOperation.QueuingOperation}
-use Rattle.apex_types.specs.declared.request.Request.{Request}
-use Rattle.apex_types.specs.declared.request.Request.TheVariants as request
-use Rattle.apex_types.specs.declared.shape.End.TheVariants.{Senders, Receivers}
-use Rattle.apex_machine.specs.declared.condition.Condition.{Condition}
-use Rattle.apex_machine.specs.declared.state.Entry.{Entry}
-use Rattle.apex_machine.specs.declared.state.WaitingSet.{WaitingSet}
-use Rattle.apex_machine.specs.After.{objects_by, partition_by, partition_called}
-use Rattle.apex_machine.specs.Channels.{is_receiver, is_sender}
-use Rattle.apex_machine.specs.Configuration.{Configuration}
-use Rattle.apex_machine.specs.Ports.{channel_of, suits_use, use_of}
-use Rattle.apex_machine.specs.ServiceConditions.{conditions_of}
-use Rattle.apex_machine.specs.Services.{answer_of}
-use Rattle.apex_machine.specs.State.{Partition, State, cold_state, is_named, time_of, channel_set, is_of_channel}
-use Rattle.apex_machine.specs.Step.{HasOutcome, IsLawfulBody, IsLawfulCall, Run, Step, channel_answer}
-use Rattle.apex_machine.specs.Waiting.{ends_wait, enters, is_no_error, is_target, set_after, stop_of, waits_at}
-use Rattle.apex_laws.specs.Laws.{AllEntries, AllPorts, AreTied, IsAtEnd, IsTied, StaysTied, entries_at}
-use Rattle.apex_laws.specs.WaitLaws.{WaitsIn}
-use Rattle.apex_laws.proofs.Booleans.{cannot_hold, holds_if, not_first, not_second}
-use Rattle.apex_laws.proofs.Demanded.{WaitsAcross, across}
-use Rattle.apex_laws.proofs.Distinct.{distinct_by, lawful_values}
-use Rattle.apex_laws.proofs.Ends.{WaitsAtEnd, port_is_at_end}
-use Rattle.apex_laws.proofs.Keeps.{calls_ready, entered_waits, keeps_waiting, leaves, ready_call}
-use Rattle.apex_laws.proofs.PortEnds.{ports_after}
-use Rattle.apex_laws.proofs.Restarts.{call_case, done_case, goes_on, restarts_other, return_case, start_set}
+use Rattle.apex_laws.proofs.Common.{AllEntries, AllPairs, AllPorts, AreApart, AreTied, Body, Call, CallRecord, Condition, Configuration, CoreState, Disp, End, Entry, IsAtEnd, IsEarlier, IsInOrder, IsLawfulBody, IsLawfulCall, IsTied, Mode}
+use Rattle.apex_laws.proofs.Common.{ObjectKind, Ordered, OrderIsApart, Partition, QueuingOperation, Receivers, Request, Ret, Run, Senders, SetsAreInOrder, State, StaysInOrder, StaysTied, Step, Tick, WaitingSet, WaitsIn, Who, channel_of}
+use Rattle.apex_laws.proofs.Common.{channel_set, cold_state, conditions_of, ends_wait, enters, entries_at, entry_of, has_entry_in, is_named, is_no_error, is_of_channel, is_receiver, is_same, is_sender, is_target, objects_by, partition_by}
+use Rattle.apex_laws.proofs.Common.{partition_called, set_after, stop_of, time_of, waits_at, without}
+use Rattle.apex_laws.proofs.Booleans.{by_test, cannot_hold, holds_if, neither_first, neither_later, never_found, not_first, not_second}
+use Rattle.apex_laws.proofs.Demanded.{across, caller_in_no_set, WaitsAcross}
+use Rattle.apex_laws.proofs.Ends.{port_is_at_end, ports_after, WaitsAtEnd}
+use Rattle.apex_laws.proofs.Keeps.{calls_ready, distinct_by, each_entry, entered_waits, EntersWith, IsElsewhere, keeps_waiting, lawful_values, leaves, one_set_after, ready_call}
 use Rattle.apex_laws.proofs.Objects.{of_objects}
-use Rattle.apex_laws.proofs.SetsAfter.{EntersWith, IsElsewhere, each_entry, one_set_after}
-use Rattle.apex_laws.proofs.Waiters.{all_weaker}
-use Rattle.apex_laws.proofs.WaitSets.{off_channel}
-use Rattle.apex_laws.proofs.Waits.{entering_is_the_sentence}
-use Rattle.apex_laws.proofs.Wakes.{nobody}
-use Rattle.apex_laws.proofs.Woken.{found, woken}
-use Rattle.apex_types.specs.declared.shape.End.{End}
-use Rattle.apex_types.specs.declared.object_kind.ObjectKind.{ObjectKind}
-use Rattle.apex_machine.specs.declared.state.Mode.TheVariants as mode
+use Rattle.apex_laws.proofs.Restarts.{call_case, done_case, goes_on, restarts_other, return_case, start_set}
+use Rattle.apex_laws.proofs.SetNames.{off_channel}
+use Rattle.apex_laws.proofs.Waiters.{all_push, all_weaker, all_without}
+use Rattle.apex_laws.proofs.WaitersOf.{same_is, same_itself}
+use Rattle.apex_laws.proofs.Wakes.{ClaimsOutcome, entering_is_the_sentence, found, nobody, woken}
+
+-- A step keeps a state tied, and so does a run.
 
 -- one law for every waiting set
 
@@ -86,18 +62,16 @@ set_tied configuration state place core body tied law Home wanted home entries a
 -- who is woken through a channel waits in a set of it
 not_across : (asked : Request) (partitions : ℕ → Partition) (configuration : Configuration) (channel : ℕ) (wanted : WaitingSet) (who : Who) → is_of_channel wanted ≡ false
     → waits_at wanted (found partitions who) ≡ true → WaitsAcross asked partitions configuration channel who → ⊥
-not_across (request.QueuingPort port (QueuingOperation.Send length time_out message)) partitions configuration channel wanted who off waits across =
+not_across (Request.QueuingPort port (QueuingOperation.Send length time_out message)) partitions configuration channel wanted who off waits across =
     true≢false (off_channel wanted (channel_set channel Receivers) (found partitions who) off waits across.1)
-not_across (request.QueuingPort port (QueuingOperation.Receive time_out)) partitions configuration channel wanted who off waits across =
+not_across (Request.QueuingPort port (QueuingOperation.Receive time_out)) partitions configuration channel wanted who off waits across =
     true≢false (off_channel wanted (channel_set channel Senders) (found partitions who) off waits across.1)
 not_across _ partitions configuration channel wanted who off waits across = across
 
 -- so who waits in a set of this partition isn't named
 not_named_here : (configuration : Configuration) (state : State) (now : ℕ) (call : CallRecord) (number : ℕ) → AreTied configuration state → nat_eq call.who.part number ≡ false
-    → (conditions : List Condition) (channel : Option ℕ) → HasOutcome conditions channel (answer_of now call.who (state.partitions call.who.part) call.request)
-    (λ number. suits_use configuration number call.who.part (use_of call.request) (state.channels number)) (channel_answer configuration now call.who.part call.request state.channels) call.claim
-    → (wanted : WaitingSet) → is_of_channel wanted ≡ false
-    → (who : Who) → who.part ≡ number → waits_at wanted (found state.partitions who) ≡ true → is_named who call.claim.woken ≡ true → ⊥
+    → (conditions : List Condition) (channel : Option ℕ) → ClaimsOutcome configuration state now call.who call.request call.claim conditions channel
+    → (wanted : WaitingSet) → is_of_channel wanted ≡ false → (who : Who) → who.part ≡ number → waits_at wanted (found state.partitions who) ≡ true → is_named who call.claim.woken ≡ true → ⊥
 not_named_here configuration state now call number tied elsewhere (condition ∷ conditions) channel has wanted off who here waits named = nobody who call.claim.woken has.woken named
 not_named_here configuration state now call number tied elsewhere [] None has wanted off who here waits named =
     let by = woken configuration state now call.who call.request call.claim tied [] None has who named in
@@ -159,11 +133,10 @@ home_of configuration state core call tied law channel is =
   where
     by : (conditions : List Condition) → conditions_of configuration call.who (state.partitions call.who.part) call.request ≡ conditions
         → (of : Option ℕ) → channel_of (state.partitions call.who.part) call.request ≡ of
-        → HasOutcome conditions of (answer_of (time_of state.cores core) call.who (state.partitions call.who.part) call.request)
-        (λ number. suits_use configuration number call.who.part (use_of call.request) (state.channels number)) (channel_answer configuration (time_of state.cores core) call.who.part call.request state.channels) call.claim
+        → ClaimsOutcome configuration state (time_of state.cores core) call.who call.request call.claim conditions of
         → WaitsAtEnd call.request configuration channel call.who.part
-    by (condition ∷ conditions) none of at has = let no : ◌≡◌ {A = Option ℕ} None (Some channel) = sym has.chan ∙ is in cc
-    by [] none None at has = let no : ◌≡◌ {A = Option ℕ} None (Some channel) = sym has.chan ∙ is in cc
+    by (condition ∷ conditions) none of at has = never_found (sym has.chan ∙ is)
+    by [] none None at has = never_found (sym has.chan ∙ is)
     by [] none (Some other) at has =
         port_is_at_end configuration call.who (state.partitions call.who.part) call.request channel (tied.ports call.who.part) (at ∙ sym has.chan ∙ is) none
 
@@ -239,9 +212,17 @@ run_tied configuration [] state final tied run = subst (AreTied configuration) (
 run_tied configuration (ordered ∷ others) state final tied run =
     run_tied configuration others run.0 final (step_tied configuration state ordered run.0 tied run.1) run.2
 
+-- a run from a tied state keeps what each step keeps
+pub run_keeps : (Fact : State → Type 0)
+    → ((configuration : Configuration) (state : State) (ordered : Ordered) (next : State) → AreTied configuration state → Fact state → Step configuration state ordered next → Fact next)
+    → (configuration : Configuration) (records : List Ordered) (state final : State) → AreTied configuration state → Fact state → Run configuration state records final → Fact final
+run_keeps Fact step configuration [] state final tied fact run = subst Fact (sym run) fact
+run_keeps Fact step configuration (ordered ∷ others) state final tied fact run =
+    run_keeps Fact step configuration others run.0 final (step_tied configuration state ordered run.0 tied run.1) (step configuration state ordered run.0 tied fact run.1) run.2
+
 -- no entry is in a set of a cold partition
 cold_sets : (configuration : Configuration) (number : ℕ) (wanted : WaitingSet) (Fact : Entry → Type 0) → AllEntries Fact (entries_at ((cold_state configuration).partitions number) wanted)
-cold_sets configuration number wanted Fact = subst (AllEntries Fact) (sym (start_set mode.ColdStart configuration number 0 wanted)) tt
+cold_sets configuration number wanted Fact = subst (AllEntries Fact) (sym (start_set Mode.ColdStart configuration number 0 wanted)) tt
 
 -- the cold state is tied
 pub cold_tied : (configuration : Configuration) → AreTied configuration (cold_state configuration)
@@ -255,3 +236,146 @@ cold_tied configuration = record {
 
 pub stays_tied : StaysTied
 stays_tied = (cold_tied, step_tied, run_tied)
+
+-- The entries of every waiting set stay in order.
+
+-- one set
+
+-- those who stay
+pairs_without : (Fact : Entry → Entry → Type 0) (leaves : Who → Bool) (entries : List Entry) → AllPairs Fact entries → AllPairs Fact (without leaves entries)
+pairs_without Fact leaves [] all = tt
+pairs_without Fact leaves (entry ∷ entries) all =
+    by_test (AllPairs Fact) (leaves entry.who) (without leaves entries) (entry ∷ without leaves entries)
+    (λ goes. pairs_without Fact leaves entries all.1)
+    (λ stays. (all_without (Fact entry) (Fact entry) leaves (λ other stays fact. fact) entries all.0, pairs_without Fact leaves entries all.1))
+
+-- one more at the end
+pairs_push : (Fact : Entry → Entry → Type 0) (entries : List Entry) (entry : Entry) → AllPairs Fact entries → AllEntries (λ other. Fact other entry) entries
+    → AllPairs Fact (entries ++ entry ∷ [])
+pairs_push Fact [] entry all last = (tt, tt)
+pairs_push Fact (other ∷ entries) entry all last = (all_push (Fact other) entries entry all.0 last.0, pairs_push Fact entries entry all.1 last.1)
+
+-- a process that has no entry is different from that of each entry
+is_other : (who : Who) (other : Who) → is_same who other ≡ false → is_same other who ≡ false
+is_other who other differs =
+    cannot_hold (is_same other who) (λ same. true≢false (sym (subst (λ one. is_same who one ≡ true) (sym (same_is other who same)) (same_itself who)) ∙ differs))
+
+others : (who : Who) (entries : List Entry) → has_entry_in who entries ≡ false → AllEntries (λ other. is_same other.who who ≡ false) entries
+others who [] none = tt
+others who (entry ∷ entries) none = (is_other who entry.who (neither_first _ _ none), others who entries (neither_later _ _ none))
+
+-- each entry of a set is earlier than the next caller's
+earlier : (count : ℕ) (entry : Entry) → entry.place ≡ count → (entries : List Entry) → AllEntries (λ other. other.place < count) entries
+    → AllEntries (λ other. is_same other.who entry.who ≡ false) entries → AllEntries (λ other. IsEarlier other entry) entries
+earlier count entry at [] below differ = tt
+earlier count entry at (other ∷ entries) below differ =
+    let first : other.place < count = below.0 in
+    (record { place = omega (arith, first, at); differs = differ.0 }, earlier count entry at entries below.1 differ.1)
+
+-- a set without those who leave
+order_without : (count : ℕ) (leaves : Who → Bool) (entries : List Entry) → IsInOrder count entries → IsInOrder count (without leaves entries)
+order_without count leaves entries order = record {
+  pairs = pairs_without IsEarlier leaves entries order.pairs;
+  below = all_without (λ entry. entry.place < count) (λ entry. entry.place < count) leaves (λ entry stays fact. fact) entries order.below;
+}
+
+-- one record later
+pub order_later : (count : ℕ) (entries : List Entry) → IsInOrder count entries → IsInOrder (suc count) entries
+order_later count entries order = record {
+  pairs = order.pairs;
+  below = all_weaker (λ entry. entry.place < count) (λ entry. entry.place < suc count) (λ entry below. omega (arith, below)) entries order.below;
+}
+
+-- the set with a caller that enters it
+order_push : (count : ℕ) (entry : Entry) (entries : List Entry) → entry.place ≡ count → IsInOrder count entries
+    → AllEntries (λ other. is_same other.who entry.who ≡ false) entries → IsInOrder (suc count) (entries ++ entry ∷ [])
+order_push count entry entries at order differ = record {
+  pairs = pairs_push IsEarlier entries entry order.pairs (earlier count entry at entries order.below differ);
+  below = all_push (λ other. other.place < suc count) entries entry (order_later count entries order).below (omega (arith, at));
+}
+
+-- a caller that enters has no entry there yet
+abbrev pub EntersNew : Body → List Entry → Type 0
+EntersNew (Call call) entries = has_entry_in call.who entries ≡ false
+EntersNew _ entries = Unit {0}
+
+-- a set after a record
+set_in_order : (count place : ℕ) (body : Body) (wanted : WaitingSet) (entries : List Entry) → place ≡ count → EntersNew body entries → IsInOrder count entries
+    → IsInOrder (suc count) (set_after place body wanted entries)
+set_in_order count place (Disp who) wanted entries at new order = order_later count entries order
+set_in_order count place (Ret ret) wanted entries at new order = order_later count entries order
+set_in_order count place (Tick woken) wanted entries at new order =
+    order_later count (without (λ who. is_named who woken) entries) (order_without count (λ who. is_named who woken) entries order)
+set_in_order count place (Call call) wanted entries at new order =
+    let rest = order_without count (ends_wait call) entries order in
+    by_test (IsInOrder (suc count)) (enters call wanted) (without (ends_wait call) entries ++ entry_of place call ∷ []) (without (ends_wait call) entries)
+    (λ here. order_push count (entry_of place call) (without (ends_wait call) entries) at rest
+    (all_without (λ other. is_same other.who call.who ≡ false) (λ other. is_same other.who call.who ≡ false) (ends_wait call) (λ other stays fact. fact) entries (others call.who entries new)))
+    (λ elsewhere. order_later count (without (ends_wait call) entries) rest)
+
+-- the empty set
+pub none_in_order : (count : ℕ) → IsInOrder count []
+none_in_order count = record { pairs = tt; below = tt }
+
+-- every set
+
+-- the caller of a lawful call has an entry in no set of a partition
+new_here : (configuration : Configuration) (state : State) (core : ℕ) (body : Body) → AreTied configuration state
+    → IsLawfulBody configuration state core body → (Home : ℕ → Type 0) (wanted : WaitingSet) (entries : List Entry)
+    → AllEntries (IsTied Home wanted state.partitions) entries → EntersNew body entries
+new_here configuration state core (Call call) tied law Home wanted entries all = caller_in_no_set configuration state core call tied law Home wanted entries all
+new_here configuration state core (Disp who) tied law Home wanted entries all = tt
+new_here configuration state core _ tied law Home wanted entries all = tt
+
+-- a set of a partition after a record, if its own caller has no entry in it yet
+pub set_stays_in_order : (configuration : Configuration) (cores : List CoreState) (count place core number : ℕ) (body : Body) (partition : Partition) (wanted : WaitingSet) → place ≡ count
+    → ((IsElsewhere number body → ⊥) → EntersNew body (entries_at partition wanted)) → IsInOrder count (entries_at partition wanted)
+    → IsInOrder (suc count) (entries_at (partition_by configuration cores place core number body partition) wanted)
+set_stays_in_order configuration cores count place core number body partition wanted at new order =
+    one_set_after (λ entries. IsInOrder count entries × ((IsElsewhere number body → ⊥) → EntersNew body entries)) (IsInOrder (suc count))
+    configuration cores place core number body partition wanted (none_in_order (suc count))
+    (λ own entries before. set_in_order count place body wanted entries at (before.1 own) before.0)
+    (λ elsewhere before. order_later count (entries_at partition wanted) before.0) (order, new)
+
+-- the whole state
+
+pub step_in_order : (configuration : Configuration) (state : State) (ordered : Ordered) (next : State)
+    → AreTied configuration state → SetsAreInOrder state → Step configuration state ordered next → SetsAreInOrder next
+step_in_order configuration state ordered next tied order step =
+    let place = ordered.pos in
+    let core = ordered.core in
+    let body = ordered.rec.body in
+    let law = step.0.claims in
+    let at = step.0.placed in
+    subst SetsAreInOrder (sym step.1) (record {
+      objects = λ number wanted. set_stays_in_order configuration state.cores state.count place core number body (state.partitions number) wanted at
+          (λ own. new_here configuration state core body tied law (λ home. home ≡ number) wanted (entries_at (state.partitions number) wanted) (tied.objects number wanted))
+          (order.objects number wanted);
+      senders = λ number. set_in_order state.count place body (channel_set number Senders) (state.channels number).senders at
+          (new_here configuration state core body tied law (λ home. IsTrue (is_sender configuration number home)) (channel_set number Senders) (state.channels number).senders (tied.senders number))
+          (order.senders number);
+      receivers = λ number. set_in_order state.count place body (channel_set number Receivers) (state.channels number).receivers at
+          (new_here configuration state core body tied law (λ home. IsTrue (is_receiver configuration number home)) (channel_set number Receivers) (state.channels number).receivers (tied.receivers number))
+          (order.receivers number);
+    })
+
+cold_in_order : (configuration : Configuration) (number : ℕ) (wanted : WaitingSet) → IsInOrder 0 (entries_at ((cold_state configuration).partitions number) wanted)
+cold_in_order configuration number wanted = subst (IsInOrder 0) (sym (start_set Mode.ColdStart configuration number 0 wanted)) (none_in_order 0)
+
+pub stays_in_order : StaysInOrder
+stays_in_order = (
+  λ configuration. record { objects = cold_in_order configuration; senders = λ number. none_in_order 0; receivers = λ number. none_in_order 0 },
+  step_in_order,
+  run_keeps SetsAreInOrder step_in_order,
+)
+
+-- sets in order are apart
+apart_from : (entry : Entry) (entries : List Entry) → AllEntries (IsEarlier entry) entries → AllEntries (λ other. ¬ (entry.place ≡ other.place)) entries
+apart_from entry entries all = all_weaker (IsEarlier entry) (λ other. ¬ (entry.place ≡ other.place)) (λ other earlier same. absurd (omega (arith, earlier.place, same))) entries all
+
+pairs_apart : (entries : List Entry) → AllPairs IsEarlier entries → AreApart entries
+pairs_apart [] all = tt
+pairs_apart (entry ∷ entries) all = (apart_from entry entries all.0, pairs_apart entries all.1)
+
+pub order_is_apart : OrderIsApart
+order_is_apart count entries order = pairs_apart entries order.pairs

@@ -1,21 +1,12 @@
 -- At a tick each process that is named leaves the waiting set that its wait names.
-use Rattle.std.proofs.Common.{◌≡◌, ℕ, List, [], ◌∷◌, Bool, true, false, cond, nat_eq, Some, refl, sym, ap, subst, ◌∙◌, inl, inr, true≢false, ◌&&◌, ◌||◌}
-use Rattle.std.proofs.lemmas.Bool.{and_from, and_parts, cases_Bool, eqb-true}
-use Rattle.apex_types.specs.declared.record.Body.TheVariants.{Tick}
-use Rattle.apex_types.specs.declared.record.Who.{Who}
-use Rattle.apex_machine.specs.declared.state.Entry.{Entry}
-use Rattle.apex_machine.specs.declared.state.Wait.{Wait}
-use Rattle.apex_machine.specs.declared.state.WaitingSet.{WaitingSet}
-use Rattle.apex_machine.specs.After.{each_set}
-use Rattle.apex_machine.specs.State.{Partition, Table, is_named, is_same, item_at}
-use Rattle.apex_machine.specs.Waiting.{is_in, set_after, waits_at, without}
-use Rattle.apex_laws.specs.Laws.{AllEntries, entries_at}
-use Rattle.apex_laws.specs.PartLaws.{HasDistinctObjects}
-use Rattle.apex_laws.specs.PartObjects.{EachLeavesItsSet, all_left, left_by}
-use Rattle.apex_laws.proofs.Booleans.{cannot_hold, first_holds, later_holds, other_holds}
-use Rattle.apex_laws.proofs.EachSet.{each_set_as, each_set_each, sets_stay}
+use Rattle.std.proofs.Common.{◌≡◌, ℕ, List, [], ◌∷◌, Bool, true, false, cond, nat_eq, Some, refl, sym, ap, subst, ◌∙◌, true≢false, ◌&&◌, ◌||◌}
+use Rattle.std.proofs.lemmas.Bool.{and_from, and_parts, eqb-true}
+use Rattle.apex_laws.proofs.Common.{AllEntries, EachLeavesItsSet, Entry, HasDistinctObjects, Partition, Table, Tick, Wait, WaitingSet, Who, all_left, each_set, entries_at, is_in, is_named, is_same, item_at, left_by, set_after, waits_at}
+use Rattle.apex_laws.proofs.Common.{without}
+use Rattle.apex_laws.proofs.Booleans.{cannot_hold, either_way, first_holds, later_holds, other_holds}
 use Rattle.apex_laws.proofs.LeavingSets.{one_leaves}
-use Rattle.apex_laws.proofs.SoundParts.{WaitsInSet, sets_distinct}
+use Rattle.apex_laws.proofs.Objects.{each_set_as, each_set_each, sets_stay}
+use Rattle.apex_laws.proofs.SoundParts.{sets_distinct, WaitsInSet}
 use Rattle.apex_laws.proofs.WaitersOf.{same_is, same_itself, same_who}
 
 -- leaving one after another
@@ -99,32 +90,27 @@ leaves_found : (number : ℕ) (woken : List Who) (table : Table) (wanted : Waiti
 leaves_found number woken [] wanted process named waits = absurd (true≢false (sym waits))
 leaves_found number woken (entry ∷ entries) wanted process named waits =
     let who : Who = record { part = number; proc = process } in
-    elim (cases_Bool (nat_eq process entry.0)) [
-      | inl same ↦
-          let here : waits_at wanted (Some entry.1) ≡ true = subst (λ test. waits_at wanted (cond test (Some entry.1) (item_at entries process)) ≡ true) same waits in
-          let is : who ≡ record { part = number; proc = entry.0 } = same_who who (record { part = number; proc = entry.0 }) refl (eqb-true process entry.0 same) in
-          first_holds (leaves_as number woken entry.0 entry.1.wait wanted who) (leaves_among number woken entries wanted who)
-          (and_from (is_named (record { part = number; proc = entry.0 }) woken) (is_in wanted entry.1.wait && is_same who (record { part = number; proc = entry.0 }))
-          (subst (λ one. is_named one woken ≡ true) is named)
-          (and_from (is_in wanted entry.1.wait) (is_same who (record { part = number; proc = entry.0 }))
-          (and_parts entry.1.alive (is_in wanted entry.1.wait) here).1 (subst (λ one. is_same who one ≡ true) is (same_itself who))))
-      | inr differs ↦
-          let those_after : waits_at wanted (item_at entries process) ≡ true = subst (λ test. waits_at wanted (cond test (Some entry.1) (item_at entries process)) ≡ true) differs waits in
-          later_holds (leaves_as number woken entry.0 entry.1.wait wanted who) (leaves_among number woken entries wanted who) (leaves_found number woken entries wanted process named those_after)
-    ]
+    either_way (nat_eq process entry.0)
+    (λ same. (let here : waits_at wanted (Some entry.1) ≡ true = subst (λ test. waits_at wanted (cond test (Some entry.1) (item_at entries process)) ≡ true) same waits in
+    let is : who ≡ record { part = number; proc = entry.0 } = same_who who (record { part = number; proc = entry.0 }) refl (eqb-true process entry.0 same) in
+    first_holds (leaves_as number woken entry.0 entry.1.wait wanted who) (leaves_among number woken entries wanted who)
+    (and_from (is_named (record { part = number; proc = entry.0 }) woken) (is_in wanted entry.1.wait && is_same who (record { part = number; proc = entry.0 }))
+    (subst (λ one. is_named one woken ≡ true) is named)
+    (and_from (is_in wanted entry.1.wait) (is_same who (record { part = number; proc = entry.0 }))
+    (and_parts entry.1.alive (is_in wanted entry.1.wait) here).1 (subst (λ one. is_same who one ≡ true) is (same_itself who))))))
+    (λ differs. (let those_after : waits_at wanted (item_at entries process) ≡ true = subst (λ test. waits_at wanted (cond test (Some entry.1) (item_at entries process)) ≡ true) differs waits in
+    later_holds (leaves_as number woken entry.0 entry.1.wait wanted who) (leaves_among number woken entries wanted who) (leaves_found number woken entries wanted process named those_after)))
 
 -- who leaves is named
 leaves_named : (number : ℕ) (woken : List Who) (table : Table) (wanted : WaitingSet) (who : Who) → leaves_among number woken table wanted who ≡ true → is_named who woken ≡ true
 leaves_named number woken [] wanted who leaves = absurd (true≢false (sym leaves))
 leaves_named number woken (entry ∷ entries) wanted who leaves =
     let one : Who = record { part = number; proc = entry.0 } in
-    elim (cases_Bool (leaves_as number woken entry.0 entry.1.wait wanted who)) [
-      | inl here ↦
-          let parts = and_parts (is_named one woken) (is_in wanted entry.1.wait && is_same who one) here in
-          let same = and_parts (is_in wanted entry.1.wait) (is_same who one) parts.1 in
-          subst (λ other. is_named other woken ≡ true) (sym (same_is who one same.1)) parts.0
-      | inr elsewhere ↦ leaves_named number woken entries wanted who (other_holds (leaves_as number woken entry.0 entry.1.wait wanted who) (leaves_among number woken entries wanted who) leaves elsewhere)
-    ]
+    either_way (leaves_as number woken entry.0 entry.1.wait wanted who)
+    (λ here. (let parts = and_parts (is_named one woken) (is_in wanted entry.1.wait && is_same who one) here in
+    let same = and_parts (is_in wanted entry.1.wait) (is_same who one) parts.1 in
+    subst (λ other. is_named other woken ≡ true) (sym (same_is who one same.1)) parts.0))
+    (λ elsewhere. leaves_named number woken entries wanted who (other_holds (leaves_as number woken entry.0 entry.1.wait wanted who) (leaves_among number woken entries wanted who) leaves elsewhere))
 
 -- so of those who wait in a set exactly those leave it who are named
 leaves_alike : (number : ℕ) (woken : List Who) (partition : Partition) (wanted : WaitingSet) (entry : Entry) → WaitsInSet number wanted partition entry
@@ -132,14 +118,11 @@ leaves_alike : (number : ℕ) (woken : List Who) (partition : Partition) (wanted
 leaves_alike number woken partition wanted entry is_member =
     let who : Who = record { part = number; proc = entry.who.proc } in
     let same : entry.who ≡ who = same_who entry.who who is_member.0 refl in
-    elim (cases_Bool (is_named entry.who woken)) [
-      | inl named ↦
-          let leaves = leaves_found number woken partition.table wanted entry.who.proc (subst (λ one. is_named one woken ≡ true) same named) is_member.1 in
-          named ∙ sym (subst (λ one. leaves_among number woken partition.table wanted one ≡ true) (sym same) leaves)
-      | inr not_named ↦
-          not_named ∙ sym (cannot_hold (leaves_among number woken partition.table wanted entry.who)
-          (λ leaves. true≢false (sym (leaves_named number woken partition.table wanted entry.who leaves) ∙ not_named)))
-    ]
+    either_way (is_named entry.who woken)
+    (λ named. (let leaves = leaves_found number woken partition.table wanted entry.who.proc (subst (λ one. is_named one woken ≡ true) same named) is_member.1 in
+    named ∙ sym (subst (λ one. leaves_among number woken partition.table wanted one ≡ true) (sym same) leaves)))
+    (λ not_named. not_named ∙ sym (cannot_hold (leaves_among number woken partition.table wanted entry.who)
+    (λ leaves. true≢false (sym (leaves_named number woken partition.table wanted entry.who leaves) ∙ not_named))))
 
 pub each_leaves_its_set : EachLeavesItsSet
 each_leaves_its_set number place partition woken sound =

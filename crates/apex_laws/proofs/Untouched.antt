@@ -1,37 +1,17 @@
 -- A piece that a lawful record doesn't touch keeps its part.
 use Rattle.std.proofs.Common.{◌≡◌, ℕ, List, [], ◌∷◌, Bool, true, false, nat_eq, ℤ, Option, Some, None, is_some, IsTrue, IsFalse, refl, sym, ap, subst, ◌∙◌, true≢false, ◌||◌, ◌&&◌}
 use Rattle.std.proofs.lemmas.Bool.{eqb-true}
-use Rattle.apex_types.specs.declared.record.Body.{Body}
-use Rattle.apex_types.specs.declared.record.Body.TheVariants.{Call, Ret, Disp, Tick}
-use Rattle.apex_types.specs.declared.record.Call.{Call as CallRecord}
-use Rattle.apex_types.specs.declared.record.Ordered.{Ordered}
-use Rattle.apex_types.specs.declared.record.Who.{Who}
-use Rattle.apex_types.specs.declared.request.Request.{Request}
-use Rattle.apex_types.specs.declared.shape.End.TheVariants.{Senders, Receivers}
-use Rattle.apex_machine.specs.declared.state.CoreState.{CoreState}
-use Rattle.apex_machine.specs.declared.state.Entry.{Entry}
-use Rattle.apex_machine.specs.declared.state.Process.{Process}
-use Rattle.apex_machine.specs.declared.state.WaitingSet.{WaitingSet}
-use Rattle.apex_machine.specs.After.{after, content_by, cores_by, is_channel, partition_by, woken_if_named}
-use Rattle.apex_machine.specs.Channels.{is_at_end, is_receiver, is_sender, samples}
-use Rattle.apex_machine.specs.Configuration.{Configuration}
-use Rattle.apex_machine.specs.Pieces.{ChannelPart, Module, OfChannel, OfPartition, PartitionPart, Piece, part, stops_at_end, times_of, touched_by, touches}
-use Rattle.apex_machine.specs.ServiceConditions.{conditions_of}
-use Rattle.apex_machine.specs.Ports.{channel_of}
-use Rattle.apex_machine.specs.State.{Partition, State, Table, each_item, is_named, time_of, channel_set}
-use Rattle.apex_machine.specs.Step.{IsLawful, IsLawfulBody, IsLawfulCall}
-use Rattle.apex_machine.specs.Waiting.{ends_wait, enters, is_no_error, is_target, restart_of, set_after, stop_of}
-use Rattle.apex_laws.specs.Laws.{AllEntries, AreTied, IsTied}
-use Rattle.apex_laws.specs.WaitLaws.{WaitsIn}
+use Rattle.apex_types.specs.declared.object_kind.ObjectKind.TheVariants as kind
+use Rattle.apex_laws.proofs.Common.{AllEntries, AreTied, Body, Call, CallRecord, ChannelPart, Configuration, CoreState, Disp, Entry, IsLawful, IsLawfulBody, IsLawfulCall, IsTied, Module, ObjectKind, OfChannel, OfPartition, Ordered}
+use Rattle.apex_laws.proofs.Common.{Partition, PartitionPart, Piece, Process, Receivers, Request, Ret, Senders, State, Table, Tick, WaitingSet, WaitsIn, Who, after, channel_of, channel_set, conditions_of, content_by, cores_by, each_item}
+use Rattle.apex_laws.proofs.Common.{ends_wait, enters, is_at_end, is_channel, is_named, is_no_error, is_receiver, is_sender, is_target, part, partition_by, restart_of, samples, set_after, stop_of, stops_at_end, time_of, times_of, touched_by}
+use Rattle.apex_laws.proofs.Common.{touches, woken_if_named}
 use Rattle.apex_laws.proofs.Booleans.{cannot_hold, is_itself, neither_first, neither_later, not_second}
-use Rattle.apex_laws.proofs.Parts.{times_after}
 use Rattle.apex_laws.proofs.Restarts.{goes_on}
+use Rattle.apex_laws.proofs.Tables.{times_after}
 use Rattle.apex_laws.proofs.Waiters.{none_leaves}
 use Rattle.apex_laws.proofs.WaitersOf.{not_named}
-use Rattle.apex_laws.proofs.Waits.{entering_is_the_sentence}
-use Rattle.apex_laws.proofs.Woken.{IsWokenBy, woken}
-use Rattle.apex_types.specs.declared.object_kind.ObjectKind.{ObjectKind}
-use Rattle.apex_types.specs.declared.object_kind.ObjectKind.TheVariants as kind
+use Rattle.apex_laws.proofs.Wakes.{entering_is_the_sentence, IsWokenBy, woken}
 
 -- partitions
 

@@ -1,15 +1,7 @@
 -- The entries of a waiting set: a fact about each of them, and the one that goes on first.
-use Rattle.std.proofs.Common.{◌≡◌, List, [], ◌∷◌, ◌++◌, Bool, true, false, cond, Some, None, refl, sym, ap, subst, ◌∙◌, inl, inr, true≢false}
-use Rattle.std.proofs.lemmas.Bool.{cases_Bool}
-use Rattle.apex_types.specs.declared.discipline.Discipline.{Discipline}
-use Rattle.apex_types.specs.declared.record.Who.{Who}
-use Rattle.apex_machine.specs.declared.state.Entry.{Entry}
-use Rattle.apex_machine.specs.Answer.{waiters_of}
-use Rattle.apex_machine.specs.Demands.{has_entry_in}
-use Rattle.apex_machine.specs.State.{is_named, is_same}
-use Rattle.apex_machine.specs.Waiting.{first_waiter, precedes, sooner_entry, without}
-use Rattle.apex_laws.specs.Laws.{AllEntries}
-use Rattle.apex_laws.proofs.Booleans.{other_holds}
+use Rattle.std.proofs.Common.{◌≡◌, List, [], ◌∷◌, ◌++◌, Bool, true, false, cond, Some, None, refl, sym, ap, subst, ◌∙◌, true≢false}
+use Rattle.apex_laws.proofs.Common.{AllEntries, Discipline, Entry, Who, first_waiter, has_entry_in, is_named, is_same, precedes, sooner_entry, waiters_of, without}
+use Rattle.apex_laws.proofs.Booleans.{by_test, either_way, other_holds}
 use Rattle.apex_laws.proofs.WaitersOf.{same_is}
 
 -- a weaker fact
@@ -24,10 +16,7 @@ pub all_without : (Fact Then : Entry → Type 0) (leaves : Who → Bool) → ((e
 all_without Fact Then leaves then [] all = tt
 all_without Fact Then leaves then (entry ∷ entries) all =
     let rest = all_without Fact Then leaves then entries all.1 in
-    elim (leaves entry.who) as (λ passed. leaves entry.who ≡ passed → AllEntries Then (cond passed (without leaves entries) (entry ∷ without leaves entries))) [
-      | true ↦ λ passed. rest
-      | false ↦ λ stays. (then entry stays all.0, rest)
-    ] refl
+    by_test (AllEntries Then) (leaves entry.who) (without leaves entries) (entry ∷ without leaves entries) (λ passed. rest) (λ stays. (then entry stays all.0, rest))
 
 -- one more entry
 pub all_push : (Fact : Entry → Type 0) (entries : List Entry) (entry : Entry) → AllEntries Fact entries → Fact entry → AllEntries Fact (entries ++ entry ∷ [])
@@ -56,36 +45,27 @@ first_has Fact discipline (other ∷ entries) entry all first =
     let here : Some other ≡ Some entry → Fact entry = λ some. let same : other ≡ entry = cc in subst Fact same all.0 in
     elim (first_waiter discipline entries) as (λ found. first_waiter discipline entries ≡ found → sooner_entry discipline other found ≡ Some entry → Fact entry) [
       | None ↦ λ none some. here some
-      | Some next ↦ λ is some. elim (precedes discipline next other) as (λ before. cond before (Some next) (Some other) ≡ Some entry → Fact entry) [
-        | true ↦ λ some. first_has Fact discipline entries entry all.1 (is ∙ some)
-        | false ↦ λ some. here some
-      ] some
+      | Some next ↦ λ is some. by_test (λ first. first ≡ Some entry → Fact entry) (precedes discipline next other) (Some next) (Some other)
+          (λ before some. first_has Fact discipline entries entry all.1 (is ∙ some)) (λ after some. here some) some
     ] refl first
 
 -- a list that names one process
 pub only_named : (Fact : Who → Type 0) (one who : Who) → Fact one → is_named who (one ∷ []) ≡ true → Fact who
 only_named Fact one who fact named =
-    elim (cases_Bool (is_same who one)) [
-      | inl same ↦ subst Fact (sym (same_is who one same)) fact
-      | inr differs ↦ absurd (true≢false (sym named ∙ rw differs refl))
-    ]
+    either_way (is_same who one) (λ same. subst Fact (sym (same_is who one same)) fact) (λ differs. absurd (true≢false (sym named ∙ rw differs refl)))
 
 -- a list that names those of a set
 pub all_named : (Fact : Who → Type 0) (entries : List Entry) → AllEntries (λ entry. Fact entry.who) entries → (who : Who)
     → is_named who (waiters_of entries) ≡ true → Fact who
 all_named Fact [] all who named = absurd (true≢false (sym named))
 all_named Fact (entry ∷ entries) all who named =
-    elim (cases_Bool (is_same who entry.who)) [
-      | inl same ↦ subst Fact (sym (same_is who entry.who same)) all.0
-      | inr differs ↦ all_named Fact entries all.1 who (other_holds _ _ named differs)
-    ]
+    either_way (is_same who entry.who) (λ same. subst Fact (sym (same_is who entry.who same)) all.0)
+    (λ differs. all_named Fact entries all.1 who (other_holds _ _ named differs))
 
 -- a process that lacks what each entry has is that of no entry
 pub member_not : (Fact : Who → Type 0) (who : Who) → (Fact who → ⊥) → (entries : List Entry) → AllEntries (λ entry. Fact entry.who) entries
     → has_entry_in who entries ≡ false
 member_not Fact who lacks [] all = refl
 member_not Fact who lacks (entry ∷ entries) all =
-    elim (cases_Bool (is_same who entry.who)) [
-      | inl same ↦ absurd (lacks (subst Fact (sym (same_is who entry.who same)) all.0))
-      | inr differs ↦ rw differs (member_not Fact who lacks entries all.1)
-    ]
+    either_way (is_same who entry.who) (λ same. absurd (lacks (subst Fact (sym (same_is who entry.who same)) all.0)))
+    (λ differs. rw differs (member_not Fact who lacks entries all.1))

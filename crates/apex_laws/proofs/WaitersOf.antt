@@ -1,12 +1,8 @@
 -- Processes by their partition and number.
-use Rattle.std.proofs.Common.{◌≡◌, ℕ, List, [], ◌∷◌, true, false, nat_eq, Option, Some, None, refl, sym, ap, ◌∙◌, inl, inr, true≢false}
-use Rattle.std.proofs.lemmas.Bool.{and_from, and_parts, cases_Bool, eqb-true, eq-eqb}
-use Rattle.apex_types.specs.declared.record.Who.{Who}
-use Rattle.apex_machine.specs.declared.state.Outcome.{Outcome}
-use Rattle.apex_machine.specs.declared.state.Process.{Process}
-use Rattle.apex_machine.specs.State.{is_named, is_same, names_one_of}
-use Rattle.apex_machine.specs.Step.{HasNoneDue, due_of}
-use Rattle.apex_laws.proofs.Booleans.{first_holds, is_itself, later_holds, neither_first, neither_later, other_holds}
+use Rattle.std.proofs.Common.{◌≡◌, ℕ, List, [], ◌∷◌, true, false, nat_eq, Option, Some, None, refl, sym, ap, ◌∙◌, true≢false}
+use Rattle.std.proofs.lemmas.Bool.{and_from, and_parts, eqb-true, eq-eqb}
+use Rattle.apex_laws.proofs.Common.{HasNoneDue, Outcome, Process, Who, due_of, is_named, is_same, names_one_of}
+use Rattle.apex_laws.proofs.Booleans.{cannot_hold, either_way, first_holds, is_itself, later_holds, neither_first, neither_later, other_holds}
 
 -- one partition and one number name one process
 pub same_who : (one other : Who) → one.part ≡ other.part → one.proc ≡ other.proc → one ≡ other
@@ -25,10 +21,7 @@ same_itself who = and_from _ _ (is_itself who.part) (is_itself who.proc)
 -- processes of two partitions are two
 pub other_partition : (one other : Who) → nat_eq other.part one.part ≡ false → is_same one other ≡ false
 other_partition one other apart =
-    elim (cases_Bool (is_same one other)) [
-      | inl same ↦ absurd (true≢false (sym (eq-eqb other.part one.part (ap (λ who. who.part) (sym (same_is one other same)))) ∙ apart))
-      | inr differs ↦ differs
-    ]
+    cannot_hold (is_same one other) (λ same. true≢false (sym (eq-eqb other.part one.part (ap (λ who. who.part) (sym (same_is one other same)))) ∙ apart))
 
 -- a list that names no process of a partition does not name its processes
 pub not_named : (who : Who) (others : List Who) → names_one_of who.part others ≡ false → is_named who others ≡ false
@@ -41,12 +34,9 @@ pub some_named : (number : ℕ) (others : List Who) → names_one_of number othe
     → (who : Who) × (is_named who others ≡ true) × (who.part ≡ number)
 some_named number [] names = absurd (true≢false (sym names))
 some_named number (other ∷ others) names =
-    elim (cases_Bool (nat_eq other.part number)) [
-      | inl here ↦ (other, first_holds _ _ (same_itself other), eqb-true other.part number here)
-      | inr elsewhere ↦
-          let rest = some_named number others (other_holds _ _ names elsewhere) in
-          (rest.0, later_holds (is_same rest.0 other) _ rest.1, rest.2)
-    ]
+    either_way (nat_eq other.part number) (λ here. (other, first_holds _ _ (same_itself other), eqb-true other.part number here))
+    (λ elsewhere. (let rest = some_named number others (other_holds _ _ names elsewhere) in
+    (rest.0, later_holds (is_same rest.0 other) _ rest.1, rest.2)))
 
 -- if an outcome is due to a process, the process exists
 pub due_exists : (found : Option Process) (outcome : Outcome) → due_of found ≡ Some outcome → (old : Process) × (found ≡ Some old)

@@ -1,31 +1,22 @@
--- Which processes a call wakes: those in a waiting set, or those that suspended themselves.
-use Rattle.std.proofs.Common.{◌≡◌, ℕ, zero, suc, List, [], ◌∷◌, length, Bool, true, false, cond, nat_eq, nat_lt, ℤ, pos, negsuc, Option, Some, None, refl, sym, ap, subst, ◌∙◌, true≢false}
-use Rattle.apex_types.specs.declared.object_kind.ObjectKind.TheVariants as kind
-use Rattle.apex_types.specs.declared.code.Code.TheVariants as code
-use Rattle.apex_types.specs.declared.record.Who.{Who}
-use Rattle.apex_types.specs.declared.operation.{BlackboardOperation.BlackboardOperation, BufferOperation.BufferOperation, CallerOperation.CallerOperation, EventOperation.EventOperation, MutexOperation.MutexOperation, ProcessOperation.ProcessOperation, SemaphoreOperation.SemaphoreOperation}
-use Rattle.apex_types.specs.declared.request.Request.{Request}
+-- Where a caller waits, and which processes a call wakes.
+use Rattle.std.proofs.Common.{◌≡◌, ℕ, zero, suc, List, [], ◌∷◌, length, Bool, true, false, cond, nat_eq, nat_lt, ℤ, pos, negsuc, Option, Some, None, refl, sym, ap, subst, ◌∙◌, true≢false, IsTrue, ◌+◌, ◌&&◌}
+use Rattle.std.proofs.lemmas.Bool.{and_parts}
 use Rattle.apex_types.specs.declared.operation.ObjectOperation.TheVariants as on
-use Rattle.apex_types.specs.declared.request.Request.TheVariants as request
-use Rattle.apex_types.specs.declared.shape.End.TheVariants.{Senders, Receivers}
-use Rattle.apex_machine.specs.declared.state.Entry.{Entry}
-use Rattle.apex_machine.specs.declared.state.Process.{Process}
-use Rattle.apex_machine.specs.declared.state.WaitingSet.{WaitingSet}
-use Rattle.apex_machine.specs.Answer.{Answer, answering, done, unmet, waiting, waking}
-use Rattle.apex_machine.specs.Arguments.{is_over}
-use Rattle.apex_machine.specs.Channels.{capacity_of, receiving_discipline, refresh_of, sending_discipline}
-use Rattle.apex_machine.specs.DueTimes.{is_released, is_suspension}
-use Rattle.apex_machine.specs.Configuration.{Configuration}
-use Rattle.apex_machine.specs.Objects.{acquired, acquired_again, acquired_from, at_maximum, board_read, buffer_received, buffer_sent, displayed, event_set, event_waited, handed_on, mutex_released, not_acquired, raised, released_once, semaphore_waited, signalled}
-use Rattle.apex_machine.specs.Ports.{Ask, Receive, Read, Send, Use, Write, channel_effect, used, reading_of}
-use Rattle.apex_machine.specs.Queue.{Messages, appended, not_yet, received, sent}
-use Rattle.apex_machine.specs.Services.{answer_by, answer_of, peer, resuming}
-use Rattle.apex_machine.specs.State.{Blackboard, Buffer, Channel, Content, Event, Mutex, Partition, Queued, Sampled, Semaphore, Stamped, created, given_object, is_named, item_at, set_at}
-use Rattle.apex_machine.specs.Waiting.{first_waiter}
-use Rattle.apex_laws.specs.Laws.{AllEntries, entries_at, entries_in, entries_of}
-use Rattle.apex_laws.specs.PartLaws.{is_set_used}
-use Rattle.apex_laws.proofs.Booleans.{is_itself}
-use Rattle.apex_laws.proofs.Waiters.{all_named, first_has, only_named}
+use Rattle.apex_laws.proofs.Common.{AllEntries, Answer, AreTied, Ask, Blackboard, BlackboardOperation, Buffer, BufferOperation, CallerOperation, CallRecord, Channel, Claim, Code, Condition, Configuration, Content, Effect, End}
+use Rattle.apex_laws.proofs.Common.{EnteringIsTheSentence, Entry, Event, EventOperation, HasOutcome, HasTimeOut, IsTied, Messages, Mutex, MutexOperation, ObjectOf, ObjectOperation, Out, Outcome, Partition, Process, ProcessOperation, Queued}
+use Rattle.apex_laws.proofs.Common.{QueuingOperation, Read, Receive, Receivers, Request, Sampled, Semaphore, SemaphoreOperation, Send, Senders, Stamped, State, Table, TimeOutIsTheSentence, Use, Wait, WaitingSet, WaitsIn, Who, Write}
+use Rattle.apex_laws.proofs.Common.{acquired_again, acquired_from, answer_by, answer_of, answering, appended, at_maximum, board_read, caller_after, caller_with, capacity_of, channel_answer, channel_effect, channel_set, code_when_due}
+use Rattle.apex_laws.proofs.Common.{created, done, due_by, due_of_call, due_time, entries_at, entries_at_end, entries_in, entries_of, event_waited, falls_due, first_waiter, given_object, handed_on, is_in, is_named, is_no_error, is_over}
+use Rattle.apex_laws.proofs.Common.{is_receiver, is_released, is_sender, is_set_used, is_suspension, is_the_set, is_waiting, item_at, kind_used, mutex_released, natural_of, not_acquired, not_yet, object_effect, objects_of, owed, peer}
+use Rattle.apex_laws.proofs.Common.{raised, reading_of, received, receiving_discipline, refresh_of, released_once, resuming, semaphore_waited, sending_discipline, sent, service_at, service_of, service_of_wait, set_at, set_of, signalled}
+use Rattle.apex_laws.proofs.Common.{suits_use, time_out_of, unmet, use_of, used, wait_of, waiting, waits_at, waking}
+use Rattle.apex_laws.proofs.Booleans.{by_test, impossible, is_itself, never_found, not_second, one_item}
+use Rattle.apex_laws.proofs.ConditionTests.{at_most_tells, equal_tells, Tells, tells_both}
+use Rattle.apex_laws.proofs.Objects.{of_objects}
+use Rattle.apex_laws.proofs.SetNames.{found_set, off_channel, one_set, set_itself}
+use Rattle.apex_laws.proofs.Waiters.{all_named, all_weaker, first_has, only_named}
+
+-- Which processes a call wakes: those in a waiting set, or those that suspended themselves.
 
 -- the empty list names no process
 pub nobody : {Fact : Type 0} (one : Who) (woken : List Who) → woken ≡ [] → is_named one woken ≡ true → Fact
@@ -33,159 +24,141 @@ nobody {Fact} one woken none named = absurd (true≢false (sym named ∙ ap (is_
 
 -- a call that is unmet wakes no process
 pub unmet_wakes : (time_out : ℤ) → (unmet time_out).woken ≡ []
-unmet_wakes time_out = elim (is_over time_out) as (λ over. (cond over (answering code.NotAvailable) waiting).woken ≡ []) [ true ↦ refl | false ↦ refl ]
+unmet_wakes time_out = by_test (λ (answer : Answer). answer.woken ≡ []) (is_over time_out) (answering Code.NotAvailable) waiting (λ over. refl) (λ later. refl)
+
+-- what an answer wakes: processes with a fact alone, and none unless it is NO_ERROR
+pub record Wakes (Fact : Who → Type 0) (answer : Answer) : Type 0 where
+  pub has : (one : Who) → is_named one answer.woken ≡ true → Fact one
+  pub quiet : is_no_error answer.out ≡ false → answer.woken ≡ []
+
+wakes_none : {Fact : Who → Type 0} {answer : Answer} → answer.woken ≡ [] → Wakes Fact answer
+wakes_none {answer = answer} none = record { has = λ one named. nobody one answer.woken none named; quiet = λ off. none }
+
+wakes_some : {Fact : Who → Type 0} {answer : Answer} → is_no_error answer.out ≡ true → ((one : Who) → is_named one answer.woken ≡ true → Fact one) → Wakes Fact answer
+wakes_some no_error has = record { has = has; quiet = λ off. absurd (true≢false (sym no_error ∙ off)) }
 
 -- queues
 
 -- a send wakes the first of the receivers
-pub sent_wakes : (Fact : Who → Type 0) (capacity : ℕ) (message : List ℕ) (time_out : ℤ) (first : Option Entry) (messages : Messages)
-    → ((entry : Entry) → first ≡ Some entry → Fact entry.who) → (one : Who)
-    → is_named one (sent capacity message time_out first messages).answer.woken ≡ true → Fact one
-sent_wakes Fact capacity message time_out (Some entry) messages has one named = only_named Fact entry.who one (has entry refl) named
-sent_wakes Fact capacity message time_out None messages has one named =
-    elim (nat_lt (length messages) capacity) as (λ room. is_named one (cond room (appended message messages) (not_yet time_out messages)).answer.woken ≡ true → Fact one) [
-      | true ↦ λ named. nobody one [] refl named
-      | false ↦ λ named. nobody one (unmet time_out).woken (unmet_wakes time_out) named
-    ] named
+sent_wakes : (Fact : Who → Type 0) (capacity : ℕ) (message : List ℕ) (time_out : ℤ) (first : Option Entry) (messages : Messages)
+    → ((entry : Entry) → first ≡ Some entry → Fact entry.who) → Wakes Fact (sent capacity message time_out first messages).answer
+sent_wakes Fact capacity message time_out (Some entry) messages has = wakes_some refl (λ one. only_named Fact entry.who one (has entry refl))
+sent_wakes Fact capacity message time_out None messages has =
+    by_test (λ (effect : Effect Messages). Wakes Fact effect.answer) (nat_lt (length messages) capacity) (appended message messages) (not_yet time_out messages)
+    (λ room. wakes_none refl) (λ full. wakes_none (unmet_wakes time_out))
 
 -- a receive wakes the first of the senders
-pub received_wakes : (Fact : Who → Type 0) (time_out : ℤ) (first : Option Entry) (messages : Messages)
-    → ((entry : Entry) → first ≡ Some entry → Fact entry.who) → (one : Who)
-    → is_named one (received time_out first messages).answer.woken ≡ true → Fact one
-received_wakes Fact time_out first [] has one named = nobody one (unmet time_out).woken (unmet_wakes time_out) named
-received_wakes Fact time_out None (message ∷ others) has one named = nobody one [] refl named
-received_wakes Fact time_out (Some entry) (message ∷ others) has one named = only_named Fact entry.who one (has entry refl) named
+received_wakes : (Fact : Who → Type 0) (time_out : ℤ) (first : Option Entry) (messages : Messages)
+    → ((entry : Entry) → first ≡ Some entry → Fact entry.who) → Wakes Fact (received time_out first messages).answer
+received_wakes Fact time_out first [] has = wakes_none (unmet_wakes time_out)
+received_wakes Fact time_out None (message ∷ others) has = wakes_none refl
+received_wakes Fact time_out (Some entry) (message ∷ others) has = wakes_some refl (λ one. only_named Fact entry.who one (has entry refl))
 
 -- the objects of a partition
 
 -- the entries of an object that is found
-entries_found : {Object : Type 0} (Fact : Entry → Type 0) (entries_of : Object → List Entry) (found : Option Object) (object : Object) → found ≡ Some object
-    → AllEntries Fact (entries_in entries_of found) → AllEntries Fact (entries_of object)
-entries_found Fact entries_of found object is all = subst (λ one. AllEntries Fact (entries_in entries_of one)) is all
+pub given_entries : {Object : Type 0} (Holds : List Entry → Type 0) (entries_of : Object → List Entry) (objects : List (ℕ × Object)) (given : ℤ) (found : Object) → given_object objects given ≡ Some found
+    → Holds (entries_in entries_of (item_at objects (natural_of given))) → Holds (entries_of found)
+given_entries Holds entries_of objects (pos number) found at holds = subst (λ one. Holds (entries_in entries_of one)) at holds
+given_entries Holds entries_of objects (negsuc n) found at holds = never_found at
 
--- an answer of an object names the processes that the object found wakes
-by_object : {Object : Type 0} (Fact : Type 0) (one : Who) (found : Option Object) (gives : Object → Answer)
-    → ((object : Object) → found ≡ Some object → is_named one (gives object).woken ≡ true → Fact) → is_named one (answer_by found gives).woken ≡ true → Fact
-by_object Fact one None gives has named = nobody one [] refl named
-by_object Fact one (Some object) gives has named = has object refl named
+-- an answer of an object wakes the processes that the object found wakes
+by_object : {Object : Type 0} (Fact : Who → Type 0) (found : Option Object) (gives : Object → Answer) → ((object : Object) → found ≡ Some object → Wakes Fact (gives object)) → Wakes Fact (answer_by found gives)
+by_object Fact None gives has = wakes_none refl
+by_object Fact (Some object) gives has = has object refl
 
-signal_wakes : (Fact : Who → Type 0) (maximum : ℕ) (first : Option Entry) (value : ℕ) → ((entry : Entry) → first ≡ Some entry → Fact entry.who) → (one : Who)
-    → is_named one (signalled maximum first value).answer.woken ≡ true → Fact one
-signal_wakes Fact maximum (Some entry) value has one named = only_named Fact entry.who one (has entry refl) named
-signal_wakes Fact maximum None value has one named =
-    elim (nat_lt value maximum) as (λ below. is_named one (cond below (raised value) (at_maximum value)).answer.woken ≡ true → Fact one) [
-      | true ↦ λ named. nobody one [] refl named
-      | false ↦ λ named. nobody one [] refl named
-    ] named
+signal_wakes : (Fact : Who → Type 0) (maximum : ℕ) (first : Option Entry) (value : ℕ) → ((entry : Entry) → first ≡ Some entry → Fact entry.who) → Wakes Fact (signalled maximum first value).answer
+signal_wakes Fact maximum (Some entry) value has = wakes_some refl (λ one. only_named Fact entry.who one (has entry refl))
+signal_wakes Fact maximum None value has =
+    by_test (λ (effect : Effect ℕ). Wakes Fact effect.answer) (nat_lt value maximum) (raised value) (at_maximum value) (λ below. wakes_none refl) (λ full. wakes_none refl)
 
-hand_on_wakes : (Fact : Who → Type 0) (first : Option Entry) (mutex : Mutex) → ((entry : Entry) → first ≡ Some entry → Fact entry.who) → (one : Who)
-    → is_named one (handed_on first mutex).answer.woken ≡ true → Fact one
-hand_on_wakes Fact (Some entry) mutex has one named = only_named Fact entry.who one (has entry refl) named
-hand_on_wakes Fact None mutex has one named = nobody one [] refl named
+hand_on_wakes : (Fact : Who → Type 0) (first : Option Entry) (mutex : Mutex) → ((entry : Entry) → first ≡ Some entry → Fact entry.who) → Wakes Fact (handed_on first mutex).answer
+hand_on_wakes Fact (Some entry) mutex has = wakes_some refl (λ one. only_named Fact entry.who one (has entry refl))
+hand_on_wakes Fact None mutex has = wakes_none refl
 
-release_wakes : (Fact : Who → Type 0) (first : Option Entry) (mutex : Mutex) → ((entry : Entry) → first ≡ Some entry → Fact entry.who) → (one : Who)
-    → is_named one (mutex_released first mutex).answer.woken ≡ true → Fact one
-release_wakes Fact first mutex has one named =
-    elim (nat_lt 1 mutex.count) as (λ more. is_named one (cond more (released_once mutex) (handed_on first mutex)).answer.woken ≡ true → Fact one) [
-      | true ↦ λ named. nobody one [] refl named
-      | false ↦ λ named. hand_on_wakes Fact first mutex has one named
-    ] named
+release_wakes : (Fact : Who → Type 0) (first : Option Entry) (mutex : Mutex) → ((entry : Entry) → first ≡ Some entry → Fact entry.who) → Wakes Fact (mutex_released first mutex).answer
+release_wakes Fact first mutex has =
+    by_test (λ (effect : Effect Mutex). Wakes Fact effect.answer) (nat_lt 1 mutex.count) (released_once mutex) (handed_on first mutex)
+    (λ more. wakes_none refl) (λ last. hand_on_wakes Fact first mutex has)
 
 -- these wake no process
-pub wait_wakes : (time_out : ℤ) (value : ℕ) → (semaphore_waited time_out value).answer.woken ≡ []
+wait_wakes : (time_out : ℤ) (value : ℕ) → (semaphore_waited time_out value).answer.woken ≡ []
 wait_wakes time_out zero = unmet_wakes time_out
 wait_wakes time_out (suc value) = refl
 
-pub board_wakes : (time_out : ℤ) (message : Option (List ℕ)) → (board_read time_out message).answer.woken ≡ []
+board_wakes : (time_out : ℤ) (message : Option (List ℕ)) → (board_read time_out message).answer.woken ≡ []
 board_wakes time_out None = unmet_wakes time_out
 board_wakes time_out (Some message) = refl
 
-pub event_wakes : (time_out : ℤ) (up : Bool) → (event_waited time_out up).answer.woken ≡ []
+event_wakes : (time_out : ℤ) (up : Bool) → (event_waited time_out up).answer.woken ≡ []
 event_wakes time_out true = refl
 event_wakes time_out false = unmet_wakes time_out
 
-pub acquire_wakes : (caller : ℕ) (time_out : ℤ) (mutex : Mutex) (owner : Option ℕ) → (acquired_from owner caller time_out mutex).answer.woken ≡ []
+acquire_wakes : (caller : ℕ) (time_out : ℤ) (mutex : Mutex) (owner : Option ℕ) → (acquired_from owner caller time_out mutex).answer.woken ≡ []
 acquire_wakes caller time_out mutex None = refl
 acquire_wakes caller time_out mutex (Some owner) =
-    elim (nat_eq owner caller) as (λ own. (cond own (acquired_again mutex) (not_acquired time_out mutex)).answer.woken ≡ []) [ true ↦ refl | false ↦ unmet_wakes time_out ]
+    by_test (λ (effect : Effect Mutex). effect.answer.woken ≡ []) (nat_eq owner caller) (acquired_again mutex) (not_acquired time_out mutex) (λ own. refl) (λ other. unmet_wakes time_out)
 
-pub done_or_waiting : (over : Bool) → (cond over done waiting).woken ≡ []
+done_or_waiting : (over : Bool) → (cond over done waiting).woken ≡ []
 done_or_waiting true = refl
 done_or_waiting false = refl
 
 -- RESUME wakes its target, if that suspended itself
-resume_wakes : (Fact : Who → Type 0) (target : Who) (found : Option Process) → ((process : Process) → found ≡ Some process → is_suspension process.wait ≡ true → Fact target) → (one : Who)
-    → is_named one (resuming target found).woken ≡ true → Fact one
-resume_wakes Fact target None has one named = nobody one [] refl named
-resume_wakes Fact target (Some process) has one named =
-    elim (is_suspension process.wait) as (λ suspends. is_suspension process.wait ≡ suspends → is_named one (cond suspends (waking (target ∷ [])) done).woken ≡ true → Fact one) [
-      | true ↦ λ suspends named. only_named Fact target one (has process refl suspends) named
-      | false ↦ λ not_suspended named. nobody one [] refl named
-    ] refl named
+resume_wakes : (Fact : Who → Type 0) (target : Who) (found : Option Process) → ((process : Process) → found ≡ Some process → is_suspension process.wait ≡ true → Fact target) → Wakes Fact (resuming target found)
+resume_wakes Fact target None has = wakes_none refl
+resume_wakes Fact target (Some process) has =
+    by_test (Wakes Fact) (is_suspension process.wait) (waking (target ∷ [])) done
+    (λ suspends. wakes_some refl (λ one. only_named Fact target one (has process refl suspends))) (λ not_suspended. wakes_none refl)
+
+-- an operation on an object wakes processes in a waiting set of the object that it uses
+operation_wakes : (Fact : Who → Type 0) (caller : ℕ) (number : ℤ) (operation : ObjectOperation) (found : ObjectOf (kind_used operation))
+    → ((end : End) → is_set_used (Request.Object number operation) (set_at (kind_used operation) (natural_of number) end) ≡ true → AllEntries (λ entry. Fact entry.who) (entries_at_end (kind_used operation) end found))
+    → Wakes Fact (object_effect caller operation found).answer
+operation_wakes Fact caller number (on.Buffer (BufferOperation.Send length time_out message)) found all =
+    sent_wakes Fact found.capacity message time_out (first_waiter found.discipline found.receivers) found.messages
+    (λ entry. first_has (λ entry. Fact entry.who) found.discipline found.receivers entry (all Receivers (is_itself (natural_of number))))
+operation_wakes Fact caller number (on.Buffer (BufferOperation.Receive time_out)) found all =
+    received_wakes Fact time_out (first_waiter found.discipline found.senders) found.messages
+    (λ entry. first_has (λ entry. Fact entry.who) found.discipline found.senders entry (all Senders (is_itself (natural_of number))))
+operation_wakes Fact caller number (on.Blackboard (BlackboardOperation.Display length message)) found all = wakes_some refl (all_named Fact found.readers (all Receivers (is_itself (natural_of number))))
+operation_wakes Fact caller number (on.Blackboard (BlackboardOperation.Read time_out)) found all = wakes_none (board_wakes time_out found.message)
+operation_wakes Fact caller number (on.Blackboard BlackboardOperation.Clear) found all = wakes_none refl
+operation_wakes Fact caller number (on.Semaphore (SemaphoreOperation.Wait time_out)) found all = wakes_none (wait_wakes time_out found.value)
+operation_wakes Fact caller number (on.Semaphore SemaphoreOperation.Signal) found all =
+    signal_wakes Fact found.maximum (first_waiter found.discipline found.waiters) found.value
+    (λ entry. first_has (λ entry. Fact entry.who) found.discipline found.waiters entry (all Receivers (is_itself (natural_of number))))
+operation_wakes Fact caller number (on.Event EventOperation.Set) found all = wakes_some refl (all_named Fact found.waiters (all Receivers (is_itself (natural_of number))))
+operation_wakes Fact caller number (on.Event EventOperation.Reset) found all = wakes_none refl
+operation_wakes Fact caller number (on.Event (EventOperation.Wait time_out)) found all = wakes_none (event_wakes time_out found.up)
+operation_wakes Fact caller number (on.Mutex (MutexOperation.Acquire time_out)) found all = wakes_none (acquire_wakes caller time_out found found.owner)
+operation_wakes Fact caller number (on.Mutex MutexOperation.Release) found all =
+    release_wakes Fact (first_waiter found.discipline found.waiters) found
+    (λ entry. first_has (λ entry. Fact entry.who) found.discipline found.waiters entry (all Receivers (is_itself (natural_of number))))
 
 -- a service that uses no channel wakes processes in a waiting set that it uses, or processes that suspended themselves
 pub answer_wakes : (Fact : Who → Type 0) (now : ℕ) (who : Who) (partition : Partition) (asked : Request)
     → ((wanted : WaitingSet) → is_set_used asked wanted ≡ true → AllEntries (λ entry. Fact entry.who) (entries_at partition wanted))
     → ((process : ℤ) (target : Process) → created partition.table process ≡ Some target → is_suspension target.wait ≡ true → Fact (peer who process))
-    → (one : Who) → is_named one (answer_of now who partition asked).woken ≡ true → Fact one
-answer_wakes Fact now who partition (request.Object (pos buffer) (on.Buffer (BufferOperation.Send length time_out message))) all suspended one named =
-    by_object (Fact one) one (item_at partition.buffers buffer) (λ found. (buffer_sent message time_out found).answer)
-    (λ found is named. sent_wakes Fact found.capacity message time_out (first_waiter found.discipline found.receivers) found.messages
-    (λ entry first. first_has (λ entry. Fact entry.who) found.discipline found.receivers entry
-    (entries_found (λ entry. Fact entry.who) (λ (found : Buffer). found.receivers) (item_at partition.buffers buffer) found is (all (set_at kind.Buffer buffer Receivers) (is_itself buffer))) first) one named) named
-answer_wakes Fact now who partition (request.Object (negsuc buffer) (on.Buffer (BufferOperation.Send length time_out message))) all suspended one named = nobody one [] refl named
-answer_wakes Fact now who partition (request.Object (pos buffer) (on.Buffer (BufferOperation.Receive time_out))) all suspended one named =
-    by_object (Fact one) one (item_at partition.buffers buffer) (λ found. (buffer_received time_out found).answer)
-    (λ found is named. received_wakes Fact time_out (first_waiter found.discipline found.senders) found.messages
-    (λ entry first. first_has (λ entry. Fact entry.who) found.discipline found.senders entry
-    (entries_found (λ entry. Fact entry.who) (λ (found : Buffer). found.senders) (item_at partition.buffers buffer) found is (all (set_at kind.Buffer buffer Senders) (is_itself buffer))) first) one named) named
-answer_wakes Fact now who partition (request.Object (negsuc buffer) (on.Buffer (BufferOperation.Receive time_out))) all suspended one named = nobody one [] refl named
-answer_wakes Fact now who partition (request.Object (pos blackboard) (on.Blackboard (BlackboardOperation.Display length message))) all suspended one named =
-    by_object (Fact one) one (item_at partition.blackboards blackboard) (λ found. (displayed message found.readers).answer)
-    (λ found is named. all_named Fact found.readers
-    (entries_found (λ entry. Fact entry.who) (λ (found : Blackboard). found.readers) (item_at partition.blackboards blackboard) found is (all (set_at kind.Blackboard blackboard Receivers) (is_itself blackboard))) one named) named
-answer_wakes Fact now who partition (request.Object (negsuc blackboard) (on.Blackboard (BlackboardOperation.Display length message))) all suspended one named = nobody one [] refl named
-answer_wakes Fact now who partition (request.Object blackboard (on.Blackboard (BlackboardOperation.Read time_out))) all suspended one named =
-    by_object (Fact one) one (given_object partition.blackboards blackboard) (λ found. (board_read time_out found.message).answer)
-    (λ found is named. nobody one (board_read time_out found.message).answer.woken (board_wakes time_out found.message) named) named
-answer_wakes Fact now who partition (request.Object semaphore (on.Semaphore (SemaphoreOperation.Wait time_out))) all suspended one named =
-    by_object (Fact one) one (given_object partition.semaphores semaphore) (λ found. (semaphore_waited time_out found.value).answer)
-    (λ found is named. nobody one (semaphore_waited time_out found.value).answer.woken (wait_wakes time_out found.value) named) named
-answer_wakes Fact now who partition (request.Object (pos semaphore) (on.Semaphore SemaphoreOperation.Signal)) all suspended one named =
-    by_object (Fact one) one (item_at partition.semaphores semaphore)
-    (λ found. (signalled found.maximum (first_waiter found.discipline found.waiters) found.value).answer)
-    (λ found is named. signal_wakes Fact found.maximum (first_waiter found.discipline found.waiters) found.value
-    (λ entry first. first_has (λ entry. Fact entry.who) found.discipline found.waiters entry
-    (entries_found (λ entry. Fact entry.who) (λ (found : Semaphore). found.waiters) (item_at partition.semaphores semaphore) found is (all (set_at kind.Semaphore semaphore Receivers) (is_itself semaphore))) first) one named) named
-answer_wakes Fact now who partition (request.Object (negsuc semaphore) (on.Semaphore SemaphoreOperation.Signal)) all suspended one named = nobody one [] refl named
-answer_wakes Fact now who partition (request.Object (pos event) (on.Event EventOperation.Set)) all suspended one named =
-    by_object (Fact one) one (item_at partition.events event) (λ found. (event_set found.waiters).answer)
-    (λ found is named. all_named Fact found.waiters
-    (entries_found (λ entry. Fact entry.who) (λ (found : Event). found.waiters) (item_at partition.events event) found is (all (set_at kind.Event event Receivers) (is_itself event))) one named) named
-answer_wakes Fact now who partition (request.Object (negsuc event) (on.Event EventOperation.Set)) all suspended one named = nobody one [] refl named
-answer_wakes Fact now who partition (request.Object event (on.Event (EventOperation.Wait time_out))) all suspended one named =
-    by_object (Fact one) one (given_object partition.events event) (λ found. (event_waited time_out found.up).answer)
-    (λ found is named. nobody one (event_waited time_out found.up).answer.woken (event_wakes time_out found.up) named) named
-answer_wakes Fact now who partition (request.Object mutex (on.Mutex (MutexOperation.Acquire time_out))) all suspended one named =
-    by_object (Fact one) one (given_object partition.mutexes mutex) (λ found. (acquired who.proc time_out found).answer)
-    (λ found is named. nobody one (acquired who.proc time_out found).answer.woken (acquire_wakes who.proc time_out found found.owner) named) named
-answer_wakes Fact now who partition (request.Object (pos mutex) (on.Mutex MutexOperation.Release)) all suspended one named =
-    by_object (Fact one) one (item_at partition.mutexes mutex) (λ found. (mutex_released (first_waiter found.discipline found.waiters) found).answer)
-    (λ found is named. release_wakes Fact (first_waiter found.discipline found.waiters) found
-    (λ entry first. first_has (λ entry. Fact entry.who) found.discipline found.waiters entry
-    (entries_found (λ entry. Fact entry.who) (λ (found : Mutex). found.waiters) (item_at partition.mutexes mutex) found is (all (set_at kind.Mutex mutex Receivers) (is_itself mutex))) first) one named) named
-answer_wakes Fact now who partition (request.Object (negsuc mutex) (on.Mutex MutexOperation.Release)) all suspended one named = nobody one [] refl named
-answer_wakes Fact now who partition (request.Process process ProcessOperation.Resume) all suspended one named =
-    resume_wakes Fact (peer who process) (created partition.table process) (λ target found suspends. suspended process target found suspends) one named
-answer_wakes Fact now who partition (request.Caller (CallerOperation.SuspendSelf time_out)) all suspended one named = nobody one (cond (is_over time_out) done waiting).woken (done_or_waiting (is_over time_out)) named
-answer_wakes Fact now who partition (request.Caller (CallerOperation.TimedWait delay)) all suspended one named = nobody one (cond (is_over delay) done waiting).woken (done_or_waiting (is_over delay)) named
-answer_wakes Fact now who partition (request.Caller CallerOperation.PeriodicWait) all suspended one named =
-    nobody one (cond (is_released now (item_at partition.table who.proc)) done waiting).woken (done_or_waiting (is_released now (item_at partition.table who.proc))) named
-answer_wakes Fact now who partition (request.Object blackboard (on.Blackboard BlackboardOperation.Clear)) all suspended one named =
-    by_object (Fact one) one (given_object partition.blackboards blackboard) (λ found. done) (λ found is named. nobody one [] refl named) named
-answer_wakes Fact now who partition (request.Object event (on.Event EventOperation.Reset)) all suspended one named =
-    by_object (Fact one) one (given_object partition.events event) (λ found. done) (λ found is named. nobody one [] refl named) named
-answer_wakes Fact now who partition _ all suspended one named = nobody one [] refl named
+    → Wakes Fact (answer_of now who partition asked)
+answer_wakes Fact now who partition (Request.Object number operation) all suspended =
+    let objects = objects_of partition (kind_used operation) in
+    by_object Fact (given_object objects number) (λ found. (object_effect who.proc operation found).answer)
+    (λ found is. operation_wakes Fact who.proc number operation found (λ end used. given_entries (AllEntries (λ entry. Fact entry.who)) (entries_at_end (kind_used operation) end) objects number found is
+    (all (set_at (kind_used operation) (natural_of number) end) used)))
+answer_wakes Fact now who partition (Request.Process process ProcessOperation.Resume) all suspended =
+    resume_wakes Fact (peer who process) (created partition.table process) (suspended process)
+answer_wakes Fact now who partition (Request.Caller (CallerOperation.SuspendSelf time_out)) all suspended = wakes_none (done_or_waiting (is_over time_out))
+answer_wakes Fact now who partition (Request.Caller (CallerOperation.TimedWait delay)) all suspended = wakes_none (done_or_waiting (is_over delay))
+answer_wakes Fact now who partition (Request.Caller CallerOperation.PeriodicWait) all suspended = wakes_none (done_or_waiting (is_released now (item_at partition.table who.proc)))
+answer_wakes Fact now who partition _ all suspended = wakes_none refl
+
+-- so an answer that is not NO_ERROR names no process
+pub answer_quiet : (now : ℕ) (who : Who) (partition : Partition) (asked : Request) → is_no_error (answer_of now who partition asked).out ≡ false → (answer_of now who partition asked).woken ≡ []
+answer_quiet now who partition asked = (answer_wakes (λ one. Unit {0}) now who partition asked (λ wanted used. any (entries_at partition wanted)) (λ process target is suspends. tt)).quiet
+  where
+    any : (entries : List Entry) → AllEntries (λ entry. Unit {0}) entries
+    any [] = tt
+    any (entry ∷ entries) = (tt, any entries)
 
 -- channels
 
@@ -207,11 +180,11 @@ pub use_wakes : (Fact : Who → Type 0) (configuration : Configuration) (now num
 use_wakes Fact configuration now number partition Read channel (Sampled last) all one named =
     nobody one (reading_of now (refresh_of configuration number) last).woken (read_wakes now (refresh_of configuration number) last) named
 use_wakes Fact configuration now number partition (Send message time_out) channel (Queued messages) all one named =
-    sent_wakes Fact (capacity_of configuration number) message time_out (first_waiter (receiving_discipline configuration number) channel.receivers) messages
-    (λ entry first. first_has (λ entry. Fact entry.who) (receiving_discipline configuration number) channel.receivers entry all first) one named
+    (sent_wakes Fact (capacity_of configuration number) message time_out (first_waiter (receiving_discipline configuration number) channel.receivers) messages
+    (λ entry. first_has (λ entry. Fact entry.who) (receiving_discipline configuration number) channel.receivers entry all)).has one named
 use_wakes Fact configuration now number partition (Receive time_out) channel (Queued messages) all one named =
-    received_wakes Fact time_out (first_waiter (sending_discipline configuration number) channel.senders) messages
-    (λ entry first. first_has (λ entry. Fact entry.who) (sending_discipline configuration number) channel.senders entry all first) one named
+    (received_wakes Fact time_out (first_waiter (sending_discipline configuration number) channel.senders) messages
+    (λ entry. first_has (λ entry. Fact entry.who) (sending_discipline configuration number) channel.senders entry all)).has one named
 use_wakes Fact configuration now number partition (Write message) channel (Sampled last) all one named = nobody one [] refl named
 use_wakes Fact configuration now number partition Ask channel (Queued messages) all one named = nobody one [] refl named
 use_wakes Fact configuration now number partition _ channel _ all one named = nobody one [] refl named
@@ -228,3 +201,163 @@ channel_wakes Fact configuration now number partition (Some how) channel receive
     by (Send message time_out) = receivers
     by (Receive time_out) = senders
     by _ = tt
+
+-- Whom a lawful call wakes, in a tied state: through a channel those who wait there, else processes of its own partition that
+-- wait at no channel.
+
+-- a process by its partition and number
+abbrev pub found : (ℕ → Partition) → Who → Option Process
+found partitions who = item_at (partitions who.part).table who.proc
+
+-- a channel's waiting set isn't one of this partition, and who waits there is woken through that channel alone
+pub record IsWokenBy (partitions : ℕ → Partition) (number : ℕ) (chan : Option ℕ) (who : Who) : Type 0 where
+  pub own : chan ≡ None → who.part ≡ number
+  pub sending : (channel : ℕ) → waits_at (channel_set channel Senders) (found partitions who) ≡ true → chan ≡ Some channel
+  pub receiving : (channel : ℕ) → waits_at (channel_set channel Receivers) (found partitions who) ≡ true → chan ≡ Some channel
+
+-- a process in a waiting set of a partition waits at no channel
+own_waiter : (partitions : ℕ → Partition) (number : ℕ) (wanted : WaitingSet) (chan : Option ℕ) → AllEntries (IsTied (λ home. home ≡ number) wanted partitions) (entries_at (partitions number) wanted)
+    → AllEntries (λ entry. IsWokenBy partitions number chan entry.who) (entries_at (partitions number) wanted)
+own_waiter partitions number wanted chan all =
+    of_objects (λ entry. IsWokenBy partitions number chan entry.who) (partitions number) wanted (λ off. all_weaker (IsTied (λ home. home ≡ number) wanted partitions) _ (λ entry tied. record {
+      own = λ none. tied.0;
+      sending = λ channel also. absurd (true≢false (off_channel wanted (channel_set channel Senders) (found partitions entry.who) off tied.1 also));
+      receiving = λ channel also. absurd (true≢false (off_channel wanted (channel_set channel Receivers) (found partitions entry.who) off tied.1 also));
+    }) (entries_at (partitions number) wanted) all)
+
+-- a created process is found under its number
+pub created_is : (table : Table) (process : ℤ) (target : Process) → created table process ≡ Some target → (number : ℕ) × (process ≡ pos number) × (item_at table number ≡ Some target)
+created_is table (pos zero) target is = cc
+created_is table (pos (suc number)) target is = (suc number, refl, is)
+created_is table (negsuc n) target is = cc
+
+-- who suspended itself waits in no set
+suspended_waits_not : (wanted : WaitingSet) (one : Wait) → is_suspension one ≡ true → is_in wanted one ≡ true → ⊥
+suspended_waits_not wanted (Wait.Suspended due) suspends waits = true≢false (sym waits)
+suspended_waits_not wanted _ suspends waits = true≢false (sym suspends)
+
+-- so it is with a created process
+pub suspended_elsewhere : (partition : Partition) (process : ℤ) (target : Process) (wanted : WaitingSet) → created partition.table process ≡ Some target → is_suspension target.wait ≡ true
+    → waits_at wanted (item_at partition.table (natural_of process)) ≡ true → ⊥
+suspended_elsewhere partition process target wanted is suspends waits =
+    let at = created_is partition.table process target is in
+    let number : natural_of process ≡ at.0 = ap natural_of at.1 in
+    let here : waits_at wanted (Some target) ≡ true =
+    subst (λ one. waits_at wanted one ≡ true) at.2 (subst (λ one. waits_at wanted (item_at partition.table one) ≡ true) number waits) in
+    suspended_waits_not wanted target.wait suspends (and_parts target.alive _ here).1
+
+suspended_peer : (partitions : ℕ → Partition) (who : Who) (chan : Option ℕ) (process : ℤ) (target : Process) → created (partitions who.part).table process ≡ Some target
+    → is_suspension target.wait ≡ true → IsWokenBy partitions who.part chan (peer who process)
+suspended_peer partitions who chan process target is suspends =
+    record {
+      own = λ none. refl;
+      sending = λ channel waits. absurd (suspended_elsewhere (partitions who.part) process target (channel_set channel Senders) is suspends waits);
+      receiving = λ channel waits. absurd (suspended_elsewhere (partitions who.part) process target (channel_set channel Receivers) is suspends waits);
+    }
+
+-- a process in a waiting set of a channel is woken through that channel
+channel_waiter : (partitions : ℕ → Partition) (Home : ℕ → Type 0) (wanted : WaitingSet) (number channel : ℕ) (chan : Option ℕ) → chan ≡ Some channel
+    → ((other : ℕ) → wanted ≡ channel_set other Senders → other ≡ channel) → ((other : ℕ) → wanted ≡ channel_set other Receivers → other ≡ channel)
+    → (entries : List Entry) → AllEntries (IsTied Home wanted partitions) entries → AllEntries (λ entry. IsWokenBy partitions number chan entry.who) entries
+channel_waiter partitions Home wanted number channel chan is sending receiving entries all =
+    all_weaker (IsTied Home wanted partitions) (λ entry. IsWokenBy partitions number chan entry.who) (λ entry tied. record {
+      own = λ none. (never_found (sym (sym is ∙ none)));
+      sending = λ other also. is ∙ ap Some (sym (sending other (one_set wanted (channel_set other Senders) (found partitions entry.who) tied.1 also)));
+      receiving = λ other also. is ∙ ap Some (sym (receiving other (one_set wanted (channel_set other Receivers) (found partitions entry.who) tied.1 also)));
+    }) entries all
+
+-- what a lawful call claims of its outcome, if these error conditions hold and its service goes through this channel
+abbrev pub ClaimsOutcome : Configuration → State → ℕ → Who → Request → Claim → List Condition → Option ℕ → Type 0
+ClaimsOutcome configuration state now who asked claim conditions channel =
+    HasOutcome conditions channel (answer_of now who (state.partitions who.part) asked) (λ number. suits_use configuration number who.part (use_of asked) (state.channels number))
+    (channel_answer configuration now who.part asked state.channels) claim
+
+-- the processes that a call with a lawful outcome names
+pub woken : (configuration : Configuration) (state : State) (now : ℕ) (who : Who) (asked : Request) (claim : Claim) → AreTied configuration state
+    → (conditions : List Condition) (channel : Option ℕ) → ClaimsOutcome configuration state now who asked claim conditions channel
+    → (one : Who) → is_named one claim.woken ≡ true → IsWokenBy state.partitions who.part claim.chan one
+woken configuration state now who asked claim tied (condition ∷ conditions) channel has one named = nobody one claim.woken has.woken named
+woken configuration state now who asked claim tied [] None has one named =
+    (answer_wakes (IsWokenBy state.partitions who.part claim.chan) now who (state.partitions who.part) asked
+    (λ wanted used. own_waiter state.partitions who.part wanted claim.chan (tied.objects who.part wanted))
+    (λ process target is suspends. suspended_peer state.partitions who claim.chan process target is suspends)).has
+    one (sym (has.woken one) ∙ named)
+woken configuration state now who asked claim tied [] (Some channel) has one named =
+    channel_wakes (IsWokenBy state.partitions who.part claim.chan) configuration now channel who.part (use_of asked) (state.channels channel)
+    (channel_waiter state.partitions (λ home. IsTrue (is_receiver configuration channel home)) (channel_set channel Receivers) who.part channel claim.chan has.chan
+    (λ other same. ap (λ one. one.number) (sym same)) (λ other same. ap (λ one. one.number) (sym same)) (state.channels channel).receivers (tied.receivers channel))
+    (channel_waiter state.partitions (λ home. IsTrue (is_sender configuration channel home)) (channel_set channel Senders) who.part channel claim.chan has.chan
+    (λ other same. ap (λ one. one.number) (sym same)) (λ other same. ap (λ one. one.number) (sym same)) (state.channels channel).senders (tied.senders channel))
+    one (sym (has.woken one) ∙ named)
+
+-- At which waiting set a call waits, and how a wait with a time-out ends.
+
+-- the set of a service
+
+set_by : {asked : Request} {chan : Option ℕ} {wanted : WaitingSet} → WaitsIn asked chan wanted → set_of asked chan ≡ Some wanted
+set_by WaitsIn.sends_to_buffer = refl
+set_by _ = refl
+
+set_is : (asked : Request) (chan : Option ℕ) (wanted : WaitingSet) → set_of asked chan ≡ Some wanted → WaitsIn asked chan wanted
+set_is (Request.Object buffer (on.Buffer (BufferOperation.Send length time_out message))) chan wanted is = subst (WaitsIn _ chan) (one_item is) WaitsIn.sends_to_buffer
+set_is (Request.Object buffer (on.Buffer (BufferOperation.Receive time_out))) chan wanted is = subst (WaitsIn _ chan) (one_item is) WaitsIn.receives_from_buffer
+set_is (Request.Object blackboard (on.Blackboard (BlackboardOperation.Read time_out))) chan wanted is = subst (WaitsIn _ chan) (one_item is) WaitsIn.reads_blackboard
+set_is (Request.Object semaphore (on.Semaphore (SemaphoreOperation.Wait time_out))) chan wanted is = subst (WaitsIn _ chan) (one_item is) WaitsIn.waits_for_semaphore
+set_is (Request.Object event (on.Event (EventOperation.Wait time_out))) chan wanted is = subst (WaitsIn _ chan) (one_item is) WaitsIn.waits_for_event
+set_is (Request.Object mutex (on.Mutex (MutexOperation.Acquire time_out))) chan wanted is = subst (WaitsIn _ chan) (one_item is) WaitsIn.acquires_mutex
+set_is (Request.QueuingPort port (QueuingOperation.Send length time_out message)) (Some channel) wanted is = subst (WaitsIn _ (Some channel)) (one_item is) WaitsIn.sends_through
+set_is (Request.QueuingPort port (QueuingOperation.Receive time_out)) (Some channel) wanted is = subst (WaitsIn _ (Some channel)) (one_item is) WaitsIn.receives_through
+set_is _ chan wanted is = never_found is
+
+-- a call that waits
+pub waiting_tells : (given : Out) → Tells (is_waiting given) (given ≡ Out.Waits)
+waiting_tells Out.Waits = (λ holds. refl, λ fact. refl)
+waiting_tells Out.Never = (impossible, λ fact. ap is_waiting fact)
+waiting_tells (Out.Answer one) = (impossible, λ fact. ap is_waiting fact)
+
+set_tells : (asked : Request) (chan : Option ℕ) (wanted : WaitingSet) → Tells (is_the_set wanted (set_of asked chan)) (WaitsIn asked chan wanted)
+set_tells asked chan wanted = (λ holds. set_is asked chan wanted (found_set wanted (set_of asked chan) holds), λ fact. ap (is_the_set wanted) (set_by fact) ∙ set_itself wanted)
+
+pub entering_is_the_sentence : EnteringIsTheSentence
+entering_is_the_sentence call wanted = tells_both (waiting_tells call.claim.out) (set_tells call.request call.claim.chan wanted)
+
+-- the wait of a caller
+
+wait_by : {asked : Request} {chan : Option ℕ} {wanted : WaitingSet} → (now : ℕ) (old : Process) → WaitsIn asked chan wanted
+    → wait_of asked chan now old ≡ Wait.At wanted (due_of_call (time_out_of asked) now)
+wait_by now old WaitsIn.sends_to_buffer = refl
+wait_by now old _ = refl
+
+due_by_call : {asked : Request} {chan : Option ℕ} {wanted : WaitingSet} → (now : ℕ) (given : ℤ) → WaitsIn asked chan wanted → HasTimeOut asked given
+    → due_of_call (time_out_of asked) now ≡ due_time given now
+due_by_call now given WaitsIn.sends_to_buffer same = ap (λ one. due_time one now) (sym same)
+due_by_call now given _ same = ap (λ one. due_time one now) (sym same)
+
+service_by : {asked : Request} {chan : Option ℕ} {wanted : WaitingSet} → WaitsIn asked chan wanted → service_at wanted ≡ Some (service_of asked)
+service_by WaitsIn.sends_to_buffer = refl
+service_by _ = refl
+
+-- a process of this core with this wait falls due
+abbrev Due : ℕ → ℕ → Process → Wait → Bool
+Due core time old one = nat_eq old.affinity core && due_by time one
+
+falls_by_wait : (place now core time : ℕ) (call : CallRecord) (given : Out) (old : Process) → given ≡ Out.Waits
+    → (nat_eq (caller_with place now call given old).affinity core && due_by time (caller_with place now call given old).wait) ≡ Due core time old (wait_of call.request call.claim.chan now old)
+falls_by_wait place now core time call given old waits =
+    ap (λ one. nat_eq (caller_with place now call one old).affinity core && due_by time (caller_with place now call one old).wait) waits
+
+pub time_out_is_the_sentence : TimeOutIsTheSentence
+time_out_is_the_sentence place now call wanted old waits in_set =
+    let begun : (core time : ℕ) → falls_due core time (Some (caller_after place now call old)) ≡ Due core time old (Wait.At wanted (due_of_call (time_out_of call.request) now)) =
+    λ core time. falls_by_wait place now core time call call.claim.out old waits ∙ ap (Due core time old) (wait_by now old in_set) in
+    let until : (given : ℤ) (core time : ℕ) → HasTimeOut call.request given → falls_due core time (Some (caller_after place now call old)) ≡ Due core time old (Wait.At wanted (due_time given now)) =
+    λ given core time has. begun core time ∙ ap (λ due. Due core time old (Wait.At wanted due)) (due_by_call now given in_set has) in (
+      λ ticks core time has.
+          let due = tells_both (equal_tells old.affinity core) (at_most_tells (now + ticks) time) in
+          (λ falls. due.0 (sym (until (pos ticks) core time has) ∙ falls), λ facts. until (pos ticks) core time has ∙ due.1 facts),
+      λ has core time. until (negsuc 0) core time has ∙ not_second (nat_eq old.affinity core) false refl,
+      λ later.
+          let outcome : Wait → Option Outcome = λ one. owed (service_of_wait one) (code_when_due one) [] in
+          ap (λ one. outcome (caller_with place now call one old).wait) waits ∙ ap outcome (wait_by now old in_set)
+          ∙ ap (λ one. owed one Code.TimedOut []) (service_by in_set),
+    )

@@ -1,143 +1,95 @@
 -- What a lawful call does to every process, object, port, channel and waiting set is what the sentences say.
 use Rattle.std.proofs.Common.{◌≡◌, ◌⊎◌, ℕ, ◌<◌, List, [], ◌∷◌, ◌++◌, Bool, true, false, cond, nat_eq, nat_lt, Option, Some, None, option_map, ℤ, pos, negsuc, IsTrue, refl, sym, ap, subst, ◌∙◌, inl, inr, true≢false}
-use Rattle.std.proofs.lemmas.Bool.{and_parts, cases_Bool, eqb-true, eq-eqb}
-use Rattle.apex_types.specs.declared.code.Code.TheVariants as code
-use Rattle.apex_types.specs.declared.record.Body.TheVariants.{Call}
+use Rattle.std.proofs.lemmas.Bool.{and_parts, eqb-true, eq-eqb}
 use Rattle.apex_types.specs.declared.object_kind.ObjectKind.TheVariants as kind
-use Rattle.apex_types.specs.declared.record.Call.{Call as CallRecord}
-use Rattle.apex_types.specs.declared.record.Claim.{Claim}
-use Rattle.apex_types.specs.declared.record.Out.TheVariants as out
-use Rattle.apex_types.specs.declared.record.Who.{Who}
-use Rattle.apex_types.specs.declared.operation.{BlackboardOperation.BlackboardOperation, BufferOperation.BufferOperation, CallerOperation.CallerOperation, EventOperation.EventOperation, MutexOperation.MutexOperation, ProcessOperation.ProcessOperation, QueuingOperation.QueuingOperation, SamplingOperation.SamplingOperation, SemaphoreOperation.SemaphoreOperation}
-use Rattle.apex_types.specs.declared.request.Request.{Request}
+use Rattle.apex_types.specs.declared.operation.{QueuingOperation.QueuingOperation, SamplingOperation.SamplingOperation}
 use Rattle.apex_types.specs.declared.operation.ObjectOperation.TheVariants as on
-use Rattle.apex_types.specs.declared.request.Request.TheVariants as request
-use Rattle.apex_types.specs.declared.shape.End.TheVariants.{Senders, Receivers}
-use Rattle.apex_machine.specs.declared.condition.Condition.{Condition}
-use Rattle.apex_machine.specs.declared.state.CoreState.{CoreState}
-use Rattle.apex_machine.specs.declared.state.Entry.{Entry}
-use Rattle.apex_machine.specs.declared.state.Process.{Process}
-use Rattle.apex_machine.specs.declared.state.Wait.{Wait}
-use Rattle.apex_machine.specs.declared.state.Wait.TheVariants as wait
-use Rattle.apex_machine.specs.declared.state.WaitingSet.{WaitingSet}
-use Rattle.apex_machine.specs.After.{adjusted, called, created_by, each_set, is_channel, is_done, numbered, objects_by, objects_called, own_partition, partition_called, woken_if_named}
-use Rattle.apex_machine.specs.Answer.{Answer, Effect, HasValues, NamesExactly, done, waking}
-use Rattle.apex_machine.specs.Arguments.{natural_of}
-use Rattle.apex_machine.specs.Channels.{is_receiver, is_sender}
-use Rattle.apex_machine.specs.DueTimes.{is_suspension, wait_of, waits_for_normal}
-use Rattle.apex_machine.specs.Configuration.{Configuration, first_core, period_of}
-use Rattle.apex_machine.specs.Demands.{CanHave}
-use Rattle.apex_machine.specs.Objects.{at_maximum, displayed, event_set, handed_on, mutex_released, raised, released_once, signalled}
-use Rattle.apex_machine.specs.Ports.{Use, channel_effect, channel_of, suits, suits_use, use_of, used}
-use Rattle.apex_machine.specs.Processes.{caller_after, new_process, set_by, stopped, woken_by}
-use Rattle.apex_machine.specs.ServiceConditions.{conditions_of}
-use Rattle.apex_machine.specs.Services.{answer_by, answer_of, peer, resuming}
-use Rattle.apex_machine.specs.State.{Channel, Content, Mutex, Partition, State, Table, created, each_item, given_object, is_named, item_at, time_of, channel_set, set_at}
-use Rattle.apex_machine.specs.Step.{HasCode, HasOutcome, IsLawfulCall, channel_answer}
-use Rattle.apex_machine.specs.Waiting.{first_waiter, is_in, is_waiting, restart_of, set_after, stops, waits_at, message_of}
-use Rattle.apex_laws.specs.Laws.{AllEntries, SetsAreInOrder, AreTied, IsTied, entries_at}
-use Rattle.apex_laws.specs.ProcessSentences.{IsBegun, WaitsForOther}
-use Rattle.apex_laws.specs.RecordLaws.{CallIsTheSentence}
-use Rattle.apex_laws.specs.RecordSentences.{GoesThrough, IsAdded, IsSetIfDone, ObjectsAre, emptied, process_in}
-use Rattle.apex_laws.proofs.Restarts.{woken_if_named_table}
-use Rattle.apex_laws.proofs.Answers.{creation_is_the_sentence}
-use Rattle.apex_laws.proofs.Booleans.{cannot_hold, is_itself}
-use Rattle.apex_laws.proofs.Emptied.{emptied_same}
-use Rattle.apex_laws.proofs.Keeps.{IsNotStarted, found_changed, set_by_wait}
-use Rattle.apex_laws.proofs.Kept.{set_says}
-use Rattle.apex_laws.proofs.InOrder.{order_is_apart}
+use Rattle.apex_laws.proofs.Common.{AllEntries, Answer, AreTied, BlackboardOperation, BufferOperation, Call, CallerOperation, CallIsTheSentence, CallRecord, CanHave, Channel, Claim, Code, Condition, Configuration, Content, CoreState, Effect}
+use Rattle.apex_laws.proofs.Common.{Entry, EventOperation, GoesThrough, HasCode, HasOutcome, HasValues, IsAdded, IsBegun, IsLawfulCall, IsSetIfDone, IsTied, Mutex, MutexOperation, NamesExactly, ObjectOf, ObjectOperation, ObjectsAre, Out}
+use Rattle.apex_laws.proofs.Common.{Partition, Process, ProcessOperation, Receivers, Request, SemaphoreOperation, Senders, SetsAreInOrder, State, Table, Use, Wait, WaitingSet, WaitsForOther, Who, adjusted, answer_by, answer_of, at_maximum}
+use Rattle.apex_laws.proofs.Common.{called, caller_after, channel_effect, channel_of, channel_set, conditions_of, created, created_by, done, each_item, each_set, emptied, entries_at, first_core, first_waiter, given_object, handed_on}
+use Rattle.apex_laws.proofs.Common.{is_channel, is_done, is_in, is_named, is_receiver, is_sender, is_suspension, is_waiting, item_at, kind_used, message_of, mutex_released, natural_of, new_process, numbered, object_effect, objects_by}
+use Rattle.apex_laws.proofs.Common.{objects_called, objects_of, own_partition, partition_called, peer, period_of, process_in, raised, released_once, restart_of, resuming, set_after, set_at, set_by, signalled, stopped, stops, suits}
+use Rattle.apex_laws.proofs.Common.{suits_use, time_of, use_of, used, wait_of, waits_at, waits_for_normal, waking, woken_by, woken_if_named}
+use Rattle.apex_laws.proofs.Booleans.{by_test, cannot_hold, either_way, impossible, is_itself, never_found, one_item}
+use Rattle.apex_laws.proofs.Demanded.{channel_can, goes_to, through_claimed}
+use Rattle.apex_laws.proofs.Keeps.{found_changed, IsNotStarted, set_by_wait}
 use Rattle.apex_laws.proofs.ObjectRules.{channel_is_the_sentence}
-use Rattle.apex_laws.proofs.Outcomes.{channel_can, through_claimed}
-use Rattle.apex_laws.proofs.Tables.{at_each}
-use Rattle.apex_laws.proofs.ProcessRules.{caller_is_the_sentence, setting_is_the_sentence, waking_is_the_sentence}
-use Rattle.apex_laws.proofs.Records.{stays_each, turns_each}
-use Rattle.apex_laws.proofs.RefusedCalls.{foreign_rest}
-use Rattle.apex_laws.proofs.Steps.{lawful_body, next_channel, next_cores, next_partition}
+use Rattle.apex_laws.proofs.ProcessRules.{caller_is_the_sentence, creation_is_the_sentence, setting_is_the_sentence, waking_is_the_sentence}
+use Rattle.apex_laws.proofs.Records.{emptied_same, foreign_rest, lawful_body, next_channel, next_cores, next_partition, set_says}
+use Rattle.apex_laws.proofs.Restarts.{woken_if_named_table}
+use Rattle.apex_laws.proofs.Stays.{order_is_apart}
+use Rattle.apex_laws.proofs.Tables.{at_each, stays_each, turns_each}
 use Rattle.apex_laws.proofs.Waiters.{all_weaker}
-use Rattle.apex_laws.proofs.Wakes.{answer_wakes, channel_wakes, nobody}
 use Rattle.apex_laws.proofs.WaitersOf.{free_exists, same_who}
-use Rattle.apex_laws.proofs.Woken.{created_is, found}
-use Rattle.apex_laws.proofs.Waits.{waiting_tells}
-use Rattle.apex_laws.proofs.Demanded.{goes_to}
+use Rattle.apex_laws.proofs.Wakes.{answer_wakes, channel_wakes, ClaimsOutcome, created_is, found, nobody, waiting_tells}
 
 -- a caller that waits has something to wait for
 
--- an answer that doesn't wait
-abbrev IsNoWait : Answer → Type 0
-IsNoWait answer = answer.out ≡ out.Waits → ⊥
+-- an answer does not wait
+no_wait : {Fact : Type 0} {code : Code} → Out.Answer code ≡ Out.Waits → Fact
+no_wait waits = cc
 
-by_object_no_wait : {Object : Type 0} (found : Option Object) (gives : Object → Answer) → ((object : Object) → IsNoWait (gives object)) → IsNoWait (answer_by found gives)
-by_object_no_wait None gives none waits = cc
-by_object_no_wait (Some object) gives none waits = none object waits
+-- an object that gives a wait is there
+object_waits : {Object : Type 0} (found : Option Object) (gives : Object → Answer) → (answer_by found gives).out ≡ Out.Waits → (object : Object) × ((gives object).out ≡ Out.Waits)
+object_waits None gives waits = no_wait waits
+object_waits (Some object) gives waits = (object, waits)
 
-signal_no_wait : (maximum : ℕ) (first : Option Entry) (value : ℕ) → IsNoWait (signalled maximum first value).answer
-signal_no_wait maximum (Some waiter) value waits = cc
+signal_no_wait : (maximum : ℕ) (first : Option Entry) (value : ℕ) → (signalled maximum first value).answer.out ≡ Out.Waits → ⊥
+signal_no_wait maximum (Some waiter) value waits = no_wait waits
 signal_no_wait maximum None value waits =
-    elim (nat_lt value maximum) as (λ below. (cond below (raised value) (at_maximum value)).answer.out ≡ out.Waits → ⊥) [
-      | true ↦ λ waits. (let no : out.Answer code.NoError ≡ out.Waits = waits in cc)
-      | false ↦ λ waits. (let no : out.Answer code.NoAction ≡ out.Waits = waits in cc)
-    ] waits
+    by_test (λ (effect : Effect ℕ). effect.answer.out ≡ Out.Waits → ⊥) (nat_lt value maximum) (raised value) (at_maximum value) (λ below waits. no_wait waits) (λ full waits. no_wait waits) waits
 
-hand_on_no_wait : (first : Option Entry) (mutex : Mutex) → IsNoWait (handed_on first mutex).answer
-hand_on_no_wait None mutex waits = cc
-hand_on_no_wait (Some waiter) mutex waits = cc
+hand_on_no_wait : (first : Option Entry) (mutex : Mutex) → (handed_on first mutex).answer.out ≡ Out.Waits → ⊥
+hand_on_no_wait None mutex waits = no_wait waits
+hand_on_no_wait (Some waiter) mutex waits = no_wait waits
 
-release_no_wait : (first : Option Entry) (mutex : Mutex) → IsNoWait (mutex_released first mutex).answer
+release_no_wait : (first : Option Entry) (mutex : Mutex) → (mutex_released first mutex).answer.out ≡ Out.Waits → ⊥
 release_no_wait first mutex waits =
-    elim (nat_lt 1 mutex.count) as (λ more. (cond more (released_once mutex) (handed_on first mutex)).answer.out ≡ out.Waits → ⊥) [
-      | true ↦ λ waits. (let no : out.Answer code.NoError ≡ out.Waits = waits in cc)
-      | false ↦ λ waits. hand_on_no_wait first mutex waits
-    ] waits
+    by_test (λ (effect : Effect Mutex). effect.answer.out ≡ Out.Waits → ⊥) (nat_lt 1 mutex.count) (released_once mutex) (handed_on first mutex) (λ more waits. no_wait waits) (λ last. hand_on_no_wait first mutex) waits
 
-resume_no_wait : (target : Who) (found : Option Process) → IsNoWait (resuming target found)
-resume_no_wait target None waits = cc
+resume_no_wait : (target : Who) (found : Option Process) → (resuming target found).out ≡ Out.Waits → ⊥
+resume_no_wait target None waits = no_wait waits
 resume_no_wait target (Some process) waits =
-    elim (is_suspension process.wait) as (λ suspends. (cond suspends (waking (target ∷ [])) done).out ≡ out.Waits → ⊥) [
-      | true ↦ λ waits. (let no : out.Answer code.NoError ≡ out.Waits = waits in cc)
-      | false ↦ λ waits. (let no : out.Answer code.NoError ≡ out.Waits = waits in cc)
-    ] waits
+    by_test (λ (answer : Answer). answer.out ≡ Out.Waits → ⊥) (is_suspension process.wait) (waking (target ∷ [])) done (λ suspends waits. no_wait waits) (λ runs waits. no_wait waits) waits
+
+-- an operation that waits begins a wait in a set of its object
+operation_begun : (now caller : ℕ) (number : ℤ) (operation : ObjectOperation) (process : Process) (found : ObjectOf (kind_used operation)) → (object_effect caller operation found).answer.out ≡ Out.Waits
+    → IsBegun now (Request.Object number operation) None process (wait_of (Request.Object number operation) None now process)
+operation_begun now caller number (on.Buffer (BufferOperation.Send length time_out message)) process found waits = IsBegun.object (set_at kind.Buffer (natural_of number) Senders) refl refl
+operation_begun now caller number (on.Buffer (BufferOperation.Receive time_out)) process found waits = IsBegun.object (set_at kind.Buffer (natural_of number) Receivers) refl refl
+operation_begun now caller number (on.Blackboard (BlackboardOperation.Read time_out)) process found waits = IsBegun.object (set_at kind.Blackboard (natural_of number) Receivers) refl refl
+operation_begun now caller number (on.Semaphore (SemaphoreOperation.Wait time_out)) process found waits = IsBegun.object (set_at kind.Semaphore (natural_of number) Receivers) refl refl
+operation_begun now caller number (on.Event (EventOperation.Wait time_out)) process found waits = IsBegun.object (set_at kind.Event (natural_of number) Receivers) refl refl
+operation_begun now caller number (on.Mutex (MutexOperation.Acquire time_out)) process found waits = IsBegun.object (set_at kind.Mutex (natural_of number) Receivers) refl refl
+operation_begun now caller number (on.Semaphore SemaphoreOperation.Signal) process found waits = absurd (signal_no_wait found.maximum (first_waiter found.discipline found.waiters) found.value waits)
+operation_begun now caller number (on.Mutex MutexOperation.Release) process found waits = absurd (release_no_wait (first_waiter found.discipline found.waiters) found waits)
+operation_begun now caller number _ process found waits = no_wait waits
 
 -- a call that uses no channel and waits
 own_begun : (configuration : Configuration) (now : ℕ) (who : Who) (partition : Partition) (asked : Request) (process : Process) → conditions_of configuration who partition asked ≡ []
-    → (answer_of now who partition asked).out ≡ out.Waits → IsBegun now asked None process (wait_of asked None now process)
-own_begun configuration now who partition (request.Caller (CallerOperation.TimedWait (pos ticks))) process none waits = IsBegun.delay ticks refl refl
-own_begun configuration now who partition (request.Caller (CallerOperation.TimedWait (negsuc n))) process none waits = cc
-own_begun configuration now who partition (request.Caller CallerOperation.PeriodicWait) process none waits = IsBegun.release refl refl
-own_begun configuration now who partition (request.Caller (CallerOperation.SuspendSelf time_out)) process none waits = IsBegun.suspension time_out refl refl
-own_begun configuration now who partition (request.Object buffer (on.Buffer (BufferOperation.Send length time_out message))) process none waits = IsBegun.object (set_at kind.Buffer (natural_of buffer) Senders) refl refl
-own_begun configuration now who partition (request.Object buffer (on.Buffer (BufferOperation.Receive time_out))) process none waits = IsBegun.object (set_at kind.Buffer (natural_of buffer) Receivers) refl refl
-own_begun configuration now who partition (request.Object blackboard (on.Blackboard (BlackboardOperation.Read time_out))) process none waits = IsBegun.object (set_at kind.Blackboard (natural_of blackboard) Receivers) refl refl
-own_begun configuration now who partition (request.Object semaphore (on.Semaphore (SemaphoreOperation.Wait time_out))) process none waits = IsBegun.object (set_at kind.Semaphore (natural_of semaphore) Receivers) refl refl
-own_begun configuration now who partition (request.Object event (on.Event (EventOperation.Wait time_out))) process none waits = IsBegun.object (set_at kind.Event (natural_of event) Receivers) refl refl
-own_begun configuration now who partition (request.Object mutex (on.Mutex (MutexOperation.Acquire time_out))) process none waits = IsBegun.object (set_at kind.Mutex (natural_of mutex) Receivers) refl refl
-own_begun configuration now who partition (request.Object blackboard (on.Blackboard (BlackboardOperation.Display length message))) process none waits =
-    absurd (by_object_no_wait (given_object partition.blackboards blackboard) (λ found. (displayed message found.readers).answer) (λ found waits. let no : out.Answer code.NoError ≡ out.Waits = waits in cc) waits)
-own_begun configuration now who partition (request.Object semaphore (on.Semaphore SemaphoreOperation.Signal)) process none waits =
-    absurd (by_object_no_wait (given_object partition.semaphores semaphore) (λ found. (signalled found.maximum (first_waiter found.discipline found.waiters) found.value).answer)
-    (λ found waits. signal_no_wait found.maximum (first_waiter found.discipline found.waiters) found.value waits) waits)
-own_begun configuration now who partition (request.Object event (on.Event EventOperation.Set)) process none waits =
-    absurd (by_object_no_wait (given_object partition.events event) (λ found. (event_set found.waiters).answer) (λ found waits. let no : out.Answer code.NoError ≡ out.Waits = waits in cc) waits)
-own_begun configuration now who partition (request.Object mutex (on.Mutex MutexOperation.Release)) process none waits =
-    absurd (by_object_no_wait (given_object partition.mutexes mutex) (λ found. (mutex_released (first_waiter found.discipline found.waiters) found).answer)
-    (λ found waits. release_no_wait (first_waiter found.discipline found.waiters) found waits) waits)
-own_begun configuration now who partition (request.Process process_number ProcessOperation.Resume) process none waits = absurd (resume_no_wait (peer who process_number) (created partition.table process_number) waits)
-own_begun configuration now who partition (request.Caller CallerOperation.StopSelf) process none waits = let no : out.Never ≡ out.Waits = waits in cc
-own_begun configuration now who partition (request.SetPartitionMode mode) process none waits = let no : out.Never ≡ out.Waits = waits in cc
-own_begun configuration now who partition (request.Object blackboard (on.Blackboard BlackboardOperation.Clear)) process none waits =
-    absurd (by_object_no_wait (given_object partition.blackboards blackboard) (λ found. done) (λ found waits. let no : out.Answer code.NoError ≡ out.Waits = waits in cc) waits)
-own_begun configuration now who partition (request.Object event (on.Event EventOperation.Reset)) process none waits =
-    absurd (by_object_no_wait (given_object partition.events event) (λ found. done) (λ found waits. let no : out.Answer code.NoError ≡ out.Waits = waits in cc) waits)
-own_begun configuration now who partition _ process none waits = let no : out.Answer code.NoError ≡ out.Waits = waits in cc
+    → (answer_of now who partition asked).out ≡ Out.Waits → IsBegun now asked None process (wait_of asked None now process)
+own_begun configuration now who partition (Request.Caller (CallerOperation.TimedWait (pos ticks))) process none waits = IsBegun.delay ticks refl refl
+own_begun configuration now who partition (Request.Caller (CallerOperation.TimedWait (negsuc n))) process none waits = cc
+own_begun configuration now who partition (Request.Caller CallerOperation.PeriodicWait) process none waits = IsBegun.release refl refl
+own_begun configuration now who partition (Request.Caller (CallerOperation.SuspendSelf time_out)) process none waits = IsBegun.suspension time_out refl refl
+own_begun configuration now who partition (Request.Object number operation) process none waits =
+    let there = object_waits (given_object (objects_of partition (kind_used operation)) number) (λ found. (object_effect who.proc operation found).answer) waits in
+    operation_begun now who.proc number operation process there.0 there.1
+own_begun configuration now who partition (Request.Process number ProcessOperation.Resume) process none waits = absurd (resume_no_wait (peer who number) (created partition.table number) waits)
+own_begun configuration now who partition (Request.Caller CallerOperation.StopSelf) process none waits = let no : Out.Never ≡ Out.Waits = waits in cc
+own_begun configuration now who partition (Request.SetPartitionMode mode) process none waits = let no : Out.Never ≡ Out.Waits = waits in cc
+own_begun configuration now who partition _ process none waits = no_wait waits
 
 -- a call through a channel that waits
 through_begun : (configuration : Configuration) (now channel partition : ℕ) (asked : Request) (process : Process) (held : Channel) → IsTrue (suits_use configuration channel partition (use_of asked) held)
-    → CanHave asked out.Waits → IsBegun now asked (Some channel) process (wait_of asked (Some channel) now process)
-through_begun configuration now channel partition (request.QueuingPort port (QueuingOperation.Send length time_out message)) process held suited can = IsBegun.object (channel_set channel Senders) refl refl
-through_begun configuration now channel partition (request.QueuingPort port (QueuingOperation.Receive time_out)) process held suited can = IsBegun.object (channel_set channel Receivers) refl refl
-through_begun configuration now channel partition (request.SamplingPort port (SamplingOperation.Write length message)) process held suited can = absurd can
-through_begun configuration now channel partition (request.SamplingPort port SamplingOperation.Read) process held suited can = absurd can
-through_begun configuration now channel partition (request.GetStatus kind.QueuingPort port) process held suited can = absurd can
-through_begun configuration now channel partition _ process held suited can = absurd (true≢false (sym suited))
+    → CanHave asked Out.Waits → IsBegun now asked (Some channel) process (wait_of asked (Some channel) now process)
+through_begun configuration now channel partition (Request.QueuingPort port (QueuingOperation.Send length time_out message)) process held suited can = IsBegun.object (channel_set channel Senders) refl refl
+through_begun configuration now channel partition (Request.QueuingPort port (QueuingOperation.Receive time_out)) process held suited can = IsBegun.object (channel_set channel Receivers) refl refl
+through_begun configuration now channel partition (Request.SamplingPort port (SamplingOperation.Write length message)) process held suited can = absurd can
+through_begun configuration now channel partition (Request.SamplingPort port SamplingOperation.Read) process held suited can = absurd can
+through_begun configuration now channel partition (Request.GetStatus kind.QueuingPort port) process held suited can = absurd can
+through_begun configuration now channel partition _ process held suited can = impossible suited
 
 -- a lawful call that waits
 begun : (configuration : Configuration) (state : State) (core : ℕ) (call : CallRecord) → IsLawfulCall configuration state core call → (process : Process)
@@ -145,32 +97,33 @@ begun : (configuration : Configuration) (state : State) (core : ℕ) (call : Cal
 begun configuration state core call law process waits =
     by (conditions_of configuration call.who (state.partitions call.who.part) call.request) refl (channel_of (state.partitions call.who.part) call.request) law.outcome
   where
+    Begun : Option ℕ → Type 0
+    Begun chan = IsBegun (time_of state.cores core) call.request chan process (wait_of call.request chan (time_of state.cores core) process)
+
+    is : call.claim.out ≡ Out.Waits
+    is = (waiting_tells call.claim.out).0 waits
+
     by : (conditions : List Condition) → conditions_of configuration call.who (state.partitions call.who.part) call.request ≡ conditions → (channel : Option ℕ)
-        → HasOutcome conditions channel (answer_of (time_of state.cores core) call.who (state.partitions call.who.part) call.request)
-        (λ number. suits_use configuration number call.who.part (use_of call.request) (state.channels number)) (channel_answer configuration (time_of state.cores core) call.who.part call.request state.channels) call.claim
-        → IsBegun (time_of state.cores core) call.request call.claim.chan process (wait_of call.request call.claim.chan (time_of state.cores core) process)
+        → ClaimsOutcome configuration state (time_of state.cores core) call.who call.request call.claim conditions channel → Begun call.claim.chan
     by (one ∷ conditions) at channel has = absurd (refused (one ∷ conditions) has.out)
       where
         refused : (conditions : List Condition) → HasCode conditions call.claim.out → ⊥
-        refused conditions has = subst (HasCode conditions) ((waiting_tells call.claim.out).0 waits) has
-    by [] at None has =
-        subst (λ chan. IsBegun (time_of state.cores core) call.request chan process (wait_of call.request chan (time_of state.cores core) process)) (sym has.chan)
-        (own_begun configuration (time_of state.cores core) call.who (state.partitions call.who.part) call.request process at (sym has.out ∙ (waiting_tells call.claim.out).0 waits))
+        refused conditions has = subst (HasCode conditions) is has
+    by [] at None has = subst Begun (sym has.chan) (own_begun configuration (time_of state.cores core) call.who (state.partitions call.who.part) call.request process at (sym has.out ∙ is))
     by [] at (Some channel) has =
-        subst (λ chan. IsBegun (time_of state.cores core) call.request chan process (wait_of call.request chan (time_of state.cores core) process)) (sym has.chan)
-        (through_begun configuration (time_of state.cores core) channel call.who.part call.request process (state.channels channel) has.kind
-        (subst (CanHave call.request) (sym has.out ∙ (waiting_tells call.claim.out).0 waits) (channel_can configuration (time_of state.cores core) channel call.who.part call.request (state.channels channel) has.kind)))
+        subst Begun (sym has.chan) (through_begun configuration (time_of state.cores core) channel call.who.part call.request process (state.channels channel) has.kind
+        (subst (CanHave call.request) (sym has.out ∙ is) (channel_can configuration (time_of state.cores core) channel call.who.part call.request (state.channels channel) has.kind)))
 
 -- a process that a call names waits for another
 
 -- a wait in a set, or a suspension
 in_waits : (wanted : WaitingSet) (one : Wait) → is_in wanted one ≡ true → WaitsForOther one
-in_waits wanted (wait.At set due) is = tt
-in_waits wanted _ is = absurd (true≢false (sym is))
+in_waits wanted (Wait.At set due) is = tt
+in_waits wanted _ is = impossible is
 
 suspension_waits : (one : Wait) → is_suspension one ≡ true → WaitsForOther one
-suspension_waits (wait.Suspended due) is = tt
-suspension_waits _ is = absurd (true≢false (sym is))
+suspension_waits (Wait.Suspended due) is = tt
+suspension_waits _ is = impossible is
 
 abbrev OtherAwaited : (ℕ → Partition) → Who → Type 0
 OtherAwaited partitions who = (old : Process) → found partitions who ≡ Some old → WaitsForOther old.wait
@@ -186,18 +139,15 @@ peer_waits : (partitions : ℕ → Partition) (who : Who) (process : ℤ) (targe
 peer_waits partitions who process target is suspends old at =
     let place = created_is (partitions who.part).table process target is in
     let number : peer who process ≡ record { part = who.part; proc = place.0 } = ap (peer who) place.1 in
-    let both : ◌≡◌ {A = Option Process} (Some target) (Some old) = sym place.2 ∙ sym (ap (found partitions) number) ∙ at in
-    let same : target ≡ old = cc in
-    subst (λ one. WaitsForOther one.wait) same (suspension_waits target.wait suspends)
+    subst (λ one. WaitsForOther one.wait) (one_item (sym place.2 ∙ sym (ap (found partitions) number) ∙ at)) (suspension_waits target.wait suspends)
 
 named_waits : (configuration : Configuration) (state : State) (now : ℕ) (who : Who) (asked : Request) (claim : Claim) → AreTied configuration state → (conditions : List Condition) (channel : Option ℕ)
-    → HasOutcome conditions channel (answer_of now who (state.partitions who.part) asked) (λ number. suits_use configuration number who.part (use_of asked) (state.channels number)) (channel_answer configuration now who.part asked state.channels) claim
-    → (one : Who) → is_named one claim.woken ≡ true → OtherAwaited state.partitions one
+    → ClaimsOutcome configuration state now who asked claim conditions channel → (one : Who) → is_named one claim.woken ≡ true → OtherAwaited state.partitions one
 named_waits configuration state now who asked claim tied (condition ∷ conditions) channel has one named = nobody one claim.woken has.woken named
 named_waits configuration state now who asked claim tied [] None has one named =
-    answer_wakes (OtherAwaited state.partitions) now who (state.partitions who.part) asked
+    (answer_wakes (OtherAwaited state.partitions) now who (state.partitions who.part) asked
     (λ wanted used. tied_waits (λ home. home ≡ who.part) wanted state.partitions (entries_at (state.partitions who.part) wanted) (tied.objects who.part wanted))
-    (λ process target is suspends. peer_waits state.partitions who process target is suspends)
+    (peer_waits state.partitions who)).has
     one (sym (has.woken one) ∙ named)
 named_waits configuration state now who asked claim tied [] (Some channel) has one named =
     channel_wakes (OtherAwaited state.partitions) configuration now channel who.part (use_of asked) (state.channels channel)
@@ -212,16 +162,15 @@ set_first : (configuration : Configuration) (state : State) (place : ℕ) (call 
     → IsSetIfDone configuration state place call number old (adjusted place (period_of configuration call.who.part) state.cores (state.partitions call.who.part) call number old)
 set_first configuration state place call number old above =
     let set : Process = set_by place (period_of configuration call.who.part) state.cores (state.partitions call.who.part) call.who.proc call.request number old in
-    elim (is_done call.claim.out) as (λ done. is_done call.claim.out ≡ done → IsSetIfDone configuration state place call number old (cond done set old)) [
-      | true ↦ λ done. inl (done, (setting_is_the_sentence place (period_of configuration call.who.part) state.cores (state.partitions call.who.part) call.who.proc call.request number old set above).0 refl)
-      | false ↦ λ not_so. inr (not_so, refl)
-    ] refl
+    by_test (IsSetIfDone configuration state place call number old) (is_done call.claim.out) set old
+    (λ done. inl (done, (setting_is_the_sentence place (period_of configuration call.who.part) state.cores (state.partitions call.who.part) call.who.proc call.request number old set above).0 refl))
+    (λ not_so. inr (not_so, refl))
 
 -- who waits for another doesn't wait for NORMAL
 not_for_normal : (one : Wait) → WaitsForOther one → waits_for_normal one ≡ false
-not_for_normal (wait.Suspended due) waits = refl
-not_for_normal (wait.At set due) waits = refl
-not_for_normal wait.Nothing waits = absurd waits
+not_for_normal (Wait.Suspended due) waits = refl
+not_for_normal (Wait.At set due) waits = refl
+not_for_normal Wait.Nothing waits = absurd waits
 not_for_normal _ waits = absurd waits
 
 -- START names no process
@@ -232,8 +181,8 @@ start_names_nobody (condition ∷ conditions) suited through claim has one named
 not_started : (configuration : Configuration) (now : ℕ) (who : Who) (partition : Partition) (asked : Request) (suited : ℕ → Bool) (through : ℕ → Answer) (claim : Claim)
     → HasOutcome (conditions_of configuration who partition asked) (channel_of partition asked) (answer_of now who partition asked) suited through claim
     → (one : Who) → is_named one claim.woken ≡ true → (number : ℕ) → IsNotStarted asked number
-not_started configuration now who partition (request.Process process ProcessOperation.Start) suited through claim has one named number =
-    absurd (start_names_nobody (conditions_of configuration who partition (request.Process process ProcessOperation.Start)) suited through claim has one named)
+not_started configuration now who partition (Request.Process process ProcessOperation.Start) suited through claim has one named number =
+    absurd (start_names_nobody (conditions_of configuration who partition (Request.Process process ProcessOperation.Start)) suited through claim has one named)
 not_started configuration now who partition _ suited through claim has one named number = tt
 
 -- what the call sets leaves the wait of a process that it names
@@ -242,13 +191,9 @@ named_keeps : (configuration : Configuration) (state : State) (place core : ℕ)
     → WaitsForOther (adjusted place (period_of configuration call.who.part) state.cores (state.partitions call.who.part) call number old).wait
 named_keeps configuration state place core call law one named number old waits =
     let set : Process = set_by place (period_of configuration call.who.part) state.cores (state.partitions call.who.part) call.who.proc call.request number old in
-    let starts = not_started configuration (time_of state.cores core) call.who (state.partitions call.who.part) call.request (λ number. suits_use configuration number call.who.part (use_of call.request) (state.channels number))
-    (channel_answer configuration (time_of state.cores core) call.who.part call.request state.channels) call.claim law.outcome one named number in
+    let starts = not_started configuration (time_of state.cores core) call.who (state.partitions call.who.part) call.request _ _ call.claim law.outcome one named number in
     let same = set_by_wait place (period_of configuration call.who.part) state.cores (state.partitions call.who.part) call.who.proc call.request number old starts (not_for_normal old.wait waits) in
-    elim (is_done call.claim.out) as (λ done. WaitsForOther (cond done set old).wait) [
-      | true ↦ subst WaitsForOther (sym same) waits
-      | false ↦ waits
-    ]
+    by_test (λ (one : Process). WaitsForOther one.wait) (is_done call.claim.out) set old (λ done. subst WaitsForOther (sym same) waits) (λ not_done. waits)
 
 -- objects
 
@@ -266,57 +211,44 @@ objects_are configuration cores place core call partition objects is =
 pub found_after : (table more : Table) (number : ℕ) → item_at table number ≡ None → item_at (table ++ more) number ≡ item_at more number
 found_after [] more number none = refl
 found_after (entry ∷ entries) more number none =
-    elim (nat_eq number entry.0) as (λ same. cond same (Some entry.1) (item_at entries number) ≡ None → cond same (Some entry.1) (item_at (entries ++ more) number) ≡ item_at more number) [
-      | true ↦ λ none. (let some : ◌≡◌ {A = Option Process} (Some entry.1) None = none in cc)
-      | false ↦ λ none. found_after entries more number none
-    ] none
+    either_way (nat_eq number entry.0) (λ same. never_found (sym (rw same at none))) (λ other. rw other (found_after entries more number (rw other at none)))
 
 -- the process under a claimed number
 numbered_is : (claimed : Option ℤ) (process : Process) (number : ℕ)
     → ((claimed ≡ Some (pos number)) × (item_at (numbered claimed process) number ≡ Some process)) ⊎ ((¬ (claimed ≡ Some (pos number))) × (item_at (numbered claimed process) number ≡ None))
-numbered_is None process number = inr (λ is. (let no : ◌≡◌ {A = Option ℤ} None (Some (pos number)) = is in cc), refl)
-numbered_is (Some (negsuc n)) process number = inr (λ is. (let both : ◌≡◌ {A = Option ℤ} (Some (negsuc n)) (Some (pos number)) = is in let no : negsuc n ≡ pos number = cc in cc), refl)
+numbered_is None process number = inr (λ is. never_found is, refl)
+numbered_is (Some (negsuc n)) process number = inr (λ is. (let no : negsuc n ≡ pos number = one_item is in cc), refl)
 numbered_is (Some (pos n)) process number =
-    elim (cases_Bool (nat_eq number n)) [
-      | inl same ↦ inl (ap (λ (one : ℕ). Some (pos one)) (sym (eqb-true number n same)), rw same refl)
-      | inr differs ↦ inr (λ is. absurd (other_number is differs), rw differs refl)
-    ]
-  where
-    other_number : Some (pos n) ≡ Some (pos number) → nat_eq number n ≡ false → ⊥
-    other_number is differs =
-        let both : ◌≡◌ {A = Option ℤ} (Some (pos n)) (Some (pos number)) = is in
-        let same : pos n ≡ pos number = cc in
-        let equal : n ≡ number = cc in
-        true≢false (sym (eq-eqb number n (sym equal)) ∙ differs)
+    either_way (nat_eq number n) (λ same. inl (ap (λ (one : ℕ). Some (pos one)) (sym (eqb-true number n same)), rw same refl))
+    (λ differs. inr (λ is. (let same : pos n ≡ pos number = one_item is in let equal : n ≡ number = cc in true≢false (sym (eq-eqb number n (sym equal)) ∙ differs)), rw differs refl))
 
 -- a call adds a created process, or none
 adds : (configuration : Configuration) (call : CallRecord) (asked : Request) (number : ℕ) → call.request ≡ asked
     → IsAdded configuration call number (item_at (created_by (first_core configuration call.who.part) call asked) number)
-adds configuration call (request.CreateProcess name priority period) number is =
+adds configuration call (Request.CreateProcess name priority period) number is =
     let new : Process = new_process (first_core configuration call.who.part) name priority period in
-    elim (is_done call.claim.out) as (λ done. is_done call.claim.out ≡ done → IsAdded configuration call number (item_at (cond done (numbered call.claim.val new) []) number)) [
-      | true ↦ λ done. elim (numbered_is call.claim.val new number) [
-        | inl here ↦ IsAdded.created name priority period new is done here.0 here.1 (creation_is_the_sentence (first_core configuration call.who.part) name priority period)
-        | inr none ↦ IsAdded.not_created (λ name priority period asks done. none.0) none.1
-      ]
-      | false ↦ λ not_so. IsAdded.not_created (λ name priority period asks done claims. true≢false (sym done ∙ not_so)) refl
-    ] refl
-adds configuration call other number is = IsAdded.not_created (λ name priority period asks done claims. (let no : other ≡ request.CreateProcess name priority period = sym is ∙ asks in cc)) refl
+    by_test (λ more. IsAdded configuration call number (item_at more number)) (is_done call.claim.out) (numbered call.claim.val new) []
+    (λ done. elim (numbered_is call.claim.val new number) [
+      | inl here ↦ IsAdded.created name priority period new is done here.0 here.1 (creation_is_the_sentence (first_core configuration call.who.part) name priority period)
+      | inr none ↦ IsAdded.not_created (λ name priority period asks done. none.0) none.1
+    ])
+    (λ not_so. IsAdded.not_created (λ name priority period asks done claims. true≢false (sym done ∙ not_so)) refl)
+adds configuration call other number is = IsAdded.not_created (λ name priority period asks done claims. (let no : other ≡ Request.CreateProcess name priority period = sym is ∙ asks in cc)) refl
 
 -- through a channel
 
 -- a use that suits is there
 suited_use : (configuration : Configuration) (number partition : ℕ) (found : Option Use) (channel : Channel) → suits_use configuration number partition found channel ≡ true
     → (how : Use) × (found ≡ Some how) × (suits configuration number partition how channel.content ≡ true)
-suited_use configuration number partition None channel suited = absurd (true≢false (sym suited))
+suited_use configuration number partition None channel suited = impossible suited
 suited_use configuration number partition (Some how) channel suited = (how, refl, suited)
 
-goes_through : (configuration : Configuration) (state : State) (now : ℕ) (call : CallRecord) (answer : Answer) (conditions : List Condition) (channel : Option ℕ) (number : ℕ) (next : Channel) → SetsAreInOrder state
-    → HasOutcome conditions channel answer (λ number. suits_use configuration number call.who.part (use_of call.request) (state.channels number)) (channel_answer configuration now call.who.part call.request state.channels) call.claim
+goes_through : (configuration : Configuration) (state : State) (now : ℕ) (call : CallRecord) (conditions : List Condition) (channel : Option ℕ) (number : ℕ) (next : Channel) → SetsAreInOrder state
+    → ClaimsOutcome configuration state now call.who call.request call.claim conditions channel
     → call.claim.chan ≡ Some number → next.content ≡ (channel_effect configuration now number call.who.part (use_of call.request) (state.channels number)).next
     → GoesThrough configuration now number call (state.channels number) next
-goes_through configuration state now call answer conditions channel number next order has goes content =
-    let through = through_claimed conditions channel answer (λ number. suits_use configuration number call.who.part (use_of call.request) (state.channels number)) (channel_answer configuration now call.who.part call.request state.channels) call.claim number goes has in
+goes_through configuration state now call conditions channel number next order has goes content =
+    let through = through_claimed conditions channel _ _ _ call.claim number goes has in
     let how = suited_use configuration number call.who.part (use_of call.request) (state.channels number) through.kind in
     let effect : Effect Content = used configuration now number call.who.part how.0 (state.channels number) (state.channels number).content in
     let same : channel_effect configuration now number call.who.part (use_of call.request) (state.channels number) ≡ effect = ap (λ found. channel_effect configuration now number call.who.part found (state.channels number)) how.1 in
@@ -359,10 +291,18 @@ call_is_the_sentence configuration state ordered call next above tied order step
     let peer_at : (who : Who) → who.part ≡ part → who ≡ record { part = part; proc = who.proc } = λ who here. same_who who (record { part = part; proc = who.proc }) here refl in
     let old_at : (who : Who) (old : Process) → who.part ≡ part → process_in state who ≡ Some old → item_at table who.proc ≡ Some old = λ who old here at.
     subst (λ one. item_at (state.partitions one).table who.proc ≡ Some old) here at in
-    let new_at : (who : Who) (new : Process) → who.part ≡ part → item_at (next.partitions part).table who.proc ≡ Some new → process_in next who ≡ Some new = λ who new here at.
-    subst (λ one. item_at (next.partitions one).table who.proc ≡ Some new) (sym here) at in
     let apart : (who : Who) → who.part ≡ part → ¬ (who ≡ call.who) → nat_eq who.proc call.who.proc ≡ false = λ who here differs.
     cannot_hold (nat_eq who.proc call.who.proc) (λ same. differs (same_who who call.who here (eqb-true who.proc call.who.proc same))) in
+    let after_call : Who → Process → Process = λ who old. cond (stops call who) (stopped (sets who.proc old)) (woken_if_named place call who (sets who.proc old)) in
+    let becomes : (who : Who) (old new : Process) → who.part ≡ part → ¬ (who ≡ call.who) → process_in state who ≡ Some old → after_call who old ≡ new → process_in next who ≡ Some new =
+    λ who old new here differs at is. subst (λ one. item_at (next.partitions one).table who.proc ≡ Some new) (sym here) (arrives who.proc old (old_at who old here at)
+    ∙ (let other = apart who here differs in rw other (ap Some (subst (λ one. after_call one old ≡ new) (peer_at who here) is)))) in
+    let foreign : (number : ℕ) → ¬ (number ≡ part) → nat_eq part number ≡ false = λ number there. cannot_hold (nat_eq part number) (λ same. there (sym (eqb-true part number same))) in
+    let wake_named : ℕ → ℕ → Process → Process = λ number other process. woken_if_named place call (record { part = number; proc = other }) process in
+    let found_elsewhere : (who : Who) → ¬ (who.part ≡ part) → process_in next who ≡ item_at (each_item (wake_named who.part) (state.partitions who.part).table) who.proc = λ who there.
+    ap (λ (one : Partition). item_at one.table who.proc) (partitions who.part)
+    ∙ ap (λ test. item_at (cond test (own_partition (restart_of call) configuration state.cores place core call (state.partitions who.part))
+    (record (state.partitions who.part) { table = woken_if_named_table place call who.part (state.partitions who.part).table })).table who.proc) (foreign who.part there) in
     let caller = free_exists (process_in state call.who) law.due in
     record {
       caller = record {
@@ -383,76 +323,54 @@ call_is_the_sentence configuration state ordered call next above tied order step
         old = old;
         new = stopped (sets who.proc old);
         before = at;
-        after = new_at who (stopped (sets who.proc old)) here (arrives who.proc old (old_at who old here at)
-            ∙ (let other = apart who here differs in
-            let stops_here : stops call (record { part = part; proc = who.proc }) ≡ true = subst (λ one. stops call one ≡ true) (peer_at who here) stopping in
-            rw (other, stops_here) refl));
+        after = becomes who old (stopped (sets who.proc old)) here differs at (rw stopping refl);
         change = record { set = sets who.proc old; first = set_first configuration state place call who.proc old (above part); second = refl };
       };
       woken = λ who old here differs at not_stopping named. record {
         old = old;
         new = woken_by place (message_of call.request) (sets who.proc old);
         before = at;
-        after = new_at who (woken_by place (message_of call.request) (sets who.proc old)) here (arrives who.proc old (old_at who old here at)
-            ∙ (let other = apart who here differs in
-            let stops_not : stops call (record { part = part; proc = who.proc }) ≡ false = subst (λ one. stops call one ≡ false) (peer_at who here) not_stopping in
-            let named_here : is_named (record { part = part; proc = who.proc }) call.claim.woken ≡ true = subst (λ one. is_named one call.claim.woken ≡ true) (peer_at who here) named in
-            rw (other, stops_not, named_here) refl));
+        after = becomes who old (woken_by place (message_of call.request) (sets who.proc old)) here differs at (rw (not_stopping, named) refl);
         change = record {
           set = sets who.proc old;
           first = set_first configuration state place call who.proc old (above part);
           second = (waking_is_the_sentence place (message_of call.request) (sets who.proc old) (woken_by place (message_of call.request) (sets who.proc old))
               (named_keeps configuration state place core call law who named who.proc old
-              (named_waits configuration state now call.who call.request call.claim tied (conditions_of configuration call.who partition call.request) (channel_of partition call.request) law.outcome who named old at))).0 refl;
+              (named_waits configuration state now call.who call.request call.claim tied _ _ law.outcome who named old at))).0 refl;
         };
       };
       peers = λ who old here differs at not_stopping not_named. record {
         old = old;
         new = sets who.proc old;
         before = at;
-        after = new_at who (sets who.proc old) here (arrives who.proc old (old_at who old here at)
-            ∙ (let other = apart who here differs in
-            let stops_not : stops call (record { part = part; proc = who.proc }) ≡ false = subst (λ one. stops call one ≡ false) (peer_at who here) not_stopping in
-            let unnamed : is_named (record { part = part; proc = who.proc }) call.claim.woken ≡ false = subst (λ one. is_named one call.claim.woken ≡ false) (peer_at who here) not_named in
-            rw (other, stops_not, unnamed) refl));
+        after = becomes who old (sets who.proc old) here differs at (rw (not_stopping, not_named) refl);
         change = record { set = sets who.proc old; first = set_first configuration state place call who.proc old (above part); second = refl };
       };
-      woken_elsewhere = λ who old there at named.
-          let foreign : nat_eq part who.part ≡ false = cannot_hold (nat_eq part who.part) (λ same. there (sym (eqb-true part who.part same))) in
-          let wake_named : ℕ → Process → Process = λ number process. woken_if_named place call (record { part = who.part; proc = number }) process in
-          record {
-            old = old;
-            new = woken_by place (message_of call.request) old;
-            before = at;
-            after = ap (λ (one : Partition). item_at one.table who.proc) (partitions who.part)
-                ∙ ap (λ test. item_at (cond test (own_partition (restart_of call) configuration state.cores place core call (state.partitions who.part)) (record (state.partitions who.part) { table = woken_if_named_table place call who.part (state.partitions who.part).table })).table who.proc) foreign
-                ∙ turns_each wake_named (state.partitions who.part).table who.proc old at
-                ∙ ap (λ test. Some (cond test (woken_by place (message_of call.request) old) old)) named;
-            change = (waking_is_the_sentence place (message_of call.request) old (woken_by place (message_of call.request) old)
-                (named_waits configuration state now call.who call.request call.claim tied (conditions_of configuration call.who partition call.request) (channel_of partition call.request) law.outcome who named old at)).0 refl;
-          };
+      woken_elsewhere = λ who old there at named. record {
+        old = old;
+        new = woken_by place (message_of call.request) old;
+        before = at;
+        after = found_elsewhere who there ∙ turns_each (wake_named who.part) (state.partitions who.part).table who.proc old at
+            ∙ ap (λ test. Some (cond test (woken_by place (message_of call.request) old) old)) named;
+        change = (waking_is_the_sentence place (message_of call.request) old (woken_by place (message_of call.request) old)
+            (named_waits configuration state now call.who call.request call.claim tied _ _ law.outcome who named old at)).0 refl;
+      };
       added = λ number none.
           let is_added = adds configuration call call.request number refl in
           let not_among : item_at (each_item change table) number ≡ None = at_each change table number ∙ ap (option_map (change number)) none in
           subst (IsAdded configuration call number) (sym (ap (λ (one : Partition). item_at one.table number) own ∙ found_after (each_item change table) more number not_among)) is_added;
-      elsewhere = λ who there not_named.
-          let foreign : nat_eq part who.part ≡ false = cannot_hold (nat_eq part who.part) (λ same. there (sym (eqb-true part who.part same))) in
-          ap (λ (one : Partition). item_at one.table who.proc) (partitions who.part)
-          ∙ ap (λ test. item_at (cond test (own_partition (restart_of call) configuration state.cores place core call (state.partitions who.part)) (record (state.partitions who.part) { table = woken_if_named_table place call who.part (state.partitions who.part).table })).table who.proc) foreign
-          ∙ stays_each (λ number process. woken_if_named place call (record { part = who.part; proc = number }) process) (state.partitions who.part).table who.proc
-          (λ one at. ap (λ test. cond test (woken_by place (message_of call.request) one) one) not_named);
+      elsewhere = λ who there not_named. found_elsewhere who there
+          ∙ stays_each (wake_named who.part) (state.partitions who.part).table who.proc (λ one at. ap (λ test. cond test (woken_by place (message_of call.request) one) one) not_named);
       mode = ap (λ (one : Partition). one.mode) own;
       objects = (
         λ done. subst (λ one. ObjectsAre one (objects_by configuration call.who call.claim.val call.request partition)) (sym own)
             (objects_are configuration state.cores place core call partition (objects_by configuration call.who call.claim.val call.request partition) (rw done refl)),
         λ not_so. subst (λ one. ObjectsAre one partition) (sym own) (objects_are configuration state.cores place core call partition partition (rw not_so refl)),
       );
-      other_partitions = λ number there. foreign_rest configuration place core call state next number (partitions number)
-          (cannot_hold (nat_eq part number) (λ same. there (sym (eqb-true part number same))));
+      other_partitions = λ number there. foreign_rest configuration place core call state next number (partitions number) (foreign number there);
       senders = λ number. set_says place call (channel_set number Senders) (state.channels number).senders (next.channels number).senders (ap (λ one. one.senders) (channels number));
       receivers = λ number. set_says place call (channel_set number Receivers) (state.channels number).receivers (next.channels number).receivers (ap (λ one. one.receivers) (channels number));
-      through = λ number goes. goes_through configuration state now call (answer_of now call.who partition call.request) (conditions_of configuration call.who partition call.request)
-          (channel_of partition call.request) number (next.channels number) order law.outcome goes
+      through = λ number goes. goes_through configuration state now call _ _ number (next.channels number) order law.outcome goes
           (ap (λ one. one.content) (channels number)
           ∙ ap (λ test. cond test (channel_effect configuration now number call.who.part (use_of call.request) (state.channels number)).next (state.channels number).content) (ap (is_channel number) goes ∙ is_itself number));
       contents = λ number differs. ap (λ one. one.content) (channels number)

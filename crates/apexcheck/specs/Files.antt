@@ -3,31 +3,34 @@ use Rattle.std.specs.Prelude.{◌≡◌, ◌⊎◌, ⊤, ℕ, Bool, List, Option
 use Rattle.std.specs.List.{AllZip}
 use Rattle.answer_words.specs.declared.names.InputNames.{InputNames}
 use Rattle.csv_rows.specs.declared.watched.Watched.{Watched}
+use Rattle.program_ends.specs.declared.ending.Ending.{Ending}
+use Rattle.program_ends.specs.declared.ending.Ending.TheVariants as ending
+use Rattle.program_ends.specs.Endings.{out_of_memory}
 use Rattle.report.specs.Answers.{Given, given_by}
 use Rattle.rule_options.specs.Options.{in_order}
 use Rattle.apexcheck.specs.declared.awaited.Observed.{Observed}
-use Rattle.apexcheck.specs.declared.ending.Ending.{Ending}
+use Rattle.apexcheck.specs.declared.ending.CheckEnd.{CheckEnd}
 use Rattle.apexcheck.specs.declared.files.OpenFault.{OpenFault}
 use Rattle.apexcheck.specs.declared.files.OpenFault.TheVariants.{Unopened, Memory}
 use Rattle.apexcheck.specs.declared.files.Opened.{Opened}
 use Rattle.check_request.specs.declared.usage.FilesAsked.{FilesAsked}
-use Rattle.apexcheck.specs.Endings.{out_of_memory}
+use Rattle.apexcheck.specs.Endings.{refusing}
 use Rattle.apexcheck.specs.Folders.{FolderView}
 use Rattle.apexcheck.specs.Ruled.{IsRuledEnding}
 
 -- the end if not all files could be opened; a lack of memory counts as the check's own
-abbrev pub ending_of : OpenFault → Ending
-ending_of Unopened = Ending.Unopened
-ending_of Memory = out_of_memory
+abbrev pub ending_of : OpenFault → Ending CheckEnd
+ending_of Unopened = ending.Unopened
+ending_of Memory = out_of_memory refusing
 
 -- what is known of opened texts, from what is known of each, and from whether reading them can fail
 abbrev pub given_of : {S : Type 0} → (S → Option (List ℕ)) → Bool → Opened S → Given
 given_of known can_fail opened = given_by opened.config.items (map known opened.cores.items) can_fail (known opened.order) can_fail
 
 -- a run over opened texts ends as it was requested
-abbrev pub EndsAsAsked : {S : Type 0} → (S → Option (List ℕ)) → Bool → Opened S → FilesAsked → Ending → Type 0
-EndsAsAsked known can_fail opened asked ending =
-    IsRuledEnding (given_of known can_fail opened) (in_order asked.options) (option_map (λ text. text.items) opened.rules) asked.settings asked.at_least asked.last ending
+abbrev pub EndsAsAsked : {S : Type 0} → (S → Option (List ℕ)) → Bool → Opened S → FilesAsked → Ending CheckEnd → Type 0
+EndsAsAsked known can_fail opened asked end =
+    IsRuledEnding (given_of known can_fail opened) (in_order asked.options) (option_map (λ text. text.items) opened.rules) asked.settings asked.at_least asked.last end
 
 module _ {F : Type 0} (facts : FolderView F) where
   -- the rules are the text in the file that is named, and there are none if no file is named
@@ -59,8 +62,8 @@ module _ {F : Type 0} (facts : FolderView F) where
 
   -- a run over the requested files: memory ran out before the check; or one of the files is refused, and the run ends with that; or each was
   -- opened in its role, and the run ends as it was requested
-  abbrev pub IsOfFiles : (Observed (Watched F) → Option (List ℕ)) → Bool → FilesAsked → Ending → Type 0
-  IsOfFiles known can_fail asked ending =
-      (ending ≡ out_of_memory)
-      ⊎ ((ending ≡ Ending.Unopened) × RefusesOne asked.names)
-      ⊎ ((opened : Opened (Observed (Watched F))) × AreOpened asked.names opened × EndsAsAsked known can_fail opened asked ending)
+  abbrev pub IsOfFiles : (Observed (Watched F) → Option (List ℕ)) → Bool → FilesAsked → Ending CheckEnd → Type 0
+  IsOfFiles known can_fail asked end =
+      (end ≡ out_of_memory refusing)
+      ⊎ ((end ≡ ending.Unopened) × RefusesOne asked.names)
+      ⊎ ((opened : Opened (Observed (Watched F))) × AreOpened asked.names opened × EndsAsAsked known can_fail opened asked end)

@@ -1,6 +1,8 @@
 -- What a check under the rules of options and of a rules file answers, and how its run ends.
 use Rattle.std.specs.Prelude.{◌≡◌, ◌⊎◌, ℕ, Bool, true, false, List, [], Option, Some, None, Result, Ok, Err}
 use Rattle.asked_rules.specs.Asked.{SayBoth, rules_given}
+use Rattle.program_ends.specs.declared.ending.Ending.{Ending}
+use Rattle.program_ends.specs.Endings.{out_of_memory, refused_rules}
 use Rattle.report.specs.declared.fault.CheckFault.{CheckFault}
 use Rattle.report.specs.declared.fault.CheckFault.TheVariants.{Memory}
 use Rattle.report.specs.declared.settings.Settings.{Settings}
@@ -11,8 +13,8 @@ use Rattle.rules_file.specs.declared.fault.RulesFault.{RulesFault}
 use Rattle.rules_file.specs.Reading.{SaidRule}
 use Rattle.user_rules.specs.declared.relation.Relation.{Relation}
 use Rattle.verdict_merge.specs.declared.verdict.Verdict.{Verdict}
-use Rattle.apexcheck.specs.declared.ending.Ending.{Ending}
-use Rattle.apexcheck.specs.Endings.{end_of_check, out_of_memory, refused_by}
+use Rattle.apexcheck.specs.declared.ending.CheckEnd.{CheckEnd}
+use Rattle.apexcheck.specs.Endings.{end_of_check, refusing}
 
 -- the answer, and the last records that it leaves, are those of these inputs under relations that say what the options request, followed by
 -- what the rules of the file say, in their order; a lack of memory outranks them, and leaves no last records
@@ -28,14 +30,14 @@ where_asked false last = None
 
 -- the end for a rules file: its first refusal, else the end by the answer under its rules, which refuses a Yes for fewer records than are
 -- required, with the last records if they are requested
-abbrev pub IsEndingBy : Result (List SaidRule) RulesFault → Given → List RuleOption → Settings → Option ℕ → Bool → Ending → Type 0
-IsEndingBy (Err fault) given options settings least asked ending = ending ≡ refused_by fault
+abbrev pub IsEndingBy : Result (List SaidRule) RulesFault → Given → List RuleOption → Settings → Option ℕ → Bool → Ending CheckEnd → Type 0
+IsEndingBy (Err fault) given options settings least asked ending = ending ≡ refused_rules refusing fault
 IsEndingBy (Ok rules) given options settings least asked ending =
     (outcome : Result Verdict CheckFault) × (last : List LastItem) × (ending ≡ end_of_check least outcome (where_asked asked last))
     × AnswersRuled given options rules settings outcome last
 
 -- the end of a run over these inputs, with the rules file if there is one, with the number of records that are required, if it is given, and
 -- with the last records if they are requested; a lack of memory outranks it
-abbrev pub IsRuledEnding : Given → List RuleOption → Option (List ℕ) → Settings → Option ℕ → Bool → Ending → Type 0
+abbrev pub IsRuledEnding : Given → List RuleOption → Option (List ℕ) → Settings → Option ℕ → Bool → Ending CheckEnd → Type 0
 IsRuledEnding given options rules settings least asked ending =
-    (ending ≡ out_of_memory) ⊎ IsEndingBy (rules_given rules) given options settings least asked ending
+    (ending ≡ out_of_memory refusing) ⊎ IsEndingBy (rules_given rules) given options settings least asked ending

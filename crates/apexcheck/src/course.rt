@@ -1,16 +1,24 @@
 // What a person sees of a check while it runs.
 
 use crate::awaited::Awaited;
-use crate::progress::Progress;
+use apex_types::limits::LARGEST_ROUND;
+use program_ends::ProgressLine;
 use report::Gate;
 use std::rt::Clock;
+use std::sync::atomic::{AtomicU64, Ordering};
 use std::sync::{Arc, Wait};
 
+/// The piece that is claimed once in each round: the module.
+const MODULE: usize = 0;
+
 /// How far a check has come, and the files that may hold it up once the answer is known.
+///
+/// It sees the rounds begin. All of them but the last have the same number of records.
 #[derive(Drop)]
 pub struct Course<'a, R> {
     rt: &'a R,
-    progress: Progress<'a, R>,
+    progress: ProgressLine<'a, R>,
+    rounds: AtomicU64,
     files: Option<Arc<Awaited>>,
 }
 
@@ -19,7 +27,8 @@ impl<'a, R: Clock + Eprint> Course<'a, R> {
     pub fn new(rt: &'a R, is_wanted: bool, files: Option<Arc<Awaited>>) -> Course<'a, R> {
         Course {
             rt,
-            progress: Progress::new(rt, is_wanted),
+            progress: ProgressLine::new(rt, is_wanted),
+            rounds: AtomicU64::new(0),
             files,
         }
     }
@@ -32,7 +41,11 @@ impl<'a, R: Clock + Eprint> Course<'a, R> {
 
 impl<R: Clock + Eprint + Wait> Gate for Course<'_, R> {
     fn at_claim(&self, _worker: usize, piece: usize) {
-        self.progress.claimed(piece);
+        if piece == MODULE {
+            let rounds = self.rounds.fetch_add(1, Ordering::SeqCst);
+            let records = rounds.saturating_mul(LARGEST_ROUND as u64);
+            self.progress.show(records);
+        }
     }
 
     fn at_post(&self, _worker: usize, _piece: usize) {}

@@ -1,12 +1,13 @@
 // The answer in words, on standard error, after its line. It decides nothing: a failure there, or a lack of memory, ends only the words.
 
-use crate::ending::{Ending, UNWRITTEN};
+use crate::ending::CheckEnd;
 use crate::sarif::write_log;
 use answer_words::{
     Explainer, RunFiles, Told, words_of_stored_run, words_of_unwritten_log,
     words_of_unwritten_output,
 };
-use check_request::{Asked, FilesAsked, UsageFault};
+use check_request::{Asked, FilesAsked};
+use program_ends::{Ending, UNWRITTEN, UsageFault};
 use program_words::{Documents, Program, tell_usage};
 use report::Verdict;
 use std::alloc::Global;
@@ -24,7 +25,7 @@ pub fn explain<'a, R: Env + Files<File = F> + Eprint + AllocGlobal, F: Read + Wr
     rt: &'a R,
     alloc: Global,
     asked: &'a Result<Asked, UsageFault>,
-    ending: &Ending,
+    ending: &Ending<CheckEnd>,
     explainer: &'a Explainer,
     status: u8,
 ) {
@@ -49,7 +50,7 @@ fn explain_files<'a, R: Files<File = F> + Eprint, F: Read + Write + Drop>(
     rt: &'a R,
     alloc: Global,
     asked: &'a FilesAsked,
-    ending: &Ending,
+    ending: &Ending<CheckEnd>,
     explainer: &'a Explainer,
     look: Look<'_>,
     status: u8,
@@ -67,10 +68,12 @@ fn explain_files<'a, R: Files<File = F> + Eprint, F: Read + Write + Drop>(
         if let Some(told) = &told {
             tell(rt, &told.words, look);
         }
-        if let Ending::Checked {
-            outcome: Ok(Verdict::Yes { records }),
-            ..
-        } = ending
+        if let Ending::Own(
+            CheckEnd::Checked {
+                outcome: Ok(Verdict::Yes { records }),
+                ..
+            },
+        ) = ending
         {
             tell(rt, &files.without_records(*records), look);
         }
@@ -86,18 +89,21 @@ fn explain_files<'a, R: Files<File = F> + Eprint, F: Read + Write + Drop>(
 fn told_of<'a, R: Files<File = F>, F: Read + Drop>(
     files: &RunFiles<'a, R>,
     asked: &FilesAsked,
-    ending: &Ending,
+    ending: &Ending<CheckEnd>,
     explainer: &Explainer,
 ) -> Option<Told<'a>> {
     match ending {
-        Ending::Checked { outcome, .. } => match files.told_of(outcome, explainer) {
+        Ending::Own(CheckEnd::Checked { outcome, .. }) => match files.told_of(outcome, explainer) {
             Some(mut told) => {
                 files.tell_other_orders(&mut told, outcome);
                 Some(told)
             }
             None => None,
         },
-        Ending::Few { records } => Some(files.told_of_few(*records, asked.at_least?)),
+        Ending::Own(CheckEnd::Few { records }) => Some(files.told_of_few(
+            *records,
+            asked.at_least?,
+        )),
         _ => None,
     }
 }

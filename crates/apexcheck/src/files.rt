@@ -7,13 +7,14 @@ ghost use Rattle.apexcheck.specs.Ruled.{where_asked};
 
 use crate::awaited::{Awaited, Observed, copy_of, end_watch, watch};
 use crate::course::Course;
-use crate::ending::{Ending, end_of_check, out_of_memory, refused_by};
+use crate::ending::{CheckEnd, end_of_check};
 use crate::folder::Folder;
 use crate::ruled::check_ruled;
 use answer_words::{Explainer, note_broken};
 use asked_rules::read_rules;
 use check_request::FilesAsked;
 use csv_rows::{TextSource, Watched};
+use program_ends::{Ending, out_of_memory, refused_rules};
 use report::{Inputs, Last};
 use std::alloc::{AllocFailed, Global};
 use std::fs::Files;
@@ -33,7 +34,7 @@ pub fn check_files<R, D, F>(
     folder: &D,
     asked: &FilesAsked,
     explainer: &mut Explainer,
-) -> Ending
+) -> Ending<CheckEnd>
 where
     R: Files + Clock + Eprint + AllocGlobal,
     R: Threads + Wait + Sync + Copy + Send + 'static,
@@ -49,7 +50,7 @@ where
 }
 
 // The end of a run if not all its files could be opened.
-fn end_by(fault: OpenFault) -> Ending
+fn end_by(fault: OpenFault) -> Ending<CheckEnd>
     ensures { result ≡ ending_of fault }
 {
     match fault {
@@ -112,7 +113,7 @@ impl<S: TextSource + Drop + Send + 'static> Opened<S> {
         alloc: Global,
         asked: &FilesAsked,
         explainer: &mut Explainer,
-    ) -> Ending
+    ) -> Ending<CheckEnd>
     where
         R: Clock + Eprint + Threads + Wait + Sync + Copy + Send + 'static,
         ensures { EndsAsAsked S.remaining S.can_fail self asked.now result }
@@ -132,7 +133,7 @@ impl<S: TextSource + Drop + Send + 'static> Opened<S> {
             Ok(rules) => rules,
             Err(refusal) => {
                 explainer.note_rules(&asked.names, &refusal, rules_text);
-                return refused_by(refusal.fault);
+                return refused_rules(refusal.fault);
             }
         };
         let Ok(mut last) = Last::new(alloc) else {

@@ -33,18 +33,18 @@ mod ending;
 mod explained;
 mod files;
 mod folder;
-mod progress;
 mod ruled;
 mod sarif;
 mod stored;
 
 use answer_words::{Explainer, Terminal};
 use awaited::Observed;
-use check_request::{Asked, UsageFault, request_of};
+use check_request::{Asked, request_of};
 use csv_rows::{TextSource, Watched};
-use ending::{Ending, conclude, out_of_memory, refused_words};
+use ending::{CheckEnd, conclude};
 use explained::explain;
 use folder::{Folder, SystemFiles};
+use program_ends::{Ending, UsageFault, out_of_memory, refused_words};
 use sink::WriterSink;
 use std::alloc::Global;
 use std::env::Args;
@@ -106,7 +106,7 @@ fn carry_out<R, D, F>(
     alloc: Global,
     asked: &Result<Asked, UsageFault>,
     explainer: &mut Explainer,
-) -> Ending
+) -> Ending<CheckEnd>
 where
     R: Files + Clock + Eprint + AllocGlobal,
     R: Threads + Wait + Sync + Copy + Send + 'static,
@@ -119,11 +119,11 @@ where
         return out_of_memory();
     }
     match asked {
-        Ok(Asked::StoredRun) => Ending::Checked {
+        Ok(Asked::StoredRun) => Ending::Own(CheckEnd::Checked {
             outcome: stored::check_stored(*rt, alloc),
             last: None,
-        },
-        Ok(Asked::Version) => Ending::Version,
+        }),
+        Ok(Asked::Version) => Ending::Own(CheckEnd::Version),
         Ok(Asked::Files(asked)) => files::check_files(rt, folder, asked, explainer),
         Err(fault) => refused_words(*fault),
     }

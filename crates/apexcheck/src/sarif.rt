@@ -1,9 +1,10 @@
 // The outcome as a SARIF log, in the file that `--sarif` names. Like the words on standard error, it decides nothing.
 
-use crate::ending::Ending;
+use crate::ending::CheckEnd;
 use answer_words::{Explainer, InputNames, RunFiles, Told, name_of_core};
 use apex_types::Cause;
 use placement::InputFault;
+use program_ends::Ending;
 use record_read::Kind;
 use report::{CheckFault, Verdict};
 use sarif_report::{
@@ -29,7 +30,7 @@ const MOST_NAMES: u32 = 100;
 pub fn write_log<'a, R: Files<File = F>, F: Read + Write + Drop>(
     files: &RunFiles<'a, R>,
     name: &str,
-    ending: &Ending,
+    ending: &Ending<CheckEnd>,
     explainer: &'a Explainer,
     told: Option<&Told<'a>>,
     status: u8,
@@ -96,11 +97,11 @@ impl OwnRule {
 // The rule of the result. None after a Yes, or if memory ran out.
 fn rule_of(
     alloc: Global,
-    ending: &Ending,
+    ending: &Ending<CheckEnd>,
     explainer: &Explainer,
 ) -> Result<Option<OwnRule>, AllocError> {
     match ending {
-        Ending::Checked { outcome, .. } => match outcome {
+        Ending::Own(CheckEnd::Checked { outcome, .. }) => match outcome {
             Ok(Verdict::Yes { .. }) | Err(CheckFault::Memory) => Ok(None),
             Ok(Verdict::No { cause, .. }) => Ok(Some(rule_of_cause(alloc, *cause)?)),
             Ok(Verdict::Broken { .. }) => Ok(Some(rule_of_user(alloc, explainer)?)),
@@ -115,7 +116,7 @@ fn rule_of(
             ),
             Err(CheckFault::Input(fault)) => rule_of_input(alloc, fault),
         },
-        Ending::Few { .. } => rule_of_command_line(
+        Ending::Own(CheckEnd::Few { .. }) => rule_of_command_line(
             alloc,
             "few",
             "The records that are judged are at least as many as --at-least requires.",
@@ -131,7 +132,7 @@ fn rule_of(
             fault,
             "docs/SPECIFICATION.md, part 14; docs/FORMATS.md, Rules",
         ),
-        Ending::BadUsage | Ending::Version => Ok(None),
+        Ending::BadUsage | Ending::Own(CheckEnd::Version) => Ok(None),
     }
 }
 
@@ -230,7 +231,7 @@ fn message_of(
 fn place_of(
     alloc: Global,
     names: &InputNames,
-    ending: &Ending,
+    ending: &Ending<CheckEnd>,
     explainer: &Explainer,
     told: Option<&Told<'_>>,
 ) -> Result<OwnPlace, AllocError> {
@@ -256,9 +257,12 @@ fn place_in(alloc: Global, file: Option<&str>, line: Option<u64>) -> Result<OwnP
 }
 
 // What kept the records from being judged, if that is not a result.
-fn notice_of<'a>(ending: &Ending, message: &'a str) -> Option<&'a str> {
-    match ending {
-        Ending::Checked {
+fn notice_of<'a>(ending: &Ending<CheckEnd>, message: &'a str) -> Option<&'a str> {
+    let Ending::Own(end) = ending else {
+        return None;
+    };
+    match end {
+        CheckEnd::Checked {
             outcome: Err(CheckFault::Memory),
             ..
         } => Some(message),

@@ -2,6 +2,8 @@
 use Rattle.std.proofs.Common.{◌≡◌, ◌≢◌, ◌∙◌, ℕ, List, Option, Some, Result, Ok, Err, length, map, option_map, refl, sym, ap, subst, inl, inr}
 use Rattle.apex_machine.specs.Configuration.{Configuration}
 use Rattle.module_config.specs.Reading.{configuration_of}
+use Rattle.program_ends.specs.declared.ending.Ending.{Ending}
+use Rattle.program_ends.specs.Endings.{out_of_memory, refused_rules}
 use Rattle.record_read.specs.Row.{records_of}
 use Rattle.rule_options.specs.declared.option.RuleOption.{RuleOption}
 use Rattle.rule_options.specs.Options.{in_order}
@@ -9,10 +11,10 @@ use Rattle.rules_file.specs.declared.fault.RulesFault.{RulesFault}
 use Rattle.rules_file.specs.declared.fault.RulesFault.TheVariants.{File, Memory, Rule}
 use Rattle.rules_file.specs.declared.refusal.RulesRefusal.{RulesRefusal}
 use Rattle.rules_file.specs.Reading.{SaidRule, without_key}
-use Rattle.apexorder.specs.declared.ending.Ending.{Ending}
+use Rattle.apexorder.specs.declared.ending.OrderEnd.{OrderEnd}
 use Rattle.apexorder.specs.declared.files.Opened.{Opened}
 use Rattle.apexorder.specs.declared.usage.OrderAsked.{OrderAsked}
-use Rattle.apexorder.specs.Endings.{EndsSearch, HasReceived, out_of_memory, refused_rules}
+use Rattle.apexorder.specs.Endings.{EndsSearch, HasReceived, refusing}
 use Rattle.apexorder.specs.Files.{EndsAsAsked, rules_text}
 use Rattle.asked_rules.specs.Asked.{rules_given, walk_given}
 use Rattle.apexorder.specs.Ruled.{IsCertified}
@@ -21,7 +23,7 @@ use Rattle.apexorder.proofs.Written.{none_received}
 
 module _ {S : Type 0} (known : S → Option (List ℕ)) (opened : Opened S) (asked : OrderAsked) where
   -- memory was refused before the first row
-  pub memory_ended : (bytes : Option (List ℕ)) (end : Ending) → end ≡ out_of_memory → EndsAsAsked known opened asked bytes bytes end
+  pub memory_ended : (bytes : Option (List ℕ)) (end : Ending OrderEnd) → end ≡ out_of_memory refusing → EndsAsAsked known opened asked bytes bytes end
   memory_ended bytes end is = record {
     rows = none_received (configuration_of opened.text.items) (map (λ source. option_map records_of (known source)) opened.cores.items) bytes;
     refused = λ fault given. (inl is, refl);
@@ -30,28 +32,28 @@ module _ {S : Type 0} (known : S → Option (List ℕ)) (opened : Opened S) (ask
   }
 
   -- the rules file is refused
-  pub refused_ended : (bytes : Option (List ℕ)) (end : Ending) (refusal : RulesRefusal) → (refusal.fault ≢ Memory → walk_given (rules_text opened) ≡ Err refusal)
-      → end ≡ refused_rules refusal.fault → EndsAsAsked known opened asked bytes bytes end
+  pub refused_ended : (bytes : Option (List ℕ)) (end : Ending OrderEnd) (refusal : RulesRefusal) → (refusal.fault ≢ Memory → walk_given (rules_text opened) ≡ Err refusal)
+      → end ≡ refused_rules refusing refusal.fault → EndsAsAsked known opened asked bytes bytes end
   refused_ended bytes end refusal walked is = by refusal.fault refl walked is
     where
-      first : (fault : RulesFault) → refusal.fault ≡ fault → walk_given (rules_text opened) ≡ Err refusal → end ≡ refused_rules fault → EndsAsAsked known opened asked bytes bytes end
+      first : (fault : RulesFault) → refusal.fault ≡ fault → walk_given (rules_text opened) ≡ Err refusal → end ≡ refused_rules refusing fault → EndsAsAsked known opened asked bytes bytes end
       first fault same walked is =
           let here : rules_given (rules_text opened) ≡ Err fault = ap without_key walked ∙ ap Err same in
           record {
             rows = none_received (configuration_of opened.text.items) (map (λ source. option_map records_of (known source)) opened.cores.items) bytes;
-            refused = λ other given. let one : fault ≡ other = cc in (inr (is ∙ ap refused_rules one), refl);
+            refused = λ other given. let one : fault ≡ other = cc in (inr (is ∙ ap (refused_rules refusing) one), refl);
             ended = λ rules given. let none : ◌≡◌ {A = Result (List SaidRule) RulesFault} (Err fault) (Ok rules) = sym here ∙ given in cc;
             certified = λ configuration texts rules read sources given. let none : ◌≡◌ {A = Result (List SaidRule) RulesFault} (Err fault) (Ok rules) = sym here ∙ given in cc;
           }
 
-      by : (fault : RulesFault) → refusal.fault ≡ fault → (fault ≢ Memory → walk_given (rules_text opened) ≡ Err refusal) → end ≡ refused_rules fault
+      by : (fault : RulesFault) → refusal.fault ≡ fault → (fault ≢ Memory → walk_given (rules_text opened) ≡ Err refusal) → end ≡ refused_rules refusing fault
           → EndsAsAsked known opened asked bytes bytes end
       by Memory same walked is = memory_ended bytes end is
       by (File which) same walked is = first (File which) same (walked (λ memory. cc)) is
       by (Rule number which) same walked is = first (Rule number which) same (walked (λ memory. cc)) is
 
   -- the search over the opened texts ends it
-  pub search_ended : (before after : Option (List ℕ)) (end : Ending) (found : List SaidRule) (options : List RuleOption)
+  pub search_ended : (before after : Option (List ℕ)) (end : Ending OrderEnd) (found : List SaidRule) (options : List RuleOption)
       → rules_given (rules_text opened) ≡ Ok found → options ≡ in_order asked.options
       → HasReceived (configuration_of opened.text.items) (map (λ source. option_map records_of (known source)) opened.cores.items) before after
       → EndsSearch (configuration_of opened.text.items) (length opened.cores.items) end

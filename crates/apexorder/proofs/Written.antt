@@ -4,6 +4,7 @@ use Rattle.apex_machine.specs.Configuration.{Configuration}
 use Rattle.apex_types.specs.declared.record.Pair.{Pair}
 use Rattle.module_config.specs.declared.fault.ConfigFault.{ConfigFault}
 use Rattle.order_cert.specs.Order.{IsPrefixOfLawful}
+use Rattle.program_ends.specs.declared.ending.Ending.TheVariants.{Own}
 use Rattle.sink.specs.Written.{IsCut, IsWritten}
 use Rattle.user_rules.specs.declared.relation.Relation.{Relation}
 use Rattle.order_run.specs.declared.proposal.Proposal.{Proposal}
@@ -13,7 +14,7 @@ use Rattle.order_run.specs.Left.{Lefts}
 use Rattle.order_run.specs.Proposal.{HaveGoneOut, IsProposed, ListsFirst}
 use Rattle.order_run.specs.Rows.{rows_of}
 use Rattle.order_tip.proofs.Opened.{nothing_gone}
-use Rattle.apexorder.specs.declared.ending.Ending.TheVariants.{Proposed}
+use Rattle.apexorder.specs.declared.ending.OrderEnd.TheVariants.{Proposed}
 use Rattle.apexorder.specs.Endings.{HasReceived, IsCertifiedBy, ending_of}
 
 -- before the first row
@@ -42,7 +43,7 @@ received reading configuration lefts before middle after result read same (pairs
 -- a proposal for the configuration that was read
 pub certified : (reading : Result Configuration ConfigFault) (configuration given : Configuration) (relations : List Relation) (texts : List (List ℕ)) (before middle after : Option (List ℕ)) (proposal : Proposal)
     → reading ≡ Ok given → reading ≡ Ok configuration → after ≡ middle
-    → ((certificate : List ℕ) × IsWritten before certificate middle × IsProposed given relations texts certificate proposal) → IsCertifiedBy configuration relations texts before after (Proposed proposal)
+    → ((certificate : List ℕ) × IsWritten before certificate middle × IsProposed given relations texts certificate proposal) → IsCertifiedBy configuration relations texts before after (Own (Proposed proposal))
 certified reading configuration given relations texts before middle after proposal read is same (certificate, written, proposed) =
     let one : given ≡ configuration = cc in (
       certificate,

@@ -4,38 +4,41 @@ use Rattle.apex_machine.specs.Configuration.{Configuration}
 use Rattle.module_config.specs.Reading.{configuration_of}
 use Rattle.record_read.specs.Row.{records_of}
 use Rattle.order_words.specs.declared.names.OrderNames.{OrderNames}
+use Rattle.program_ends.specs.declared.ending.Ending.{Ending}
+use Rattle.program_ends.specs.declared.ending.Ending.TheVariants as ending
+use Rattle.program_ends.specs.declared.refused.UsageFault.{UsageFault}
+use Rattle.program_ends.specs.Endings.{out_of_memory, refused_rules, refused_words}
 use Rattle.rule_options.specs.Options.{in_order}
 use Rattle.rules_file.specs.declared.fault.RulesFault.{RulesFault}
 use Rattle.rules_file.specs.Reading.{SaidRule}
-use Rattle.apexorder.specs.declared.ending.Ending.{Ending}
-use Rattle.apexorder.specs.declared.ending.Ending.TheVariants as ending
+use Rattle.apexorder.specs.declared.ending.OrderEnd.{OrderEnd}
+use Rattle.apexorder.specs.declared.ending.OrderEnd.TheVariants as own
 use Rattle.apexorder.specs.declared.files.OpenFault.{OpenFault}
 use Rattle.apexorder.specs.declared.files.OpenFault.TheVariants.{Unopened, Memory}
 use Rattle.apexorder.specs.declared.files.Opened.{Opened}
 use Rattle.apexorder.specs.declared.usage.Asked.{Asked}
 use Rattle.apexorder.specs.declared.usage.Asked.TheVariants as asks
 use Rattle.apexorder.specs.declared.usage.OrderAsked.{OrderAsked}
-use Rattle.apexorder.specs.declared.usage.UsageFault.{UsageFault}
-use Rattle.apexorder.specs.Endings.{EndsSearch, HasReceived, ending_of_words, out_of_memory, refused_rules}
+use Rattle.apexorder.specs.Endings.{EndsSearch, HasReceived, refusing}
 use Rattle.asked_rules.specs.Asked.{rules_given}
 use Rattle.apexorder.specs.Ruled.{IsCertified}
 
 -- the end if not all files could be opened
-abbrev pub ending_of_files : OpenFault → Ending
+abbrev pub ending_of_files : OpenFault → Ending OrderEnd
 ending_of_files Unopened = ending.Unopened
-ending_of_files Memory = out_of_memory
+ending_of_files Memory = out_of_memory refusing
 
 -- the text of the rules file that was opened, if there is one
 abbrev pub rules_text : {S : Type 0} → Opened S → Option (List ℕ)
 rules_text opened = option_map (λ text. text.items) opened.rules
 
 -- a run over opened texts ends as it was requested, and its output received this
-pub record EndsAsAsked {S : Type 0} (known : S → Option (List ℕ)) (opened : Opened S) (asked : OrderAsked) (before after : Option (List ℕ)) (end : Ending) : Type 0 where
+pub record EndsAsAsked {S : Type 0} (known : S → Option (List ℕ)) (opened : Opened S) (asked : OrderAsked) (before after : Option (List ℕ)) (end : Ending OrderEnd) : Type 0 where
   -- the first bytes of rows that begin a lawful order of the configured cores and list the first records of the recordings, and nothing if
   -- the text is no configuration
   pub rows : HasReceived (configuration_of opened.text.items) (map (λ source. option_map records_of (known source)) opened.cores.items) before after
   -- a rules file that is refused ends the run by its first fault, unless memory is refused, and nothing is written
-  pub refused : (fault : RulesFault) → rules_given (rules_text opened) ≡ Err fault → ((end ≡ out_of_memory) ⊎ (end ≡ refused_rules fault)) × (after ≡ before)
+  pub refused : (fault : RulesFault) → rules_given (rules_text opened) ≡ Err fault → ((end ≡ out_of_memory refusing) ⊎ (end ≡ refused_rules refusing fault)) × (after ≡ before)
   -- unless the rules file is refused, the search over the recordings ends it
   pub ended : (rules : List SaidRule) → rules_given (rules_text opened) ≡ Ok rules → EndsSearch (configuration_of opened.text.items) (length opened.cores.items) end
   -- a proposal is that of the configuration, the rules and the recordings
@@ -49,14 +52,14 @@ pub record AreOpened {S : Type 0} (names : OrderNames) (opened : Opened S) : Typ
   pub rules : is_some opened.rules ≡ is_some names.rules
 
 -- a run over the requested files: not all of them could be opened; or they were opened, and it ends as it was requested
-abbrev pub IsOfFiles : {S : Type 0} → (S → Option (List ℕ)) → OrderAsked → Ending → Type 0
+abbrev pub IsOfFiles : {S : Type 0} → (S → Option (List ℕ)) → OrderAsked → Ending OrderEnd → Type 0
 IsOfFiles {S} known asked end =
     ((fault : OpenFault) × (end ≡ ending_of_files fault))
     ⊎ ((opened : Opened S) × (before : Option (List ℕ)) × (after : Option (List ℕ)) × AreOpened asked.names opened × EndsAsAsked known opened asked before after end)
 
 -- a run for what the command line requests: over files; or it printed the version or the help, or could not; or the words are refused
-abbrev pub EndsBy : {S : Type 0} → (S → Option (List ℕ)) → Result Asked UsageFault → Ending → Type 0
+abbrev pub EndsBy : {S : Type 0} → (S → Option (List ℕ)) → Result Asked UsageFault → Ending OrderEnd → Type 0
 EndsBy known (Ok (asks.Order asked)) end = IsOfFiles known asked end
-EndsBy known (Ok asks.Version) end = (end ≡ ending.Version) ⊎ (end ≡ ending.Unwritten)
-EndsBy known (Ok asks.Help) end = (end ≡ ending.Help) ⊎ (end ≡ ending.Unwritten)
-EndsBy known (Err fault) end = end ≡ ending_of_words fault
+EndsBy known (Ok asks.Version) end = (end ≡ ending.Own own.Version) ⊎ (end ≡ ending.Own own.Unwritten)
+EndsBy known (Ok asks.Help) end = (end ≡ ending.Own own.Help) ⊎ (end ≡ ending.Own own.Unwritten)
+EndsBy known (Err fault) end = end ≡ refused_words refusing fault

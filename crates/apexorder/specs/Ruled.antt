@@ -2,14 +2,16 @@
 use Rattle.std.specs.Prelude.{◌≡◌, ◌⊎◌, ℕ, List, Option}
 use Rattle.apex_machine.specs.Configuration.{Configuration}
 use Rattle.asked_rules.specs.Asked.{SayBoth}
+use Rattle.program_ends.specs.declared.ending.Ending.{Ending}
+use Rattle.program_ends.specs.Endings.{out_of_memory}
 use Rattle.rule_options.specs.declared.option.RuleOption.{RuleOption}
 use Rattle.rules_file.specs.Reading.{SaidRule}
 use Rattle.user_rules.specs.declared.relation.Relation.{Relation}
-use Rattle.apexorder.specs.declared.ending.Ending.{Ending}
-use Rattle.apexorder.specs.Endings.{IsCertifiedBy, out_of_memory}
+use Rattle.apexorder.specs.declared.ending.OrderEnd.{OrderEnd}
+use Rattle.apexorder.specs.Endings.{IsCertifiedBy, refusing}
 
 -- if the end is a proposal, it says what it means under relations that say what the options request, followed by what the rules of the file
 -- say, in their order; a lack of memory outranks it
-abbrev pub IsCertified : Configuration → List RuleOption → List SaidRule → List (List ℕ) → Option (List ℕ) → Option (List ℕ) → Ending → Type 0
+abbrev pub IsCertified : Configuration → List RuleOption → List SaidRule → List (List ℕ) → Option (List ℕ) → Option (List ℕ) → Ending OrderEnd → Type 0
 IsCertified configuration options rules texts before after ending =
-    (ending ≡ out_of_memory) ⊎ ((relations : List Relation) × SayBoth options rules relations × IsCertifiedBy configuration relations texts before after ending)
+    (ending ≡ out_of_memory refusing) ⊎ ((relations : List Relation) × SayBoth options rules relations × IsCertifiedBy configuration relations texts before after ending)

@@ -1,29 +1,21 @@
-// How a run of the program ends.
+// The ends that only this program has.
 
 ghost use Rattle.std.specs.Prelude.{◌≡◌};
-ghost use Rattle.apexorder.specs.Endings.{ending_of, ending_of_words, out_of_memory, refused_rules, status_of};
+ghost use Rattle.apexorder.specs.Endings.{ending_of, own_status_of, own_text_of, refusing};
 
-use crate::usage::UsageFault;
 use order_run::{Proposal, ProposalFault};
-use report::CheckFault;
-use rules_file::{RuleFault, RulesFault};
+use program_ends::{Ending, OwnEnd, UNWRITTEN, out_of_memory};
+use report::{CheckFault, status_of_outcome, write_report};
+use sink::{Sink, WriteFault, put_all};
 
-/// How a run of the program ends.
+/// How a run ends that was not kept from what was requested.
 #[derive(Clone, Copy, Debug, Drop)]
-pub enum Ending {
+pub enum OrderEnd {
     /// All records were put in an order. In it they are a run of the machine, or the first of them are, up to a place; and a rule may be
     /// broken.
     Proposed(Proposal),
     /// The inputs are refused, or memory is.
     Refused(CheckFault),
-    /// The words of the command line are not those of the usage.
-    BadUsage,
-    /// A file could not be opened, or the configuration or the rules file could not be read.
-    Unopened,
-    /// The rules file has this fault, outside of its rules.
-    BadRules(RuleFault),
-    /// The rule with this number in the rules file, counted from 0, has this fault.
-    BadRule { rule: usize, fault: RuleFault },
     /// Standard output could not be written.
     Unwritten,
     /// The version was requested.
@@ -32,59 +24,45 @@ pub enum Ending {
     Help,
 }
 
-impl Ending {
-    /// The exit status: 0 for an order in which no rule is broken, the version or the help, 1 if a rule is broken or no order was found, 2
-    /// if an input is refused, 3 if memory is, and 4 if the output failed.
-    pub fn status(&self) -> u8
-        ensures { result ≡ status_of self.now }
-    {
+impl OwnEnd for OrderEnd {
+    ghost refusing = { refusing };
+
+    ghost status_of = { own_status_of };
+
+    ghost text_of = { own_text_of };
+
+    fn refusing(fault: CheckFault) -> OrderEnd {
+        OrderEnd::Refused(fault)
+    }
+
+    // 0 for an order in which no rule is broken, the version or the help, 1 if a rule is broken or no order was found.
+    fn status(&self) -> u8 {
         match self {
-            Ending::Proposed(Proposal::Found { broken: None, .. }) => 0,
-            Ending::Proposed(_) => 1,
-            Ending::Refused(CheckFault::Memory) => 3,
-            Ending::Refused(_) | Ending::BadUsage | Ending::Unopened => 2,
-            Ending::BadRules(_) | Ending::BadRule { .. } => 2,
-            Ending::Version | Ending::Help => 0,
-            Ending::Unwritten => 4,
+            OrderEnd::Proposed(Proposal::Found { broken: None, .. }) => 0,
+            OrderEnd::Proposed(_) => 1,
+            OrderEnd::Refused(fault) => status_of_outcome(&Err(*fault)),
+            OrderEnd::Version | OrderEnd::Help => 0,
+            OrderEnd::Unwritten => UNWRITTEN,
+        }
+    }
+
+    // The line of a refusal, as a check prints it.
+    fn write_text<W: Sink>(&self, w: &mut W) -> Result<(), WriteFault> {
+        match self {
+            OrderEnd::Refused(fault) => write_report(w, &Err(*fault)),
+            OrderEnd::Proposed(_) | OrderEnd::Unwritten | OrderEnd::Version | OrderEnd::Help =>
+                put_all(w, b""),
         }
     }
 }
 
-/// The end by a lack of memory.
-pub fn out_of_memory() -> Ending
-    ensures { result ≡ out_of_memory }
-{
-    Ending::Refused(CheckFault::Memory)
-}
-
-/// The end by a refusal of a rules file.
-pub fn refused_rules(fault: RulesFault) -> Ending
-    ensures { result ≡ refused_rules fault }
-{
-    match fault {
-        RulesFault::File(fault) => Ending::BadRules(fault),
-        RulesFault::Rule { rule, fault } => Ending::BadRule { rule, fault },
-        RulesFault::Memory => out_of_memory(),
-    }
-}
-
-/// The end by a refusal of the command line.
-pub fn refused_words(fault: UsageFault) -> Ending
-    ensures { result ≡ ending_of_words fault }
-{
-    match fault {
-        UsageFault::Usage => Ending::BadUsage,
-        UsageFault::Memory => Ending::Refused(CheckFault::Memory),
-    }
-}
-
 /// The end without a proposal.
-pub fn refused_by(fault: ProposalFault) -> Ending
+pub fn refused_by(fault: ProposalFault) -> Ending<OrderEnd>
     ensures { result ≡ ending_of fault }
 {
     match fault {
-        ProposalFault::Input(fault) => Ending::Refused(CheckFault::Input(fault)),
-        ProposalFault::Memory => Ending::Refused(CheckFault::Memory),
-        ProposalFault::Output => Ending::Unwritten,
+        ProposalFault::Input(fault) => Ending::Own(OrderEnd::Refused(CheckFault::Input(fault))),
+        ProposalFault::Memory => out_of_memory(),
+        ProposalFault::Output => Ending::Own(OrderEnd::Unwritten),
     }
 }

@@ -3,7 +3,7 @@
 ghost use Rattle.std.specs.Prelude.{◌≡◌, IfOk, is_some, length, vec_len};
 ghost use Rattle.apexorder.specs.Files.{AreOpened, EndsAsAsked, IsOfFiles, ending_of_files};
 
-use crate::ending::{Ending, out_of_memory, refused_rules};
+use crate::ending::OrderEnd;
 use crate::ruled::propose_ruled;
 use crate::seen::Seen;
 use crate::usage::OrderAsked;
@@ -11,6 +11,7 @@ use answer_words::{open, open_text};
 use asked_rules::read_rules;
 use csv_rows::{TextSource, Watched};
 use order_words::{Noted, OrderNames};
+use program_ends::{Ending, out_of_memory, refused_rules};
 use report::CheckFault;
 use rule_options::RuleOption;
 use rules_file::NamedRule;
@@ -43,7 +44,7 @@ pub fn propose_for<R, F>(
     alloc: Global,
     asked: &OrderAsked,
     seen: &mut Seen<'_, R>,
-) -> Ending
+) -> Ending<OrderEnd>
 where
     R: Files<File = F> + Clock + Print + Eprint,
     F: Read + Drop,
@@ -59,7 +60,7 @@ where
 }
 
 // The end of a run if not all its files could be opened.
-fn end_by(fault: OpenFault) -> Ending
+fn end_by(fault: OpenFault) -> Ending<OrderEnd>
     ensures { result ≡ ending_of_files fault }
 {
     match fault {
@@ -101,7 +102,7 @@ impl<S: TextSource + Drop> Opened<S> {
         asked: &OrderAsked,
         seen: &mut Seen<'_, R>,
         output: &mut WriterSink<W>,
-    ) -> Ending
+    ) -> Ending<OrderEnd>
         ensures { EndsAsAsked S.remaining self asked.now output.old.bytes output.new.bytes result }
     {
         let Opened { text, rules, cores } = self;
@@ -139,11 +140,11 @@ fn note_end(
     text: &[u8],
     options: &[RuleOption],
     rules: &[NamedRule],
-    ending: &Ending,
+    ending: &Ending<OrderEnd>,
 ) {
     match ending {
-        Ending::Proposed(proposal) => noted.note_proposal(proposal, options, rules),
-        Ending::Refused(CheckFault::Arguments(_)) => {
+        Ending::Own(OrderEnd::Proposed(proposal)) => noted.note_proposal(proposal, options, rules),
+        Ending::Own(OrderEnd::Refused(CheckFault::Arguments(_))) => {
             noted.note_recording_count(asked.names.cores.len(), text);
         }
         _ => {}

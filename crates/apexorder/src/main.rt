@@ -6,14 +6,15 @@
 #![tactic(auto)]
 
 ghost use Rattle.std.specs.Prelude.{◌≡◌};
-ghost use Rattle.apexorder.specs.declared.ending.Ending.{Ending};
-ghost use Rattle.apexorder.specs.Endings.{status_of};
+ghost use Rattle.program_ends.specs.declared.ending.Ending.{Ending as EndingValue};
+ghost use Rattle.program_ends.specs.Endings.{exit_status_of};
+ghost use Rattle.apexorder.specs.declared.ending.OrderEnd.{OrderEnd as End};
+ghost use Rattle.apexorder.specs.Endings.{own_status_of};
 ghost use Rattle.apexorder.specs.Files.{EndsBy};
 
 mod ending;
 mod files;
 mod of_itself;
-mod progress;
 mod proposing;
 mod ruled;
 mod seen;
@@ -21,9 +22,10 @@ mod told;
 mod usage;
 
 use csv_rows::{TextSource, Watched};
-use ending::{Ending, refused_words};
+use ending::OrderEnd;
 use files::propose_for;
 use of_itself::{print_help, print_version};
+use program_ends::{Ending, UsageFault, refused_words, status_of};
 use seen::Seen;
 use sink::{Sink, WriterSink};
 use std::alloc::Global;
@@ -33,7 +35,7 @@ use std::io::{IsTerminal, Read};
 use std::process::ExitCode;
 use std::rt::{Clock, Env};
 use told::tell;
-use usage::{Asked, UsageFault, from_words};
+use usage::{Asked, from_words};
 
 fn main(rt: HostRuntime) -> ExitCode {
     let alloc = rt.alloc();
@@ -66,12 +68,12 @@ fn run<R, F: Read + Drop, W: Sink>(
 ) -> u8
 where
     R: Files<File = F> + Env + Clock + Print + Eprint + AllocGlobal,
-    ensures { (ending : Ending) × EndsBy ⟦<Watched<F> as TextSource>⟧.remaining asked.now ending × (result ≡ status_of ending) }
+    ensures { (ending : EndingValue End) × EndsBy ⟦<Watched<F> as TextSource>⟧.remaining asked.now ending × (result ≡ exit_status_of own_status_of ending) }
 {
     let ending = end_of(rt, alloc, asked, seen);
     seen.clear();
     tell(rt, alloc, output, asked, &ending, &seen.noted);
-    ending.status()
+    status_of(&ending)
 }
 
 // Does what the command line requests.
@@ -80,7 +82,7 @@ fn end_of<R, F: Read + Drop>(
     alloc: Global,
     asked: &Result<Asked, UsageFault>,
     seen: &mut Seen<'_, R>,
-) -> Ending
+) -> Ending<OrderEnd>
 where
     R: Files<File = F> + Clock + Print + Eprint + AllocGlobal,
     ensures { EndsBy ⟦<Watched<F> as TextSource>⟧.remaining asked.now result }

@@ -1,30 +1,32 @@
 // What the program prints of itself on standard output.
 
 ghost use Rattle.std.specs.Prelude.{◌≡◌, ◌⊎◌};
-ghost use Rattle.apexorder.specs.declared.ending.Ending.TheVariants.{Help, Unwritten, Version};
+ghost use Rattle.program_ends.specs.declared.ending.Ending.TheVariants.{Own};
+ghost use Rattle.apexorder.specs.declared.ending.OrderEnd.TheVariants.{Help, Unwritten, Version};
 
-use crate::ending::Ending;
+use crate::ending::OrderEnd;
+use program_ends::Ending;
 use program_words::{Documents, Program, help};
 use std::alloc::Global;
 use std::fs::Files;
 
 /// Prints the version.
-pub fn print_version(rt: &impl Print) -> Ending
-    ensures { (result ≡ Version) ⊎ (result ≡ Unwritten) }
+pub fn print_version(rt: &impl Print) -> Ending<OrderEnd>
+    ensures { (result ≡ Own Version) ⊎ (result ≡ Own Unwritten) }
 {
     match rt.println("apexorder 1.0.0") {
-        Ok(()) => Ending::Version,
-        Err(_) => Ending::Unwritten,
+        Ok(()) => Ending::Own(OrderEnd::Version),
+        Err(_) => Ending::Own(OrderEnd::Unwritten),
     }
 }
 
 /// Prints the short help.
-pub fn print_help<R: Files + Print + AllocGlobal>(rt: &R, alloc: Global) -> Ending
-    ensures { (result ≡ Help) ⊎ (result ≡ Unwritten) }
+pub fn print_help<R: Files + Print + AllocGlobal>(rt: &R, alloc: Global) -> Ending<OrderEnd>
+    ensures { (result ≡ Own Help) ⊎ (result ≡ Own Unwritten) }
 {
     let documents = Documents::find(rt, alloc);
     match rt.println(help(Program::Order, documents.folder())) {
-        Ok(()) => Ending::Help,
-        Err(_) => Ending::Unwritten,
+        Ok(()) => Ending::Own(OrderEnd::Help),
+        Err(_) => Ending::Own(OrderEnd::Unwritten),
     }
 }

@@ -7,10 +7,11 @@ ghost use Rattle.record_read.specs.Row.{records_of};
 ghost use Rattle.user_rules.specs.Rules.{relations_of};
 ghost use Rattle.apexorder.specs.Endings.{EndsSearch, HasReceived, IsCertifiedBy};
 
-use crate::ending::{Ending, refused_by};
+use crate::ending::{OrderEnd, refused_by};
 use csv_rows::TextSource;
 use module_config::{Config, ConfigFault};
 use order_tip::{Limits, MOST_UNDECIDED, Watcher, propose};
+use program_ends::{Ending, out_of_memory};
 use report::{ArgumentFault, CheckFault};
 use sink::WriterSink;
 use std::alloc::Global;
@@ -33,18 +34,18 @@ pub fn propose_into<S: TextSource + Drop, V: Watcher, W: Write + Drop>(
     cores: Vec<S>,
     watcher: &mut V,
     output: &mut WriterSink<W>,
-) -> Ending
+) -> Ending<OrderEnd>
     ensures rows { HasReceived (configuration_of text.now) (map (λ source. option_map records_of (S.remaining source)) cores.items) output.old.bytes output.new.bytes }
     ensures ended { EndsSearch (configuration_of text.now) (length cores.items) result }
     ensures certified { (configuration : Configuration) (texts : List (List ℕ)) → configuration_of text.now ≡ Ok configuration → map S.remaining cores.items ≡ map Some texts → IsCertifiedBy configuration (relations_of rules.now) texts output.old.bytes output.new.bytes result }
 {
     let config = match Config::read(alloc, text) {
         Ok(config) => config,
-        Err(ConfigFault::Memory) => return Ending::Refused(CheckFault::Memory),
-        Err(fault) => return Ending::Refused(CheckFault::Config(fault)),
+        Err(ConfigFault::Memory) => return out_of_memory(),
+        Err(fault) => return Ending::Own(OrderEnd::Refused(CheckFault::Config(fault))),
     };
     if cores.len() != config.cores() as usize {
-        return Ending::Refused(CheckFault::Arguments(ArgumentFault::ReaderCount));
+        return Ending::Own(OrderEnd::Refused(CheckFault::Arguments(ArgumentFault::ReaderCount)));
     }
     let limits = Limits {
         window: MOST_UNDECIDED,
@@ -52,8 +53,8 @@ pub fn propose_into<S: TextSource + Drop, V: Watcher, W: Write + Drop>(
     };
     match propose(alloc, &config, rules, cores, limits, watcher, output) {
         Ok(proposal) => match output.flush() {
-            Ok(()) => Ending::Proposed(proposal),
-            Err(_) => Ending::Unwritten,
+            Ok(()) => Ending::Own(OrderEnd::Proposed(proposal)),
+            Err(_) => Ending::Own(OrderEnd::Unwritten),
         },
         Err(fault) => refused_by(fault),
     }

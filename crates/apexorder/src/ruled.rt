@@ -8,12 +8,13 @@ ghost use Rattle.rules_file.specs.Reading.{said};
 ghost use Rattle.apexorder.specs.Endings.{EndsSearch, HasReceived, IsCertifiedBy};
 ghost use Rattle.apexorder.specs.Ruled.{IsCertified};
 
-use crate::ending::{Ending, out_of_memory};
+use crate::ending::OrderEnd;
 use crate::proposing::propose_into;
 use apex_types::View;
 use asked_rules::all_relations;
 use csv_rows::TextSource;
 use order_tip::Watcher;
+use program_ends::{Ending, out_of_memory};
 use rule_options::RuleOption;
 use rules_file::NamedRule;
 use sink::WriterSink;
@@ -32,7 +33,7 @@ pub fn propose_ruled<S: TextSource + Drop, V: Watcher, W: Write + Drop>(
     cores: Vec<S>,
     watcher: &mut V,
     output: &mut WriterSink<W>,
-) -> Ending
+) -> Ending<OrderEnd>
     ensures rows { HasReceived (configuration_of text.now) (map (λ source. option_map records_of (S.remaining source)) cores.items) output.old.bytes output.new.bytes }
     ensures ended { EndsSearch (configuration_of text.now) (length cores.items) result }
     ensures certified { (configuration : Configuration) (texts : List (List ℕ)) → configuration_of text.now ≡ Ok configuration → map S.remaining cores.items ≡ map Some texts → IsCertified configuration options.now (map said rules.now) texts output.old.bytes output.new.bytes result }
@@ -53,7 +54,7 @@ fn propose_under<S: TextSource + Drop, V: Watcher, W: Write + Drop>(
     cores: Vec<S>,
     watcher: &mut V,
     output: &mut WriterSink<W>,
-) -> Ending
+) -> Ending<OrderEnd>
     ensures rows { HasReceived (configuration_of text.now) (map (λ source. option_map records_of (S.remaining source)) cores.items) output.old.bytes output.new.bytes }
     ensures ended { EndsSearch (configuration_of text.now) (length cores.items) result }
     ensures certified { (configuration : Configuration) (texts : List (List ℕ)) → configuration_of text.now ≡ Ok configuration → map S.remaining cores.items ≡ map Some texts → IsCertifiedBy configuration relations.items texts output.old.bytes output.new.bytes result }

@@ -1,12 +1,12 @@
 // The end of a search on standard error: its line, and its words. They decide nothing: a failure there, or a lack of memory, ends only the
 // words.
 
-use crate::ending::Ending;
-use crate::usage::{Asked, OrderAsked, UsageFault};
+use crate::ending::OrderEnd;
+use crate::usage::{Asked, OrderAsked};
 use order_run::Proposal;
 use order_words::{Noted, SearchFiles, words_of_proposal, words_of_unwritten_order};
+use program_ends::{Ending, UsageFault, write_text};
 use program_words::{Documents, Program, tell_usage};
-use report::write_report;
 use sink::Sink;
 use std::alloc::Global;
 use std::fs::Files;
@@ -21,13 +21,13 @@ pub fn tell<R, F: Read + Drop, W: Sink>(
     alloc: Global,
     output: &mut W,
     asked: &Result<Asked, UsageFault>,
-    ending: &Ending,
+    ending: &Ending<OrderEnd>,
     noted: &Noted,
 )
 where
     R: Files<File = F> + Env + Eprint + AllocGlobal,
 {
-    tell_refusal(rt, output, ending);
+    let _ = write_text(output, ending);
     let documents = Documents::find(rt, alloc);
     let look = Look {
         in_colour: false,
@@ -40,34 +40,12 @@ where
     }
 }
 
-// Prints the line of a refusal, as a check prints it.
-fn tell_refusal<W: Sink>(rt: &impl Eprint, output: &mut W, ending: &Ending) {
-    match ending {
-        Ending::Refused(fault) => {
-            let _ = write_report(output, &Err(*fault));
-        }
-        Ending::BadUsage => {
-            let _ = rt.eprintln("REFUSED usage");
-        }
-        Ending::Unopened => {
-            let _ = rt.eprintln("REFUSED open");
-        }
-        Ending::BadRules(fault) => {
-            let _ = rt.eprintln(format_args!("REFUSED rules fault={fault:?}"));
-        }
-        Ending::BadRule { rule, fault } => {
-            let _ = rt.eprintln(format_args!("REFUSED rules rule={rule} fault={fault:?}"));
-        }
-        Ending::Proposed(_) | Ending::Unwritten | Ending::Version | Ending::Help => {}
-    }
-}
-
 // Prints the words of a search: what was noted of it, and how it ended.
 fn tell_order<R: Files<File = F> + Eprint, F: Read + Drop>(
     rt: &R,
     alloc: Global,
     asked: &OrderAsked,
-    ending: &Ending,
+    ending: &Ending<OrderEnd>,
     noted: &Noted,
     look: Look<'_>,
 ) {
@@ -77,18 +55,22 @@ fn tell_order<R: Files<File = F> + Eprint, F: Read + Drop>(
     if !asked.quiet {
         say(rt, &files.unknown_keys(noted), look);
         say(rt, &files.warnings(noted), look);
-        if let Ending::Proposed(Proposal::NotFound { .. }) = ending {
+        if let Ending::Own(OrderEnd::Proposed(Proposal::NotFound { .. })) = ending {
             for stop in noted.stops() {
                 say(rt, &files.words_of_stop(stop), look);
             }
         }
     }
     match ending {
-        Ending::Proposed(proposal) => say(rt, &words_of_proposal(alloc, proposal), look),
-        Ending::Refused(fault) => say(rt, &files.words_of_fault(fault, noted), look),
-        Ending::Unwritten => say(rt, &words_of_unwritten_order(alloc), look),
-        Ending::BadUsage | Ending::Unopened | Ending::Version | Ending::Help => {}
-        Ending::BadRules(_) | Ending::BadRule { .. } => {}
+        Ending::Own(OrderEnd::Proposed(proposal)) => say(
+            rt,
+            &words_of_proposal(alloc, proposal),
+            look,
+        ),
+        Ending::Own(OrderEnd::Refused(fault)) => say(rt, &files.words_of_fault(fault, noted), look),
+        Ending::Own(OrderEnd::Unwritten) => say(rt, &words_of_unwritten_order(alloc), look),
+        Ending::Own(OrderEnd::Version | OrderEnd::Help) => {}
+        Ending::BadUsage | Ending::Unopened | Ending::BadRules(_) | Ending::BadRule { .. } => {}
     }
 }
 

@@ -4,6 +4,7 @@ use clap::error::ErrorKind;
 use clap::{Arg, ArgAction, ArgMatches, Command};
 use csv_rows::read_decimal;
 use order_words::OrderNames;
+use program_ends::UsageFault;
 use rule_options::RuleOptions;
 use std::alloc::{AllocError, Global};
 use std::rt::Env;
@@ -34,21 +35,6 @@ pub struct OrderAsked {
     pub effort: u64,
     /// Whether standard error shows no progress, and not what stops each core.
     pub quiet: bool,
-}
-
-/// Why a command line requests nothing that can be done.
-#[derive(Clone, Copy, Debug, PartialEq, Eq)]
-pub enum UsageFault {
-    /// The words are not those of the usage. A word that is not UTF-8 is not one of them.
-    Usage,
-    /// Memory was refused.
-    Memory,
-}
-
-impl From<AllocError> for UsageFault {
-    fn from(_: AllocError) -> UsageFault {
-        UsageFault::Memory
-    }
 }
 
 /// Reads the words that were given to the program.

@@ -1,16 +1,18 @@
 // The answer on standard error: its line, and why it is not Yes.
 
 ghost use Rattle.std.specs.Prelude.{◌≡◌, ◌⊎◌};
-ghost use Rattle.view_ending.specs.Endings.{out_of_memory};
+ghost use Rattle.program_ends.specs.Endings.{out_of_memory};
+ghost use Rattle.shown_files.specs.Endings.{refusing};
 
-use crate::usage::{Asked, UsageFault};
+use crate::usage::Asked;
 use answer_words::{Explainer, InputNames, RunFiles};
+use program_ends::{Ending, Line, UsageFault, out_of_memory};
 use program_words::{Documents, Program, Refusal};
 use report::Verdict;
+use shown_files::ViewEnd;
 use std::alloc::Global;
 use std::fs::{File, Files};
 use std::rt::Env;
-use view_ending::{Ending, Line, out_of_memory};
 use wording::{Look, Words};
 
 /// Prints the line of an end, and explains it to a person. The end is the given one, or `Memory` if memory was refused to what explains
@@ -19,10 +21,10 @@ pub fn explain<R: Files<File = File> + Env + Eprint + AllocGlobal>(
     rt: &R,
     alloc: Global,
     asked: &Result<Asked, UsageFault>,
-    ending: Ending,
+    ending: Ending<ViewEnd>,
     explainer: &Explainer,
-) -> Ending
-    ensures { (result ≡ ending) ⊎ (result ≡ out_of_memory) }
+) -> Ending<ViewEnd>
+    ensures { (result ≡ ending) ⊎ (result ≡ out_of_memory refusing) }
 {
     match asked {
         Ok(Asked::Files { files, .. }) => {
@@ -49,8 +51,8 @@ pub fn explain<R: Files<File = File> + Env + Eprint + AllocGlobal>(
 }
 
 // The end if memory is refused to what is said, with its line.
-fn end_without_memory(rt: &impl Eprint) -> Ending
-    ensures { result ≡ out_of_memory }
+fn end_without_memory(rt: &impl Eprint) -> Ending<ViewEnd>
+    ensures { result ≡ out_of_memory refusing }
 {
     let ending = out_of_memory();
     tell_line(rt, &ending);
@@ -80,7 +82,7 @@ impl<'a> Explained<'a> {
         rt: &R,
         alloc: Global,
         names: &InputNames,
-        ending: &Ending,
+        ending: &Ending<ViewEnd>,
         explainer: &'a Explainer,
     ) -> Explained<'a> {
         let mut explained = Explained {
@@ -89,7 +91,7 @@ impl<'a> Explained<'a> {
             warnings: Words::new(alloc),
             reason: Words::new(alloc),
         };
-        if let Ending::Checked(outcome) = ending {
+        if let Ending::Own(ViewEnd::Checked(outcome)) = ending {
             let files = RunFiles { rt, alloc, names };
             explained.unknown_keys = files.unknown_keys(explainer);
             explained.warnings = files.warnings(explainer);
@@ -120,7 +122,7 @@ impl<'a> Explained<'a> {
 }
 
 // Prints the line of an end, if it has one. A failure there changes nothing.
-fn tell_line(rt: &impl Eprint, ending: &Ending) {
+fn tell_line(rt: &impl Eprint, ending: &Ending<ViewEnd>) {
     let line = Line::of(ending);
     if !line.text().is_empty() {
         let _ = rt.eprintln(line.text());

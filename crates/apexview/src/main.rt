@@ -7,10 +7,14 @@
 //! (`run`). If memory is refused, whatever it is needed for, the run ends with `MEMORY`.
 #![tactic(auto)]
 
-ghost use Rattle.std.specs.Prelude.{◌≡◌};
-ghost use Rattle.view_ending.specs.declared.ending.Ending.{Ending};
-ghost use Rattle.view_ending.specs.Endings.{exit_status_of};
-ghost use Rattle.apexview.specs.Requests.{EndsBy, refused_words};
+ghost use Rattle.std.specs.Prelude.{◌≡◌, ◌≢◌, ◌<◌};
+ghost use Rattle.program_ends.specs.declared.ending.Ending.{Ending as EndingValue};
+ghost use Rattle.program_ends.specs.declared.ending.Ending.TheVariants.{Own};
+ghost use Rattle.program_ends.specs.Endings.{exit_status_of};
+ghost use Rattle.shown_files.specs.declared.ending.ViewEnd.{ViewEnd as End};
+ghost use Rattle.shown_files.specs.declared.ending.ViewEnd.TheVariants.{Unwritten};
+ghost use Rattle.shown_files.specs.Endings.{own_status_of};
+ghost use Rattle.apexview.specs.Requests.{EndsBy};
 
 mod explained;
 mod of_itself;
@@ -20,8 +24,9 @@ use answer_words::{Explainer, Terminal};
 use csv_rows::{TextSource, Watched};
 use explained::explain;
 use of_itself::{print_help, print_version};
-use shown_files::show_files;
-use sink::{Sink, WriterSink};
+use program_ends::{Ending, UsageFault, refused_words, status_of};
+use shown_files::{ViewEnd, show_files};
+use sink::{Sink, WriteFault, WriterSink};
 use std::alloc::Global;
 use std::fs::{File, Files};
 use std::io;
@@ -30,8 +35,7 @@ use std::process::ExitCode;
 use std::rt::Env;
 use std::sync::Wait;
 use std::thread::Threads;
-use usage::{Asked, UsageFault, from_words};
-use view_ending::{Ending, conclude, out_of_memory, status_of};
+use usage::{Asked, from_words};
 
 fn main(rt: HostRuntime) -> ExitCode {
     let alloc = rt.alloc();
@@ -51,7 +55,7 @@ fn run<R, W: Write + Drop>(
 where
     R: Files<File = File> + Env + Eprint + AllocGlobal,
     R: Threads + Wait + Sync + Copy + Send + 'static,
-    ensures { (ending : Ending) × EndsBy ⟦<Watched<File> as TextSource>⟧.remaining ⟦<Watched<File> as TextSource>⟧.can_fail asked.now ending × (result ≡ exit_status_of ending) }
+    ensures { (ending : EndingValue End) × EndsBy ⟦<Watched<File> as TextSource>⟧.remaining ⟦<Watched<File> as TextSource>⟧.can_fail asked.now ending × (result ≡ exit_status_of own_status_of ending) }
 {
     let mut explainer = Explainer::new(alloc, Terminal::new(rt, false));
     let shown = answer(rt, alloc, asked, &mut explainer, output);
@@ -68,7 +72,7 @@ fn answer<R, W: Sink>(
     asked: &Result<Asked, UsageFault>,
     explainer: &mut Explainer,
     output: &mut W,
-) -> Ending
+) -> Ending<ViewEnd>
 where
     R: Files<File = File> + AllocGlobal + Threads + Wait + Sync + Copy + Send + 'static,
     ensures { EndsBy ⟦<Watched<File> as TextSource>⟧.remaining ⟦<Watched<File> as TextSource>⟧.can_fail asked.now result }
@@ -83,12 +87,15 @@ where
     }
 }
 
-// The end by a refusal of the command line. A lack of memory counts as the check's own.
-fn refused_words(fault: UsageFault) -> Ending
-    ensures { result ≡ refused_words fault }
+// The end of a run whose picture or trace this writer still must write out: the same end, or that it could not be written.
+fn conclude<W: Write + Drop>(output: &mut WriterSink<W>, ending: Ending<ViewEnd>) -> Ending<ViewEnd>
+    ensures same { result ≢ Own Unwritten → result ≡ ending }
+    ensures bytes { output.new.bytes ≡ output.old.bytes }
+    ensures whole { result ≢ Own Unwritten → output.new.failures ≡ output.old.failures }
+    ensures failed { result ≡ Own Unwritten → ending ≢ Own Unwritten → output.old.failures < output.new.failures }
 {
-    match fault {
-        UsageFault::Usage => Ending::BadUsage,
-        UsageFault::Memory => out_of_memory(),
+    match output.flush() {
+        Ok(()) => ending,
+        Err(WriteFault) => Ending::Own(ViewEnd::Unwritten),
     }
 }

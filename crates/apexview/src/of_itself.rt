@@ -1,28 +1,35 @@
 // What the program prints of itself on standard output.
 
 ghost use Rattle.std.specs.Prelude.{◌≡◌, ◌⊎◌};
-ghost use Rattle.view_ending.specs.declared.ending.Ending.TheVariants.{Help, Unwritten, Version};
-ghost use Rattle.view_ending.specs.Endings.{out_of_memory};
+ghost use Rattle.program_ends.specs.declared.ending.Ending.TheVariants.{Own};
+ghost use Rattle.program_ends.specs.Endings.{out_of_memory};
+ghost use Rattle.shown_files.specs.declared.ending.ViewEnd.TheVariants.{Help, Unwritten, Version};
+ghost use Rattle.shown_files.specs.Endings.{refusing};
 
+use program_ends::{Ending, out_of_memory};
 use program_words::{Documents, Program, help};
+use shown_files::ViewEnd;
 use sink::{Sink, put_all};
 use std::alloc::Global;
 use std::fs::Files;
-use view_ending::{Ending, out_of_memory};
 
 /// Prints the version.
-pub fn print_version<W: Sink>(output: &mut W) -> Ending
-    ensures { (result ≡ Version) ⊎ (result ≡ Unwritten) }
+pub fn print_version<W: Sink>(output: &mut W) -> Ending<ViewEnd>
+    ensures { (result ≡ Own Version) ⊎ (result ≡ Own Unwritten) }
 {
     match put_all(output, b"apexview 1.0.0\n") {
-        Ok(()) => Ending::Version,
-        Err(_) => Ending::Unwritten,
+        Ok(()) => Ending::Own(ViewEnd::Version),
+        Err(_) => Ending::Own(ViewEnd::Unwritten),
     }
 }
 
 /// Prints the short help.
-pub fn print_help<R: Files + AllocGlobal, W: Sink>(rt: &R, alloc: Global, output: &mut W) -> Ending
-    ensures { (result ≡ Help) ⊎ (result ≡ Unwritten) ⊎ (result ≡ out_of_memory) }
+pub fn print_help<R: Files + AllocGlobal, W: Sink>(
+    rt: &R,
+    alloc: Global,
+    output: &mut W,
+) -> Ending<ViewEnd>
+    ensures { (result ≡ Own Help) ⊎ (result ≡ Own Unwritten) ⊎ (result ≡ out_of_memory refusing) }
 {
     let documents = Documents::find(rt, alloc);
     if documents.lacks_memory() {
@@ -33,7 +40,7 @@ pub fn print_help<R: Files + AllocGlobal, W: Sink>(rt: &R, alloc: Global, output
         return out_of_memory();
     };
     match put_all(output, text.as_bytes()) {
-        Ok(()) => Ending::Help,
-        Err(_) => Ending::Unwritten,
+        Ok(()) => Ending::Own(ViewEnd::Help),
+        Err(_) => Ending::Own(ViewEnd::Unwritten),
     }
 }

@@ -4,6 +4,7 @@ use answer_words::InputNames;
 use clap::error::ErrorKind;
 use clap::{Arg, ArgAction, ArgMatches, Command};
 use csv_rows::read_decimal;
+use program_ends::UsageFault;
 use rule_options::RuleOptions;
 use shown_files::FilesAsked;
 use std::alloc::{AllocError, Global};
@@ -28,15 +29,6 @@ pub enum Asked {
     Help,
     /// These files of a run should be shown, in this way.
     Files { files: FilesAsked, view: ViewAsked },
-}
-
-/// Why a command line requests nothing that can be done.
-#[derive(Clone, Copy, Debug, PartialEq, Eq)]
-pub enum UsageFault {
-    /// The words are not those of the usage.
-    Usage,
-    /// Memory was refused.
-    Memory,
 }
 
 /// Reads the words that were given to the program.
@@ -180,16 +172,4 @@ fn command<'a>(alloc: Global) -> Result<Command<'a>, AllocError> {
 // The option of this name, which has a value.
 fn option<'a>(alloc: Global, name: &'static str) -> Arg<'a> {
     Arg::new(alloc, name).long(name).action(ArgAction::Set)
-}
-
-impl From<AllocError> for UsageFault {
-    fn from(_: AllocError) -> UsageFault {
-        UsageFault::Memory
-    }
-}
-
-impl<T: Drop> From<std::alloc::AllocFailed<T>> for UsageFault {
-    fn from(_: std::alloc::AllocFailed<T>) -> UsageFault {
-        UsageFault::Memory
-    }
 }

@@ -10,13 +10,13 @@ use Rattle.clap.specs.Walk.{rows_of}
 use Rattle.clap.specs.Words.{Row, all_of, app_of, first_of, first_value, found_of, is_simple, matched_of, matches_of, one_of, one_text}
 use Rattle.clap.specs.declared.builder.command.Command.{Command}
 use Rattle.clap.specs.declared.parser.matches.ArgMatches.{ArgMatches}
+use Rattle.program_ends.specs.declared.refused.UsageFault.{UsageFault}
 use Rattle.rule_options.specs.Options.{values_of}
 use Rattle.check_request.specs.CommandLine.{command_line, found_in}
 use Rattle.check_request.specs.Settings.{least_of, settings_of}
 use Rattle.check_request.specs.Words.{AreNamed, AsksFor, Tells}
 use Rattle.check_request.specs.Wrong.{IsIncomplete, LacksFiles}
 use Rattle.check_request.specs.declared.usage.FilesAsked.{FilesAsked}
-use Rattle.check_request.specs.declared.usage.UsageFault.{UsageFault}
 
 -- the parser's own account of the matches is for command lines like this one
 is_simple_line : is_simple command_line ≡ true

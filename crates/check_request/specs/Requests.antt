@@ -2,10 +2,10 @@
 use Rattle.std.specs.Prelude.{◌≡◌, ◌≢◌, ◌<◌, ◌≤◌, ◌⊎◌, ℕ, List, Result, Ok, Err, IfErr, IfOk, false, length, true}
 use Rattle.std.specs.declared.io.ErrorKind.{ErrorKind}
 use Rattle.std.specs.declared.io.ErrorKind.TheVariants.{OutOfMemory}
+use Rattle.program_ends.specs.declared.refused.UsageFault.{UsageFault}
+use Rattle.program_ends.specs.declared.refused.UsageFault.TheVariants.{Usage, Memory}
 use Rattle.check_request.specs.declared.usage.Asked.{Asked}
 use Rattle.check_request.specs.declared.usage.Asked.TheVariants.{StoredRun, Version}
-use Rattle.check_request.specs.declared.usage.UsageFault.{UsageFault}
-use Rattle.check_request.specs.declared.usage.UsageFault.TheVariants.{Usage, Memory}
 use Rattle.check_request.specs.CommandLine.{found_in}
 use Rattle.check_request.specs.Words.{AsksForFiles, asks_version}
 use Rattle.check_request.specs.Wrong.{IsWrong}

@@ -13,5 +13,5 @@ mod usage;
 mod words;
 
 pub use settings::USUAL_DEPTH;
-pub use usage::{Asked, FilesAsked, UsageFault};
+pub use usage::{Asked, FilesAsked};
 pub use words::request_of;

@@ -15,6 +15,7 @@ use crate::settings::{read_least, read_settings};
 use answer_words::InputNames;
 use clap::error::ErrorKind;
 use clap::{Arg, ArgAction, ArgMatches, Command};
+use program_ends::UsageFault;
 use report::Settings;
 use rule_options::RuleOptions;
 use std::alloc::{AllocError, Global};
@@ -47,15 +48,6 @@ pub struct FilesAsked {
     pub last: bool,
     /// Whether standard error should not explain why the answer is not Yes.
     pub quiet: bool,
-}
-
-/// Why a command line requests nothing that can be done.
-#[derive(Clone, Copy, Debug, PartialEq, Eq)]
-pub enum UsageFault {
-    /// The words are not those of the usage. A word that is not UTF-8 is not one of them.
-    Usage,
-    /// Memory was refused.
-    Memory,
 }
 
 /// Reads what these words request. The first word is the program's own name.

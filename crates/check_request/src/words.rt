@@ -6,7 +6,8 @@ ghost use Rattle.std.specs.Result.{result_map_both};
 ghost use Rattle.std.specs.Vec.Iter.{into_iter_items};
 ghost use Rattle.check_request.specs.Requests.{IsRequested};
 
-use crate::usage::{Asked, UsageFault, read_words};
+use crate::usage::{Asked, read_words};
+use program_ends::UsageFault;
 use std::alloc::{AllocError, Global};
 use std::env::Args;
 use std::io;

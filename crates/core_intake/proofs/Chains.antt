@@ -1,5 +1,6 @@
 -- Answers one after another.
 use Rattle.std.proofs.Common.{◌≡◌, ℕ, ◌+◌, ◌-◌, ◌||◌, Bool, List, [], ◌∷◌, ◌++◌, Option, Some, None, is_some, Result, Ok, Err, IfSome, true, false, true≢false, length, take, refl, sym, ap, inl, inr, ◌∙◌, append_assoc, subst, arith}
+use Rattle.std.specs.Prelude.{◌≢◌, IsSome}
 use Rattle.std.proofs.Math.Bool.{or_assoc}
 use Rattle.std.proofs.Math.Seq.{take-append_seam}
 use Rattle.std.proofs.lemmas.Grind.{flat_map-append}
@@ -136,6 +137,11 @@ sends_last can_fail old now new sent after batch leads read is some =
 pub no_end : (end : Option (Result (Unit {0}) RowFault)) → is_some end ≡ false → ◌≡◌ {A = Option (Result (Unit {0}) RowFault)} end None
 no_end None some = refl
 no_end (Some end) some = absurd (true≢false some)
+
+-- answers without a record are how the recording ends
+pub end_left : (records : List Record) (end : Option (Result (Unit {0}) RowFault)) → records ≡ [] → answers_of records end ≢ [] → IsSome end
+end_left records None none some = absurd (some (ap (λ rows. answers_of rows None) none))
+end_left records (Some end) none some = refl
 
 -- the first answer at hand is taken
 pub takes_first : (given hand hand' : List Answer) (answer : Answer) (received : List Answer) → given ++ hand ≡ received → hand ≡ answer ∷ hand' → given ++ answer ∷ hand' ≡ received

@@ -103,7 +103,6 @@ fn send_all<R: TextSource, T: Wait>(
             return;
         }
     }
-    unreachable!()
 }
 
 // Sends the batch once the channel has room, or finds that nobody receives any more.

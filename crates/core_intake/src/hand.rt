@@ -1,7 +1,6 @@
 // The batch at hand.
 
-ghost use Rattle.std.specs.Prelude.{◌≡◌, ◌≢◌, ◌<◌, ◌++◌, ◌∷◌, [], true, false, IfNone, IfSome};
-ghost use Rattle.std.specs.Option.{option_to_list};
+ghost use Rattle.std.specs.Prelude.{◌≡◌, ◌≢◌, ◌<◌, ◌∷◌, [], true, false, IsSome, None, Some};
 ghost use Rattle.std.specs.Vec.{vec_len, vec_capacity};
 ghost use Rattle.core_intake.specs.Answered.{Answer, PutsIn};
 ghost use Rattle.core_intake.specs.Batches.{answers_in};
@@ -57,32 +56,31 @@ impl Hand {
         !self.records.is_empty() || self.end.is_some()
     }
 
-    /// The first answer that is left, or None if none is.
-    pub fn next(&mut self) -> Option<Result<Option<Record>, RowFault>>
-        ensures first { self.old ≡ option_to_list result ++ self.new }
-        ensures none { IfNone result (self.old ≡ []) }
+    /// The first answer that is left.
+    #[tactic(auto, using(crate::proofs::Chains::end_left))]
+    pub fn next(&mut self) -> Result<Option<Record>, RowFault>
+        requires some { self.old ≢ [] }
+        ensures first { self.old ≡ result ∷ self.new }
     {
         if let Some(record) = self.records.pop_front() {
-            return Some(Ok(Some(record)));
+            return Ok(Some(record));
         }
-        match self.end.take() {
-            None => None,
-            Some(Ok(())) => Some(Ok(None)),
-            Some(Err(fault)) => Some(Err(fault)),
-        }
+        take_end(&mut self.end)?;
+        Ok(None)
     }
 
     /// The first answer that is left, as `next` gives it, but a record goes to the end of a list, which has room for it: as the record of this
     /// core at this place. Whether there was a record is the result.
+    #[tactic(auto, using(crate::proofs::Chains::end_left))]
     pub fn next_into(
         &mut self,
         core: CoreId,
         place: Place,
         records: &mut Vec<Ordered>,
-    ) -> Option<Result<bool, RowFault>>
+    ) -> Result<bool, RowFault>
+        requires some { self.old ≢ [] }
         requires room { vec_len records.old < vec_capacity records.old }
-        ensures puts { IfSome result (λ put. (answer : Answer) × (self.old ≡ answer ∷ self.new) × PutsIn core place answer records.old.items put records.new.items) }
-        ensures none { IfNone result (self.old ≡ []) }
+        ensures puts { (answer : Answer) × (self.old ≡ answer ∷ self.new) × PutsIn core place answer records.old.items result records.new.items }
     {
         if let Some(rec) = self.records.pop_front() {
             records.push_reserved(Ordered {
@@ -90,12 +88,10 @@ impl Hand {
                 core,
                 rec,
             });
-            return Some(Ok(true));
+            return Ok(true);
         }
-        match self.end.take()? {
-            Ok(()) => Some(Ok(false)),
-            Err(fault) => Some(Err(fault)),
-        }
+        take_end(&mut self.end)?;
+        Ok(false)
     }
 
     /// The room of the batch.
@@ -104,5 +100,17 @@ impl Hand {
     {
         let Hand { records, end: _ } = self;
         records
+    }
+}
+
+// Takes the end of a recording, or the fault that ended it.
+fn take_end(end: &mut Option<Result<(), RowFault>>) -> Result<(), RowFault>
+    requires known { IsSome end.old }
+    ensures value { end.old ≡ Some result }
+    ensures taken { end.new ≡ None }
+{
+    match end.take() {
+        Some(Err(fault)) => Err(fault),
+        Some(Ok(())) | None => Ok(()),
     }
 }

@@ -1,6 +1,6 @@
 // A recording that a thread of its own reads.
 
-ghost use Rattle.std.specs.Prelude.{◌≡◌, ◌≢◌, ◌<◌, [], ◌∷◌, ◌++◌, IfOk, List, true, false, option_map, None, Ok};
+ghost use Rattle.std.specs.Prelude.{◌≡◌, ◌≢◌, ◌<◌, [], IfOk, List, true, false, option_map, None, Ok};
 ghost use Rattle.std.specs.Vec.{vec_len, vec_capacity};
 ghost use Rattle.crossbeam_channel.specs.Claims.{view, IsSeatAt};
 ghost use Rattle.crossbeam_channel.specs.Ends.{sends_on, receives_on};
@@ -9,7 +9,6 @@ ghost use Rattle.core_intake.specs.Answered.{Answer, answered, after, has_ended,
 ghost use Rattle.core_intake.specs.Batches.{WasFed, all_answers, AreAtHand};
 ghost use Rattle.core_intake.specs.Relay.{log};
 
-use crate::batch::Batch;
 use crate::channel::{Channel, channel_of};
 use crate::feed::{Fed, FedBy, feed};
 use crate::hand::Hand;
@@ -121,9 +120,7 @@ impl<R: TextSource> Lane<R> {
             &mut self.hand,
             &self.used,
         );
-        let Some(answer) = self.hand.next() else {
-            unreachable!()
-        };
+        let answer = self.hand.next();
         self.ended = ends(&answer);
         answer
     }
@@ -150,9 +147,7 @@ impl<R: TextSource> Lane<R> {
             &mut self.hand,
             &self.used,
         );
-        let Some(put) = self.hand.next_into(core, place, records) else {
-            unreachable!()
-        };
+        let put = self.hand.next_into(core, place, records);
         self.ended = ends_with(&put);
         put
     }
@@ -196,7 +191,8 @@ fn ends_with(put: &Result<bool, RowFault>) -> bool
     !matches!(put, Ok(true))
 }
 
-// Receives batches until an answer is at hand. The room of each one that has no answer left goes back.
+// Receives batches until an answer is at hand. An empty channel says nothing of the recording. The room of each batch that has no answer
+// left goes back.
 fn receive<T: Wait>(rt: &T, receiver: &Receiver, side: &mut Side, hand: &mut Hand, used: &Used)
     requires seat { IsSeatAt (receives_on receiver.now) side.old }
     requires receives { (view side.old).receives ≡ true }
@@ -209,23 +205,9 @@ fn receive<T: Wait>(rt: &T, receiver: &Receiver, side: &mut Side, hand: &mut Han
         if hand.has_next() {
             return;
         }
-        let last = mem::replace(hand, Hand::of(take_batch(rt, receiver, side)));
-        give_back(rt, used, last.into_room());
-    }
-    unreachable!()
-}
-
-// The next batch of the channel. An empty channel says nothing of the recording.
-fn take_batch<T: Wait>(rt: &T, receiver: &Receiver, side: &mut Side) -> Batch
-    requires seat { IsSeatAt (receives_on receiver.now) side.old }
-    requires receives { (view side.old).receives ≡ true }
-    ensures seat { IsSeatAt (receives_on receiver.now) side.new }
-    ensures received { view side.new ≡ log (view side.old).sends (view side.old).receives (view side.old).sent ((view side.old).received ++ result ∷ []) }
-{
-    for _ in rt.forever() {
         if let Ok(batch) = receiver.recv_as::<Receives, T>(rt, side) {
-            return batch;
+            let last = mem::replace(hand, Hand::of(batch));
+            give_back(rt, used, last.into_room());
         }
     }
-    unreachable!()
 }

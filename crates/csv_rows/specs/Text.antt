@@ -84,34 +84,23 @@ rest_of known rest = chain_remaining (chain_remaining (cursor_remaining (λ gap.
 abbrev pub left_in : {R : Type 0} → (R → Option (List ℕ)) → Text R → Option (List Fields)
 left_in known (text.Lines ahead) = rows_left (text_of known ahead)
 left_in known (text.Records reader) = left_of (rest_of known) reader
-left_in known text.Moved = None
 
 -- whether the source of a text has failed
 abbrev pub failed_in : {R : Type 0} → (R → Bool) → Text R → Bool
 failed_in failed (text.Lines ahead) = failed ahead.source
 failed_in failed (text.Records reader) = failed (chain_second (reader_source reader)).source
-failed_in failed text.Moved = false
 
 -- a text that can be read on
 abbrev pub IsReady : {R : Type 0} → Text R → Type 0
 IsReady (text.Lines ahead) = ⊤
 IsReady (text.Records reader) = IsSet reader
-IsReady text.Moved = ⊥
 
--- a text that has a source
-abbrev pub IsHere : {R : Type 0} → Text R → Type 0
-IsHere (text.Lines ahead) = ⊤
-IsHere (text.Records reader) = ⊤
-IsHere text.Moved = ⊥
-
--- a text of lines that has been begun
+-- a text whose first bytes were looked at for a byte order mark; if `csv` reads it on, it can be read on
 abbrev pub IsBegun : {R : Type 0} → Text R → Type 0
 IsBegun (text.Lines ahead) = ahead.is_begun ≡ true
-IsBegun (text.Records reader) = ⊥
-IsBegun text.Moved = ⊥
+IsBegun (text.Records reader) = IsSet reader
 
--- a text that `csv` reads on
-abbrev pub IsRecords : {R : Type 0} → Text R → Type 0
-IsRecords (text.Lines ahead) = ⊥
-IsRecords (text.Records reader) = IsSet reader
-IsRecords text.Moved = ⊥
+-- how often a text can still be handed over: once `csv` reads it, it does so to the end
+abbrev pub hand_overs_left : {R : Type 0} → Text R → ℕ
+hand_overs_left (text.Lines ahead) = 1
+hand_overs_left (text.Records reader) = 0

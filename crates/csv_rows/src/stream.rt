@@ -35,7 +35,7 @@ pub struct CsvRows<R: TextSource> {
 impl<R: TextSource> Model for CsvRows<R> {
     ghost use Rattle.std.specs.Prelude.{◌≡◌, ◌&&◌, ◌||◌, if◌then◌else◌, Some, [], false, true};
     ghost use Rattle.csv_rows.specs.Stream.{Stream};
-    ghost use Rattle.csv_rows.specs.Text.{IsHere, IsReady, failed_in, left_in};
+    ghost use Rattle.csv_rows.specs.Text.{IsReady, failed_in, left_in};
 
     ghost Value = { Stream };
 
@@ -46,7 +46,7 @@ impl<R: TextSource> Model for CsvRows<R> {
       left = if rows.ended then Some [] else left_in R.remaining rows.text;
     } };
 
-    ghost invariant = { λ rows. IsHere rows.text × ((rows.starved || rows.begun && failed_in R.failed rows.text) ≡ false → (rows.ended ≡ false → IsReady rows.text) × (rows.ended ≡ true → failed_in R.failed rows.text ≡ false)) };
+    ghost invariant = { λ rows. (rows.starved || rows.begun && failed_in R.failed rows.text) ≡ false → (rows.ended ≡ false → IsReady rows.text) × (rows.ended ≡ true → failed_in R.failed rows.text ≡ false) };
 }
 
 impl<R: TextSource> CsvRows<R> {

@@ -4,17 +4,17 @@ ghost use Rattle.std.specs.Prelude.{◌≡◌, ◌||◌, IfOk, OnOk, Err, false,
 ghost use Rattle.std.specs.Io.Chain.{chain_second};
 ghost use Rattle.csv.specs.Reading.{has_failed, reader_source};
 ghost use Rattle.csv_rows.specs.Stream.{IsSet, left_of};
-ghost use Rattle.csv_rows.specs.Text.{IsBegun, IsHere, IsReady, IsRecords, ReportsFailure, TakesRow, failed_in, left_in, rest_of, rows_left, unread_of};
+ghost use Rattle.csv_rows.specs.Text.{IsBegun, IsReady, ReportsFailure, TakesRow, failed_in, left_in, hand_overs_left, rest_of, rows_left, unread_of};
 
 use crate::ahead::{Ahead, Taken};
 use crate::fields::RowFields;
 use crate::source_reader::SourceReader;
 use crate::stream::StreamFault;
 use crate::text_source::TextSource;
+use core::mem::replace_with;
 use csv::{Reader, ReaderBuilder};
 use std::alloc::Global;
 use std::io::{Chain, Cursor, Read};
-use std::mem;
 
 /// What is left of a text when `csv` takes it over: a line feed, so that `csv` looks for no second byte order mark; the bytes that were
 /// read ahead; and the source.
@@ -27,8 +27,6 @@ pub enum Text<R> {
     Lines(Ahead<R>),
     /// `csv` reads the rest.
     Records(Reader<Rest<R>>),
-    /// It is being moved from the one to the other.
-    Moved,
 }
 
 /// Takes the next row into `fields`, and answers whether there was one.
@@ -42,7 +40,6 @@ pub fn take_row<R: TextSource>(
     requires going { failed_in R.failed text.old ≡ false }
     ensures takes { IfOk result (λ found. TakesRow (left_in R.remaining text.old) found fields.new (left_in R.remaining text.new)) }
     ensures ready { OnOk result (IsReady text.new) }
-    ensures here { IsHere text.new }
     ensures reports { ReportsFailure (failed_in R.failed text.old) (failed_in R.failed text.new) result }
 {
     match text {
@@ -51,10 +48,10 @@ pub fn take_row<R: TextSource>(
             Taken::End => Ok(false),
             Taken::Other => {
                 hand_over(alloc, text);
-                take_record(text, fields)
+                take_row(alloc, text, fields)
             }
         },
-        _ => take_record(text, fields),
+        Text::Records(reader) => read_record(reader, fields),
     }
 }
 
@@ -62,15 +59,24 @@ pub fn take_row<R: TextSource>(
 fn hand_over<R: TextSource>(alloc: Global, text: &mut Text<R>)
     requires { IsBegun text.old }
     ensures left { left_in R.remaining text.new ≡ left_in R.remaining text.old }
-    ensures records { IsRecords text.new }
+    ensures ready { IsReady text.new }
+    ensures once { hand_overs_left text.new ≡ 0 }
     ensures failed { failed_in R.failed text.new ≡ failed_in R.failed text.old }
 {
-    match mem::replace(text, Text::Moved) {
-        Text::Lines(ahead) => match mem::replace(text, Text::Records(reader_of(alloc, ahead))) {
-            Text::Moved => {}
-            _ => unreachable!(),
-        },
-        _ => unreachable!(),
+    replace_with(text, alloc, handed_over)
+}
+
+// The same text, the rest of which `csv` reads.
+fn handed_over<R: TextSource>(text: Text<R>, alloc: Global) -> (Text<R>, ())
+    requires { IsBegun text }
+    ensures left { left_in R.remaining result.0 ≡ left_in R.remaining text }
+    ensures ready { IsReady result.0 }
+    ensures once { hand_overs_left result.0 ≡ 0 }
+    ensures failed { failed_in R.failed result.0 ≡ failed_in R.failed text }
+{
+    match text {
+        Text::Lines(ahead) => (Text::Records(reader_of(alloc, ahead)), ()),
+        Text::Records(reader) => (Text::Records(reader), ()),
     }
 }
 
@@ -101,24 +107,6 @@ fn reader_of<R: TextSource>(alloc: Global, ahead: Ahead<R>) -> Reader<Rest<R>>
         )
 }
 
-// Takes the next row that `csv` reads.
-fn take_record<R: TextSource>(
-    text: &mut Text<R>,
-    fields: &mut RowFields,
-) -> Result<bool, StreamFault>
-    requires records { IsRecords text.old }
-    requires going { failed_in R.failed text.old ≡ false }
-    ensures takes { IfOk result (λ found. TakesRow (left_in R.remaining text.old) found fields.new (left_in R.remaining text.new)) }
-    ensures ready { OnOk result (IsReady text.new) }
-    ensures here { IsHere text.new }
-    ensures reports { ReportsFailure (failed_in R.failed text.old) (failed_in R.failed text.new) result }
-{
-    match text {
-        Text::Records(reader) => read_record(reader, fields),
-        _ => unreachable!(),
-    }
-}
-
 // The next row of a reader that is set up and whose `csv` has not given up, and whether there was one.
 fn read_record<R: TextSource>(
     reader: &mut Reader<Rest<R>>,
@@ -143,28 +131,23 @@ fn read_record<R: TextSource>(
 
 /// Where the text comes from.
 pub fn source_in<R: TextSource>(text: &Text<R>) -> &R
-    requires { IsHere text.now }
     ensures { R.failed result.now ≡ failed_in R.failed text.now }
 {
     match text {
         Text::Lines(ahead) => &ahead.source,
         Text::Records(reader) => source_of(reader),
-        Text::Moved => unreachable!(),
     }
 }
 
 /// How many bytes of a text have been taken, as far as rows were read. The first byte that `csv` was given is a line feed that belongs to
 /// no text.
-pub fn place_in<R: TextSource>(text: &Text<R>) -> u64
-    requires { IsHere text.now }
-{
+pub fn place_in<R: TextSource>(text: &Text<R>) -> u64 {
     match text {
         Text::Lines(ahead) => ahead.place(),
         Text::Records(reader) => {
             let taken = reader.position().byte().saturating_sub(1);
             reader.get_ref().get_ref().1.before.saturating_add(taken)
         }
-        Text::Moved => unreachable!(),
     }
 }
 

@@ -7,39 +7,39 @@ use Rattle.order_search.specs.declared.end.Step.TheVariants.{Next, Over}
 use Rattle.order_search.specs.declared.search.Search.{Search}
 
 -- the cores of the records that a search has placed and not decided, in their order
-abbrev pub undecided_of : Search → List ℕ
+abbrev pub undecided_of : {Thing : Type 0} → Search Thing → List ℕ
 undecided_of search = search.placed.cores.items
 
 -- how many cores the module has
-abbrev pub cores_of : Search → ℕ
+abbrev pub cores_of : {Thing : Type 0} → Search Thing → ℕ
 cores_of search = search.placed.most
 
 -- how many records a search has tried
-abbrev pub tried_of : Search → ℕ
+abbrev pub tried_of : {Thing : Type 0} → Search Thing → ℕ
 tried_of search = search.budget.effort.tried
 
 -- the machine has taken exactly the records that the search has placed
-abbrev pub Agrees : Search → List ℕ → Type 0
+abbrev pub Agrees : {Thing : Type 0} → Search Thing → List ℕ → Type 0
 Agrees search undecided = undecided ≡ search.placed.cores.items
 
 -- the search goes on, and the machine has taken exactly the records that it has placed
-pub record IsOpen (search : Search) (undecided : List ℕ) : Type 0 where
+pub record IsOpen {Thing : Type 0} (search : Search Thing) (undecided : List ℕ) : Type 0 where
   pub taken : undecided ≡ search.placed.cores.items
   pub unfinished : search.finished ≡ None
 
 -- a part of the search decides no record: the search and the machine agree after it, and the module has its cores
-pub record DecidesNone (before : Search) (decided_before : ℕ) (after : Search) (decided_after : ℕ) (undecided : List ℕ) : Type 0 where
+pub record DecidesNone {Thing : Type 0} (before : Search Thing) (decided_before : ℕ) (after : Search Thing) (decided_after : ℕ) (undecided : List ℕ) : Type 0 where
   pub agrees : Agrees after undecided
   pub decided : decided_after ≡ decided_before
   pub cores : cores_of after ≡ cores_of before
 
 -- a part of the search tries what it takes from what is left to try, and nothing else changes of that
-pub record Spends (before after : Search) : Type 0 where
+pub record Spends {Thing : Type 0} (before after : Search Thing) : Type 0 where
   pub sum : tried_of after + after.budget.left ≡ tried_of before + before.budget.left
   pub left : after.budget.left ≤ before.budget.left
 
 -- one try: if there is something left to try, more is tried after it; if not, the search ends for that
-abbrev pub IsTry : Search → Search → Type 0
+abbrev pub IsTry : {Thing : Type 0} → Search Thing → Search Thing → Type 0
 IsTry before after = (0 < before.budget.left → tried_of before < tried_of after) × (before.budget.left ≡ 0 → after.finished ≡ Some EffortUsed)
 
 -- as many records were tried as may be: so many for each record placed, and once more; at most the greatest number of 64 bits are counted

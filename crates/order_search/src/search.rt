@@ -31,27 +31,27 @@ pub struct Limits {
 
 /// A search, with the records that it has placed and not decided.
 #[derive(Drop)]
-pub struct Search {
+pub struct Search<Thing> {
     alloc: Global,
     window: usize,
     // How many records are decided.
     first: u64,
     pub(crate) placed: Placed,
     pub(crate) budget: Budget,
-    touches: Touches,
+    touches: Touches<Thing>,
     tree: Tree,
     longest: Longest,
     pub(crate) finished: Option<End>,
     ghost used_up: { finished ≡ Some EffortUsed → budget.left ≡ 0 },
 }
 
-impl Search {
+impl<Thing: Eq + Drop> Search<Thing> {
     ghost use Rattle.std.specs.Prelude.{◌<◌, ◌≤◌, ◌+◌, ◌*◌, [], IfOk, OnOk, Ok, None};
     ghost use Rattle.order_search.specs.Agreement.{Agrees, DecidesNone, HasTriedAll, IsLast, IsOfModule, IsOpen, IsOverWith, IsTry, Spends, cores_of, decided_by, tried_of, undecided_of};
     ghost use Rattle.order_search.specs.declared.end.Step.TheVariants.{Over};
 
     /// A search for an order of the records of so many cores, at its start.
-    pub fn new(alloc: Global, cores: usize, limits: Limits) -> Result<Search, AllocError>
+    pub fn new(alloc: Global, cores: usize, limits: Limits) -> Result<Search<Thing>, AllocError>
         ensures cores { IfOk result (λ search. cores_of search ≡ cores) }
         ensures none { IfOk result (λ search. undecided_of search ≡ []) }
         ensures open { IfOk result (λ search. search.finished ≡ None) }
@@ -80,7 +80,7 @@ impl Search {
     ///
     /// The machine has taken exactly the undecided records, in their order, before and after. If it refuses memory, nothing is
     /// said of the search.
-    pub fn next<T: Tip>(&mut self, tip: &mut T) -> Result<Step, AllocError>
+    pub fn next<T: Tip<Thing = Thing>>(&mut self, tip: &mut T) -> Result<Step, AllocError>
         requires agrees { Agrees self.old (T.undecided tip.old) }
         ensures agrees { OnOk result (Agrees self.new (T.undecided tip.new)) }
         ensures decided { IfOk result (λ step. T.decided tip.new ≡ T.decided tip.old + decided_by step) }
@@ -101,7 +101,7 @@ impl Search {
     }
 
     // Places records until as many are undecided as may be, or the search is over.
-    fn fill<T: Tip>(&mut self, tip: &mut T) -> Result<(), AllocError>
+    fn fill<T: Tip<Thing = Thing>>(&mut self, tip: &mut T) -> Result<(), AllocError>
         requires agrees { Agrees self.old (T.undecided tip.old) }
         ensures keeps { OnOk result (DecidesNone self.old (T.decided tip.old) self.new (T.decided tip.new) (T.undecided tip.new)) }
         ensures input { OnOk result (T.input tip.new ≡ T.input tip.old) }
@@ -130,7 +130,7 @@ impl Search {
     }
 
     // One try: places one more record, or goes back from a dead end, or ends the search.
-    fn advance<T: Tip>(&mut self, tip: &mut T) -> Result<(), AllocError>
+    fn advance<T: Tip<Thing = Thing>>(&mut self, tip: &mut T) -> Result<(), AllocError>
         requires open { IsOpen self.old (T.undecided tip.old) }
         ensures keeps { OnOk result (DecidesNone self.old (T.decided tip.old) self.new (T.decided tip.new) (T.undecided tip.new)) }
         ensures input { OnOk result (T.input tip.new ≡ T.input tip.old) }
@@ -156,7 +156,7 @@ impl Search {
     }
 
     // Takes the next record of a core.
-    fn place<T: Tip>(&mut self, tip: &mut T, core: usize) -> Result<(), AllocError>
+    fn place<T: Tip<Thing = Thing>>(&mut self, tip: &mut T, core: usize) -> Result<(), AllocError>
         requires core { core < cores_of self.old }
         requires open { IsOpen self.old (T.undecided tip.old) }
         ensures keeps { OnOk result (DecidesNone self.old (T.decided tip.old) self.new (T.decided tip.new) (T.undecided tip.new)) }
@@ -179,7 +179,7 @@ impl Search {
     }
 
     // At a dead end: goes back to swap two records, or ends the search if no swap is left.
-    fn turn_back<T: Tip>(&mut self, tip: &mut T) -> Result<(), AllocError>
+    fn turn_back<T: Tip<Thing = Thing>>(&mut self, tip: &mut T) -> Result<(), AllocError>
         requires open { IsOpen self.old (T.undecided tip.old) }
         ensures keeps { OnOk result (DecidesNone self.old (T.decided tip.old) self.new (T.decided tip.new) (T.undecided tip.new)) }
         ensures input { OnOk result (T.input tip.new ≡ T.input tip.old) }
@@ -196,7 +196,7 @@ impl Search {
     }
 
     // The swaps that may lead on from here, the most promising one last: those that the machine names, then that of the last level.
-    fn swaps<T: Tip>(&self, tip: &mut T) -> Result<Vec<Swap>, AllocError>
+    fn swaps<T: Tip<Thing = Thing>>(&self, tip: &mut T) -> Result<Vec<Swap>, AllocError>
         ensures undecided { OnOk result (T.undecided tip.new ≡ T.undecided tip.old) }
         ensures decided { OnOk result (T.decided tip.new ≡ T.decided tip.old) }
         ensures input { OnOk result (T.input tip.new ≡ T.input tip.old) }
@@ -216,7 +216,7 @@ impl Search {
 
     // The swaps that may have a core's next record accepted: it comes before the last record that touched what it was rejected
     // for, or that record before the one that did so before, and so on; and what the machine names.
-    fn find_swaps<T: Tip>(
+    fn find_swaps<T: Tip<Thing = Thing>>(
         &self,
         tip: &mut T,
         core: usize,
@@ -235,7 +235,7 @@ impl Search {
             };
             self.add_swap(rivals.first, until, true, swaps)?;
         }
-        let mut things: Vec<u64> = Vec::new(self.alloc);
+        let mut things = Vec::new(self.alloc);
         tip.blamed(core, &mut things)?;
         let levels = self
             .touches
@@ -280,7 +280,7 @@ impl Search {
     }
 
     // Goes back to a level.
-    fn go_back<T: Tip>(&mut self, tip: &mut T, level: u64) -> Result<(), AllocError>
+    fn go_back<T: Tip<Thing = Thing>>(&mut self, tip: &mut T, level: u64) -> Result<(), AllocError>
         requires open { IsOpen self.old (T.undecided tip.old) }
         ensures open { OnOk result (IsOpen self.new (T.undecided tip.new)) }
         ensures keeps { OnOk result (DecidesNone self.old (T.decided tip.old) self.new (T.decided tip.new) (T.undecided tip.new)) }
@@ -299,7 +299,7 @@ impl Search {
     }
 
     // Ends the search in this way, with the longest beginning that it met.
-    fn give_up<T: Tip>(&mut self, tip: &mut T, end: End) -> Result<(), AllocError>
+    fn give_up<T: Tip<Thing = Thing>>(&mut self, tip: &mut T, end: End) -> Result<(), AllocError>
         requires used_up { end ≡ EffortUsed → self.old.budget.left ≡ 0 }
         requires open { IsOpen self.old (T.undecided tip.old) }
         ensures keeps { OnOk result (DecidesNone self.old (T.decided tip.old) self.new (T.decided tip.new) (T.undecided tip.new)) }
@@ -315,7 +315,7 @@ impl Search {
     }
 
     // Goes to the longest beginning.
-    fn return_to_longest<T: Tip>(&mut self, tip: &mut T) -> Result<(), AllocError>
+    fn return_to_longest<T: Tip<Thing = Thing>>(&mut self, tip: &mut T) -> Result<(), AllocError>
         requires open { IsOpen self.old (T.undecided tip.old) }
         ensures undecided { OnOk result (T.undecided tip.new ≡ self.new.placed.cores.items) }
         ensures decided { OnOk result (T.decided tip.new ≡ T.decided tip.old) }

@@ -30,6 +30,9 @@ pub struct Rivals {
 /// The records that it has taken are undecided until they are decided, the oldest first. It never goes back before a decided one.
 /// An Err of any call is a refusal of memory, or says that a recording could not be read on: nothing is said of the machine then.
 pub trait Tip {
+    /// A thing that records change or depend on.
+    type Thing: Eq + Drop;
+
     // The cores of the undecided records, in the order in which they were taken.
     ghost undecided: { Self → List ℕ };
 
@@ -72,14 +75,14 @@ pub trait Tip {
         ensures last { last_decided self.new ≡ Some core }
         ensures input { input self.new ≡ input self.old };
 
-    /// Adds what a core's next record changes that records of other cores may see, each as a number that means the same at each call.
-    fn touched(&mut self, core: usize, things: &mut Vec<u64>) -> Result<(), AllocError>
+    /// Adds what a core's next record changes that records of other cores may see.
+    fn touched(&mut self, core: usize, things: &mut Vec<Self::Thing>) -> Result<(), AllocError>
         ensures undecided { OnOk result (undecided self.new ≡ undecided self.old) }
         ensures decided { OnOk result (decided self.new ≡ decided self.old) }
         ensures input { OnOk result (input self.new ≡ input self.old) };
 
     /// Adds what the machine looks at when it rejects a core's next record.
-    fn blamed(&mut self, core: usize, things: &mut Vec<u64>) -> Result<(), AllocError>
+    fn blamed(&mut self, core: usize, things: &mut Vec<Self::Thing>) -> Result<(), AllocError>
         ensures undecided { OnOk result (undecided self.new ≡ undecided self.old) }
         ensures decided { OnOk result (decided self.new ≡ decided self.old) }
         ensures input { OnOk result (input self.new ≡ input self.old) };

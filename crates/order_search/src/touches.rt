@@ -10,28 +10,28 @@ use std::collections::VecDeque;
 const FARTHEST: usize = 20_000;
 
 // That the record of a level touched a thing.
-#[derive(Clone, Copy, Debug, PartialEq, Eq)]
-struct Touch {
+#[derive(Drop)]
+struct Touch<Thing> {
     level: u64,
-    thing: u64,
+    thing: Thing,
 }
 
 /// What the undecided records touched, in their order.
 #[derive(Drop)]
-pub struct Touches {
-    list: VecDeque<Touch>,
+pub struct Touches<Thing> {
+    list: VecDeque<Touch<Thing>>,
 }
 
-impl Touches {
+impl<Thing: Eq + Drop> Touches<Thing> {
     /// Nothing is touched.
-    pub fn new(alloc: Global) -> Touches {
+    pub fn new(alloc: Global) -> Touches<Thing> {
         Touches {
             list: VecDeque::new(alloc),
         }
     }
 
     /// Notes what a core's next record touches, which is that of this level.
-    pub fn note<T: Tip>(
+    pub fn note<T: Tip<Thing = Thing>>(
         &mut self,
         tip: &mut T,
         alloc: Global,
@@ -42,15 +42,14 @@ impl Touches {
         ensures decided { OnOk result (T.decided tip.new ≡ T.decided tip.old) }
         ensures input { OnOk result (T.input tip.new ≡ T.input tip.old) }
     {
-        let mut things: Vec<u64> = Vec::new(alloc);
+        let mut things = Vec::new(alloc);
         tip.touched(core, &mut things)?;
-        self.enter(level, &things)
+        self.enter(level, things)
     }
 
     // The record of this level touches these things.
-    fn enter(&mut self, level: u64, things: &[u64]) -> Result<(), AllocError> {
+    fn enter(&mut self, level: u64, things: Vec<Thing>) -> Result<(), AllocError> {
         for thing in things {
-            let thing = *thing;
             self.list.push_back(Touch { level, thing })?;
         }
         Ok(())
@@ -78,7 +77,7 @@ impl Touches {
     pub fn last_to_touch(
         &self,
         alloc: Global,
-        things: &[u64],
+        things: &[Thing],
         most: usize,
     ) -> Result<Vec<u64>, AllocError> {
         let mut levels: Vec<u64> = Vec::new(alloc);

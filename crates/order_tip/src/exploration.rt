@@ -13,6 +13,7 @@ use module_config::Config;
 use order_search::{Search, Step};
 use placement::PlacingFault;
 use std::alloc::AllocError;
+use tip_pieces::Thing;
 
 /// How far the exploration is.
 #[derive(Clone, Copy, Debug, PartialEq, Eq)]
@@ -28,7 +29,7 @@ pub enum Stage {
 /// The search over the machine. Once it is over, the exploration goes on with any record that the pieces accept.
 #[derive(Drop)]
 pub struct Exploration<'a, R: TextSource> {
-    pub(crate) search: Search,
+    pub(crate) search: Search<Thing>,
     pub(crate) machine: Machine<'a, R>,
     pub(crate) stage: Stage,
     ghost taken: { stage ≡ Searching → machine.undecided.cores.items ≡ undecided_of search },
@@ -36,7 +37,7 @@ pub struct Exploration<'a, R: TextSource> {
 
 impl<'a, R: TextSource + Drop> Exploration<'a, R> {
     /// A search that begins over a machine that has taken the records that the search has placed.
-    pub fn new(search: Search, machine: Machine<'a, R>) -> Exploration<'a, R>
+    pub fn new(search: Search<Thing>, machine: Machine<'a, R>) -> Exploration<'a, R>
         requires { machine.undecided.cores.items ≡ undecided_of search }
         ensures { result.machine ≡ machine.entry }
     {

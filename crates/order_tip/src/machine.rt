@@ -13,6 +13,7 @@ use order_run::Lanes;
 use order_search::{Answer, Rivals, Tip};
 use placement::PlacingFault;
 use std::alloc::{AllocError, Global};
+use tip_pieces::Thing;
 
 /// How many records are taken again before the tip gets a checkpoint of its own.
 const MANY_AGAIN: u64 = 16;
@@ -125,6 +126,8 @@ impl<'a, R: TextSource + Drop> Machine<'a, R> {
 }
 
 impl<'a, R: TextSource + Drop> Tip for Machine<'a, R> {
+    type Thing = Thing;
+
     ghost use Rattle.order_run.specs.Left.{Lefts};
 
     ghost undecided = { λ machine. machine.undecided.cores.items };
@@ -170,12 +173,12 @@ impl<'a, R: TextSource + Drop> Tip for Machine<'a, R> {
         self.undecided.decide(core);
     }
 
-    fn touched(&mut self, core: usize, things: &mut Vec<u64>) -> Result<(), AllocError> {
+    fn touched(&mut self, core: usize, things: &mut Vec<Thing>) -> Result<(), AllocError> {
         let level = self.undecided.level();
         self.outlook.touched(core, level, things)
     }
 
-    fn blamed(&mut self, core: usize, things: &mut Vec<u64>) -> Result<(), AllocError> {
+    fn blamed(&mut self, core: usize, things: &mut Vec<Thing>) -> Result<(), AllocError> {
         let level = self.undecided.level();
         self.outlook.blamed(core, level, things)
     }

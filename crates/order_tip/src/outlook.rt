@@ -14,8 +14,8 @@ use order_search::{Answer, Rivals};
 use placement::PlacingFault;
 use std::alloc::{AllocError, Global};
 use tip_pieces::{
-    Checkpoint, Checkpoints, Pieces, Reach, Rejection, TipState, blame, is_free, is_tick, reaches,
-    rivals_of, touched,
+    Checkpoint, Checkpoints, Pieces, Reach, Rejection, Thing, TipState, blame, is_free, is_tick,
+    reaches, rivals_of, touched,
 };
 
 /// The recordings, the pieces at the tip, and what is known of each core's next record.
@@ -273,7 +273,7 @@ impl<'a, R: TextSource + Drop> Outlook<'a, R> {
         &mut self,
         core: usize,
         place: u64,
-        things: &mut Vec<u64>,
+        things: &mut Vec<Thing>,
     ) -> Result<(), AllocError>
         ensures { OnOk result (self.new.lanes ≡ self.old.lanes) }
     {
@@ -291,7 +291,7 @@ impl<'a, R: TextSource + Drop> Outlook<'a, R> {
         &mut self,
         core: usize,
         place: u64,
-        things: &mut Vec<u64>,
+        things: &mut Vec<Thing>,
     ) -> Result<(), AllocError>
         ensures { OnOk result (self.new.lanes ≡ self.old.lanes) }
     {
@@ -302,7 +302,7 @@ impl<'a, R: TextSource + Drop> Outlook<'a, R> {
     }
 
     // Adds what the pieces look at if one rejects a core's next record, which is read.
-    fn blame_next(&self, core: usize, things: &mut Vec<u64>) -> Result<(), AllocError> {
+    fn blame_next(&self, core: usize, things: &mut Vec<Thing>) -> Result<(), AllocError> {
         let Some(ordered) = self.next_record(core) else {
             return Ok(());
         };

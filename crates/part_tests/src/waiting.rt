@@ -7,7 +7,7 @@ use crate::queuing::who;
 use apex_types::{
     Cause, Claim, Code, Discipline, Message, Name, Out, Place, SemaphoreOperation, Woken,
 };
-use semaphore_event::Semaphore;
+use partition_objects::Semaphore;
 use std::alloc::{AllocError, Global};
 use std::test::Fail;
 use wait_set::{Actor, ApexObject, Effect, ObjFault, Owners};

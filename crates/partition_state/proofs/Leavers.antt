@@ -22,8 +22,8 @@ use Rattle.apex_laws.proofs.PartSets.{AllWaitThere, all_named_leave}
 use Rattle.apex_laws.proofs.SoundParts.{sets_distinct}
 use Rattle.apex_laws.proofs.Waiters.{all_without}
 use Rattle.apex_laws.proofs.WaitersOf.{same_is, same_itself}
-use Rattle.buffer.specs.Buffers as buffers
-use Rattle.object_table.proofs.Tables.{change-absent}
+use Rattle.partition_objects.specs.Buffers as buffers
+use Rattle.partition_objects.proofs.Tables.{change-absent}
 use Rattle.partition_state.specs.Leaving.{HasEntryOnlyAt, HasEntryWhereItWaits}
 use Rattle.partition_state.proofs.Sets.{change_found}
 use Rattle.apex_laws.proofs.SetNames.{ends_agree}

@@ -8,7 +8,7 @@ use Rattle.apex_types.specs.declared.request.Request.TheVariants as request
 use Rattle.apex_machine.specs.declared.state.CoreState.{CoreState}
 use Rattle.apex_machine.specs.Configuration.{Configuration}
 use Rattle.apex_machine.specs.State.{Mutex, Partition, given_object}
-use Rattle.mutex_ceiling.specs.Mutexes as mutexes
+use Rattle.partition_objects.specs.Mutexes as mutexes
 use Rattle.process_state.specs.declared.transfer.Transfer.{Transfer}
 use Rattle.process_state.specs.Transfers.{IsTransferOf}
 use Rattle.wait_set.specs.declared.object.Actor.{Actor}

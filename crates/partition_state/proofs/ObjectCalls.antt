@@ -25,11 +25,11 @@ use Rattle.apex_machine.specs.Waiting.{first_waiter, is_waiting, set_after}
 use Rattle.apex_laws.specs.Laws.{IsInOrder, are_distinct}
 use Rattle.apex_laws.specs.PartObjects.{used_by, objects_changed}
 use Rattle.apex_laws.proofs.Objects.{mutex_keeps}
-use Rattle.blackboard.specs.Blackboards as blackboards
-use Rattle.buffer.specs.Buffers as buffers
-use Rattle.mutex_ceiling.specs.Mutexes as mutexes
-use Rattle.semaphore_event.specs.Events as events
-use Rattle.semaphore_event.specs.Semaphores as semaphores
+use Rattle.partition_objects.specs.Blackboards as blackboards
+use Rattle.partition_objects.specs.Buffers as buffers
+use Rattle.partition_objects.specs.Events as events
+use Rattle.partition_objects.specs.Mutexes as mutexes
+use Rattle.partition_objects.specs.Semaphores as semaphores
 use Rattle.process_state.specs.declared.transfer.Transfer.{Transfer}
 use Rattle.wait_set.specs.declared.object.Actor.{Actor}
 use Rattle.wait_set.specs.declared.object.ObjFault.{ObjFault}

@@ -15,7 +15,7 @@ use Rattle.apex_machine.specs.Services.{answer_by}
 use Rattle.apex_machine.specs.State.{Partition, change_at, given_object, item_at}
 use Rattle.apex_machine.specs.Waiting.{enters, is_the_set, is_waiting, message_of, restart_of, set_after, set_of, stop_of}
 use Rattle.apex_laws.specs.Laws.{AllEntries, IsInOrder, are_distinct, entries_at}
-use Rattle.object_table.proofs.Tables.{change-absent}
+use Rattle.partition_objects.proofs.Tables.{change-absent}
 use Rattle.apex_machine.specs.Answer.{Answer, NamesExactly}
 use Rattle.wait_set.proofs.Calls as calls
 use Rattle.wait_set.proofs.Calls.{no_place}

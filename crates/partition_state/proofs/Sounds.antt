@@ -1,5 +1,5 @@
 -- The table of processes can hold what a call asks for.
-use Rattle.std.proofs.Common.{◌≡◌, ◌≢◌, ◌<◌, ◌≤◌, ℕ, ℤ, pos, negsuc, List, [], ◌∷◌, ◌||◌, None, Bool, true, false, nat_eq, IsTrue, refl, arith}
+use Rattle.std.proofs.Common.{◌≡◌, ◌<◌, ◌≤◌, ℕ, ℤ, pos, negsuc, List, [], ◌∷◌, ◌||◌, Bool, true, false, IsTrue, refl, arith}
 use Rattle.std.proofs.lemmas.Bool.Decides.{nat_tests}
 use Rattle.apex_types.specs.declared.limits.TheConstants.{MOST_CORES, PLACE_COUNT}
 use Rattle.apex_types.specs.declared.operation.{BlackboardOperation.BlackboardOperation, CallerOperation.CallerOperation, EventOperation.EventOperation, MutexOperation.MutexOperation, ProcessOperation.ProcessOperation, SemaphoreOperation.SemaphoreOperation}
@@ -16,13 +16,13 @@ use Rattle.apex_machine.specs.Answer.{NamesExactly}
 use Rattle.apex_machine.specs.Configuration.{Configuration, is_core}
 use Rattle.apex_machine.specs.Demands.{AllHold}
 use Rattle.apex_machine.specs.ServiceConditions.{conditions_of}
-use Rattle.apex_machine.specs.State.{Partition, given_object, is_named, is_same, item_at, time_of}
+use Rattle.apex_machine.specs.State.{Partition, is_named, is_same, time_of}
 use Rattle.apex_machine.specs.Waiting.{is_waiting}
 use Rattle.apex_laws.specs.PartBounds.{IsBoundedPart}
 use Rattle.apex_laws.proofs.BoundedParts.{releases_fit}
 use Rattle.module_config.specs.Limits.{CoresAreOfModule}
-use Rattle.object_table.specs.Numbers.{NumbersFit}
-use Rattle.process_state.specs.Sound.{IsSound, AsksSoundly, GivesSoundly, IsObjectNumber, ReleasesSoundly, WaitsSoundly, is_core_number}
+use Rattle.partition_objects.proofs.Numbers.{given_fits}
+use Rattle.process_state.specs.Sound.{IsSound, AsksSoundly, GivesSoundly, ReleasesSoundly, WaitsSoundly, is_core_number}
 use Rattle.partition_state.specs.Calls.{IsClear, NumbersAreKept, served_demands}
 use Rattle.partition_state.proofs.Clear.{blackboard_found, buffer_found, event_found, mutex_found, nil_left, nil_right, semaphore_found, when_not}
 
@@ -64,18 +64,6 @@ asks_soundly configuration now partition call (request.Process process operation
 asks_soundly configuration now partition call _ few of_module none is served = tt
 
 -- waits
-
-number_fits : {Object : Type 0} (number : ℕ) (objects : List (ℕ × Object)) → NumbersFit objects → item_at objects number ≢ None → number < 4294967296
-number_fits number [] fit found = absurd (found refl)
-number_fits number (entry ∷ entries) fit found = by (nat_eq number entry.0) refl (number_fits number entries fit.1)
-  where
-    by : (b : Bool) → nat_eq number entry.0 ≡ b → (item_at entries number ≢ None → number < 4294967296) → number < 4294967296
-    by true e rest = let here : entry.0 < 4294967296 = fit.0 in grind (arith, nat_tests)
-    by false e rest = rest (rw e at found)
-
-given_fits : {Object : Type 0} (objects : List (ℕ × Object)) (given : ℤ) → NumbersFit objects → given_object objects given ≢ None → IsObjectNumber given
-given_fits objects (pos n) fit found = number_fits n objects fit found
-given_fits objects (negsuc n) fit found = absurd (found refl)
 
 waits_soundly : (configuration : Configuration) (who : Who) (partition : Partition) (asked : Request) → NumbersAreKept partition
     → conditions_of configuration who partition asked ≡ [] → WaitsSoundly asked

@@ -23,7 +23,7 @@ use Rattle.apex_laws.specs.PartLaws.{IsSoundPart}
 use Rattle.apex_laws.specs.PartBounds.{IsBoundedPart}
 use Rattle.apex_laws.specs.PartObjects.{objects_changed}
 use Rattle.apex_laws.specs.PartSets.{left_if_there}
-use Rattle.object_table.specs.Numbers.{NumbersFit}
+use Rattle.partition_objects.specs.Numbers.{NumbersFit}
 use Rattle.ports.specs.Ports.{read_at}
 use Rattle.process_state.specs.declared.transfer.Transfer.{Transfer}
 use Rattle.wait_set.specs.declared.object.Actor.{Actor}

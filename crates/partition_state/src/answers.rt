@@ -20,7 +20,7 @@ use apex_types::{
     Call, CallerOperation, Cause, Name, ObjectKind, ObjectOperation, Place, ProcessOperation,
     Request, Who,
 };
-use object_table::ObjectTable;
+use partition_objects::ObjectTable;
 use wait_set::{Actor, ApexObject, Given, judge_value};
 
 impl PartitionState {

@@ -6,11 +6,7 @@ ghost use Rattle.apex_machine.specs.After.{new_blackboard, new_buffer, new_event
 ghost use Rattle.wait_set.specs.declared.object.ObjFault.TheVariants.{Memory};
 
 use apex_types::{Discipline, Name};
-use blackboard::Blackboard;
-use buffer::Buffer;
-use mutex_ceiling::Mutex653;
-use object_table::copy_of;
-use semaphore_event::{Event, Semaphore};
+use partition_objects::{Blackboard, Buffer, Event, Mutex653, Semaphore, copy_of};
 use std::alloc::Global;
 use wait_set::ObjFault;
 

@@ -10,7 +10,7 @@ ghost use Rattle.partition_state.specs.Calls.{actor_of, used_demands};
 ghost use Rattle.partition_state.specs.Owners.{TransfersBetween};
 
 use apex_types::{Call, Claim, Place};
-use object_table::ObjectTable;
+use partition_objects::ObjectTable;
 use process_state::Transfer;
 use wait_set::{Actor, ApexObject, ObjFault, Owners};
 

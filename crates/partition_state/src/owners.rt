@@ -8,7 +8,7 @@ ghost use Rattle.apex_machine.specs.Objects.{is_owner};
 
 use crate::state::PartitionState;
 use apex_types::ProcId;
-use mutex_ceiling::Mutex653;
+use partition_objects::Mutex653;
 
 impl PartitionState {
     /// Whether this process owns a mutex.

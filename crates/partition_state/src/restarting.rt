@@ -9,7 +9,7 @@ ghost use Rattle.apex_machine.specs.Waiting as waiting;
 use crate::state::PartitionState;
 use apex_machine::Mode;
 use apex_types::{Call, CoreId, Out, Place, Request};
-use object_table::ObjectTable;
+use partition_objects::ObjectTable;
 use ports::PortTable;
 
 /// The mode in which a call restarts its caller's partition, if it does: SET_PARTITION_MODE to IDLE, COLD_START or WARM_START

@@ -7,13 +7,9 @@ ghost use Rattle.process_state.specs.Processes.{processes_of};
 ghost use Rattle.partition_state.specs.Calls.{NumbersAreKept};
 
 use apex_types::CoreId;
-use blackboard::Blackboard;
-use buffer::Buffer;
-use mutex_ceiling::Mutex653;
-use object_table::ObjectTable;
+use partition_objects::{Blackboard, Buffer, Event, Mutex653, ObjectTable, Semaphore};
 use ports::PortTable;
 use process_state::ProcTable;
-use semaphore_event::{Event, Semaphore};
 use std::alloc::{AllocError, Global};
 use std::marker::Model;
 

@@ -31,8 +31,7 @@ use apex_types::{
     ProcessOperation, Request, Who,
 };
 use module_config::Config;
-use mutex_ceiling::Mutex653;
-use object_table::ObjectTable;
+use partition_objects::{Mutex653, ObjectTable};
 use partition_state::PartitionState;
 use wait_set::{Conditions, Given, WaitSet};
 

@@ -6,7 +6,7 @@ ghost use Rattle.ports.specs.Ports.{port_of, read_at};
 
 use apex_machine::{Direction, Status};
 use apex_types::{ChanId, Name};
-use object_table::Marked;
+use partition_objects::Marked;
 use std::alloc::AllocError;
 use std::marker::Model;
 use wait_set::Named;

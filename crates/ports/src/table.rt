@@ -10,13 +10,13 @@ ghost use Rattle.apex_machine.specs.Demands.{AllHold, answer_demands};
 ghost use Rattle.apex_machine.specs.Names.{number_named};
 ghost use Rattle.apex_machine.specs.Ports.{channel_by};
 ghost use Rattle.apex_machine.specs.State.{Port as Seen, change_at, given_object, is_free};
-ghost use Rattle.object_table.specs.Numbers.{NumbersFit};
+ghost use Rattle.partition_objects.specs.Numbers.{NumbersFit};
 ghost use Rattle.wait_set.specs.Actors.{Refuses};
 ghost use Rattle.ports.specs.Ports.{port_of, read_at};
 
 use crate::port::{Port, PortSettings};
 use apex_types::{ChanId, Claim, Name};
-use object_table::{ObjectTable, copy_of};
+use partition_objects::{ObjectTable, copy_of};
 use std::alloc::{AllocError, Global};
 use std::marker::Model;
 use wait_set::ObjFault;

@@ -1,20 +1,16 @@
 -- The pieces of a text, one after another, and the processes that they name.
-use Rattle.std.proofs.Common.{◌≡◌, ◌∙◌, ℕ, List, [], ◌∷◌, ◌++◌, ◌-◌, Bool, true, false, Option, Some, None, ◌≤◌, length, refl, sym, ap, subst, nat_eq, append_assoc, arith, if◌then◌else◌}
-use Rattle.std.specs.Prelude.{◌≢◌, is_some, option_map}
-use Rattle.std.specs.List.{onto_first, slice_get}
-use Rattle.std.proofs.lemmas.List.{append-nil, length-append}
+use Rattle.std.proofs.Common.{◌≡◌, ◌∙◌, ℕ, List, [], ◌∷◌, ◌++◌, Bool, true, false, true≢false, Option, Some, None, ◌≤◌, length, refl, sym, ap, subst, nat_eq, append_assoc, arith, if◌then◌else◌}
+use Rattle.std.specs.Prelude.{◌≢◌, IsSome, is_none, is_some, option_map}
+use Rattle.std.specs.List.{onto_first}
+use Rattle.std.proofs.lemmas.List.{append-nil}
 use Rattle.std.proofs.lemmas.Option.{cond_some, same_Some}
 use Rattle.apex_types.specs.declared.record.Who.{Who}
 use Rattle.apex_types.specs.Rising.{IsRising, RisesFrom}
 use Rattle.record_read.specs.declared.fault.RowFault.TheVariants.{BadWoken}
-use Rattle.record_read.specs.Woken.{IsList, front_of, rest_of, pieces_of, process_of, next_process, processes_after, processes_in, is_after, woken_of}
+use Rattle.record_read.specs.Woken.{IsList, front_of, rest_of, named_at_stop, pieces_left, pieces_of, process_of, next_process, processes_after, processes_in, is_after, woken_of}
 use Rattle.record_read.proofs.GrammarFields.{found_first, found_map, ok_some}
 
--- the pieces of what is left, if anything is
-abbrev pub pieces_left : ℕ → Option (List ℕ) → List (List ℕ)
-pieces_left separator None = []
-pieces_left separator (Some text) = pieces_of separator text
-
+-- the first piece of a text, and those of what is left after it
 pub pieces_split : (separator : ℕ) (text : List ℕ) → pieces_of separator text ≡ front_of separator text ∷ pieces_left separator (rest_of separator text)
 pieces_split separator [] = refl
 pieces_split separator (b ∷ bs) = by (nat_eq b separator) (pieces_split separator bs)
@@ -35,59 +31,47 @@ pub after_none : (last : Option Who) (left : List ℕ) → next_process last (fr
 unfolding processes_after
 after_none last left e = ap (processes_after last) (pieces_split 59 left) ∙ rw e refl
 
--- the pieces of a text name processes if those that are left name some after the last
-abbrev pub Judged : List ℕ → Option Who → Option (List ℕ) → Type 0
-Judged text last left = is_some (processes_after None (pieces_of 59 text)) ≡ is_some (processes_after last (pieces_left 59 left))
+-- the next process of what is left of a text
+pub next_named : (last : Option Who) (left rest : Option (List ℕ)) (text front : List ℕ) (who : Who) → left ≡ Some text → front ≡ front_of 59 text
+    → rest ≡ rest_of 59 text → next_process last front ≡ Some who
+    → processes_after last (pieces_left 59 left) ≡ option_map (λ more. who ∷ more) (processes_after (Some who) (pieces_left 59 rest))
+next_named last left rest text front who l f r e = rw (l, r) (after_more last text who (rw f at e))
 
-pub judged_more : (text : List ℕ) (last : Option Who) (left : List ℕ) (who : Who) (rest : Option (List ℕ)) → next_process last (front_of 59 left) ≡ Some who
-    → rest ≡ rest_of 59 left → Judged text last (Some left) → Judged text (Some who) rest
-judged_more text last left who rest e r h = rw r (h ∙ ap is_some (after_more last left who e) ∙ by (processes_after (Some who) (pieces_left 59 (rest_of 59 left))))
-  where
-    by : (o : Option (List Who)) → is_some (option_map (λ more. who ∷ more) o) ≡ is_some o
-    by None = refl
-    by (Some ws) = refl
+-- what is left of a text if its first piece names none
+pub none_named : (last : Option Who) (left : Option (List ℕ)) (text front : List ℕ) → left ≡ Some text → front ≡ front_of 59 text → next_process last front ≡ None
+    → processes_after last (pieces_left 59 left) ≡ named_at_stop left
+none_named last left text front l f e = rw l (after_none last text (rw f at e))
 
-pub judged_none : (text : List ℕ) (last : Option Who) (left : List ℕ) → next_process last (front_of 59 left) ≡ None → Judged text last (Some left)
-    → is_some (processes_after None (pieces_of 59 text)) ≡ false
-judged_none text last left e h = h ∙ ap is_some (after_none last left e)
-
-pub judged_end : (text : List ℕ) (last : Option Who) → Judged text last None → is_some (processes_after None (pieces_of 59 text)) ≡ true
+-- at the end of a text
+pub end_named : (last : Option Who) (left : Option (List ℕ)) → left ≡ None → processes_after last (pieces_left 59 left) ≡ named_at_stop left
 unfolding processes_after
-judged_end text last h = h
+end_named last left l = rw l refl
 
--- the last of a list
-abbrev pub last_of : List Who → Option Who
-last_of named = slice_get named (length named - 1)
+-- the pieces of a text name processes if those that are left do so
+pub judged_more : (judged : Bool) (before after : Option (List Who)) (who : Who) → before ≡ option_map (λ more. who ∷ more) after → judged ≡ is_some before → judged ≡ is_some after
+judged_more judged before None who e h = h ∙ ap is_some e
+judged_more judged before (Some ws) who e h = h ∙ ap is_some e
 
-get_push : (named : List Who) (who : Who) → slice_get (named ++ who ∷ []) (length named) ≡ Some who
-get_push [] who = refl
-get_push (w ∷ ws) who = get_push ws who
+pub judged_at_stop : (judged : Bool) (before after : Option (List Who)) (left : Option (List ℕ)) → after ≡ before → after ≡ named_at_stop left → judged ≡ is_some before
+    → is_none left ≡ judged
+judged_at_stop judged before after None same stops h = sym (h ∙ ap is_some (sym same ∙ stops))
+judged_at_stop judged before after (Some text) same stops h = sym (h ∙ ap is_some (sym same ∙ stops))
 
-pub last_push : (named : List Who) (who : Who) → last_of (named ++ who ∷ []) ≡ Some who
-last_push named who =
-    let n : length (named ++ who ∷ []) - 1 ≡ length named = omega (arith, length-append named (who ∷ [])) in
-    ap (slice_get (named ++ who ∷ [])) n ∙ get_push named who
+-- the pieces of a text name these processes, and then those that are left
+abbrev pub Named : Option (List Who) → List Who → Option (List Who) → Type 0
+Named all named later = all ≡ option_map (λ more. named ++ more) later
 
--- the pieces of a text name these processes, and then what is left names
-abbrev pub Named : List ℕ → List Who → Option (List ℕ) → Type 0
-Named text named left = processes_after None (pieces_of 59 text) ≡ option_map (λ more. named ++ more) (processes_after (last_of named) (pieces_left 59 left))
+pub named_more : (all : Option (List Who)) (named : List Who) (before after : Option (List Who)) (who : Who) → before ≡ option_map (λ more. who ∷ more) after
+    → Named all named before → Named all (named ++ who ∷ []) after
+named_more all named before None who e h = h ∙ ap (option_map (λ more. named ++ more)) e
+named_more all named before (Some ws) who e h = h ∙ ap (option_map (λ more. named ++ more)) e ∙ ap (λ l. Some l) (sym (append_assoc named (who ∷ []) ws))
 
-pub named_end : (text : List ℕ) (named : List Who) → Named text named None → processes_after None (pieces_of 59 text) ≡ Some named
-unfolding processes_after
-named_end text named h = h ∙ ap (λ ws. Some ws) (append-nil named)
-
-pub named_more : (text : List ℕ) (named : List Who) (left : List ℕ) (who : Who) (rest : Option (List ℕ)) → next_process (last_of named) (front_of 59 left) ≡ Some who
-    → rest ≡ rest_of 59 left → Named text named (Some left) → Named text (named ++ who ∷ []) rest
-named_more text named left who rest e r h =
-    rw (last_push named who, r) (h ∙ ap (option_map (λ more. named ++ more)) (after_more (last_of named) left who e) ∙ by (processes_after (Some who) (pieces_left 59 (rest_of 59 left))))
-  where
-    by : (o : Option (List Who)) → option_map (λ more. named ++ more) (option_map (λ more. who ∷ more) o) ≡ option_map (λ more. (named ++ who ∷ []) ++ more) o
-    by None = refl
-    by (Some ws) = ap (λ l. Some l) (sym (append_assoc named (who ∷ []) ws))
-
-pub named_none : (text : List ℕ) (named : List Who) (left : List ℕ) → next_process (last_of named) (front_of 59 left) ≡ None → Named text named (Some left)
-    → processes_after None (pieces_of 59 text) ≡ None
-named_none text named left e h = h ∙ ap (option_map (λ more. named ++ more)) (after_none (last_of named) left e)
+-- they name no more where none is next, if they name processes at all
+pub named_all : (all : Option (List Who)) (named : List Who) (before after : Option (List Who)) (left : Option (List ℕ)) → IsSome all → after ≡ before
+    → after ≡ named_at_stop left → Named all named before → all ≡ Some named
+named_all all named before after None some same stops h = h ∙ ap (option_map (λ more. named ++ more)) (sym same ∙ stops) ∙ ap (λ ws. Some ws) (append-nil named)
+named_all all named before after (Some text) some same stops h =
+    absurd (true≢false (sym (subst IsSome (h ∙ ap (option_map (λ more. named ++ more)) (sym same ∙ stops)) some)))
 
 -- a text that names processes has more than none of them
 pub some_named : (text : List ℕ) (named : List Who) → processes_after None (pieces_of 59 text) ≡ Some named → named ≢ []
@@ -105,11 +89,6 @@ unfolding woken_of
 list_filled [] long list none = absurd (omega arith)
 list_filled (b ∷ bs) long list none =
     some_named (b ∷ bs) (processes_in (b ∷ bs)) (ok_some (processes_after None (pieces_of 59 (b ∷ bs))) BadWoken (processes_in (b ∷ bs)) list) none
-
--- the next process, from what the code read of it
-pub next_is : (last result : Option Who) (lent named : List Who) (front left : List ℕ) → result ≡ next_process last front
-    → last ≡ slice_get lent (length lent - 1) → lent ≡ named → front ≡ front_of 59 left → next_process (last_of named) (front_of 59 left) ≡ result
-next_is last result lent named front left h l n f = sym (h ∙ ap (λ w. next_process w front) (l ∙ ap last_of n) ∙ ap (next_process (last_of named)) f)
 
 -- the processes of a list rise, after a last one if there is one
 abbrev pub RisesAfter : Option Who → List Who → Type 0
@@ -136,3 +115,9 @@ rising_after last (piece ∷ pieces) named e =
     let who = found_first (λ w. option_map (λ more. w ∷ more) (processes_after (Some w) pieces)) (next_process last piece) named e in
     let rest = found_map (λ more. who.0 ∷ more) (processes_after (Some who.0) pieces) named who.2 in
     subst (RisesAfter last) rest.2 (rises_with last who.0 rest.0 (next_is_after last piece who.0 who.1) (rising_after (Some who.0) pieces rest.0 rest.1))
+
+-- the processes of a text that names such rise
+pub rising_all : (pieces : List (List ℕ)) (named : List Who) (before after : Option (List Who)) (left : Option (List ℕ)) → IsSome (processes_after None pieces)
+    → after ≡ before → after ≡ named_at_stop left → Named (processes_after None pieces) named before → IsRising named
+rising_all pieces named before after left some same stops h =
+    rising_after None pieces named (named_all (processes_after None pieces) named before after left some same stops h)

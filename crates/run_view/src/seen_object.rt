@@ -10,7 +10,7 @@ use crate::among::is_among;
 use crate::change::{Change, add};
 use crate::thing::{ThingKey, ThingView, thing_view};
 use apex_types::{ObjectKind, PartId};
-use object_table::ObjectTable;
+use partition_objects::ObjectTable;
 use partition_state::PartitionState;
 use std::alloc::{AllocError, Global};
 

@@ -101,7 +101,13 @@ impl<'a> Toy<'a> {
     }
 }
 
+/// The one thing of the toy, which every record but a pause touches.
+#[derive(Clone, Copy, Debug, PartialEq, Eq)]
+pub struct Queue;
+
 impl<'a> Tip for Toy<'a> {
+    type Thing = Queue;
+
     ghost use Rattle.std.specs.Prelude.{drop};
 
     ghost undecided = { λ toy. drop toy.decided toy.history.items };
@@ -153,13 +159,13 @@ impl<'a> Tip for Toy<'a> {
         self.last = Some(core);
     }
 
-    fn touched(&mut self, _core: usize, things: &mut Vec<u64>) -> Result<(), AllocError> {
-        things.push(0)?;
+    fn touched(&mut self, _core: usize, things: &mut Vec<Queue>) -> Result<(), AllocError> {
+        things.push(Queue)?;
         Ok(())
     }
 
-    fn blamed(&mut self, _core: usize, things: &mut Vec<u64>) -> Result<(), AllocError> {
-        things.push(0)?;
+    fn blamed(&mut self, _core: usize, things: &mut Vec<Queue>) -> Result<(), AllocError> {
+        things.push(Queue)?;
         Ok(())
     }
 

@@ -10,6 +10,9 @@ use Rattle.order_cert.specs.Kept.{none_taken, place_of, taken_of}
 use Rattle.order_cert.specs.Row.{pairs_of}
 use Rattle.placement.specs.Lanes.{Placing}
 use Rattle.placement.specs.Reading.{CanFail}
+use Rattle.program_ends.specs.declared.ending.Ending.{Ending}
+use Rattle.program_ends.specs.declared.ending.Ending.TheVariants.{Own}
+use Rattle.program_ends.specs.Endings.{out_of_memory}
 use Rattle.record_read.specs.Row.{records_of}
 use Rattle.report.specs.declared.fault.ArgumentFault.TheVariants.{ReaderCount}
 use Rattle.report.specs.declared.fault.CheckFault.{CheckFault}
@@ -28,9 +31,9 @@ use Rattle.verdict_merge.proofs.Refusing.{run_up_to_no}
 use Rattle.verdict_merge.proofs.Ruled.{run_where_yes}
 use Rattle.verdict_merge.specs.declared.verdict.Verdict.{Verdict}
 use Rattle.apex_machine.specs.Channels.{EndsAreApart}
-use Rattle.view_ending.specs.declared.ending.Ending.{Ending}
-use Rattle.view_ending.specs.declared.ending.Ending.TheVariants.{Checked}
-use Rattle.view_ending.specs.Endings.{out_of_memory}
+use Rattle.shown_files.specs.declared.ending.ViewEnd.{ViewEnd}
+use Rattle.shown_files.specs.declared.ending.ViewEnd.TheVariants.{Checked}
+use Rattle.shown_files.specs.Endings.{refusing}
 use Rattle.shown_files.specs.Shown.{EndsAs, IsShown}
 
 -- what is given by readers of these recordings, and by one of the certificate
@@ -65,7 +68,7 @@ answer_of_texts known readers bytes can_fail text relations settings configurati
 
 -- so is the end of a view
 pub end_of_texts : {A : Type 0} (known : A → Option (List ℕ)) (readers : List A) (bytes : Option (List ℕ)) (can_fail : CanFail) (text : List ℕ) (relations : List Relation) (settings : Settings)
-    (configuration : Configuration) (placing : Placing) (ending : Ending) → argument_fault_of settings ≡ None → configuration_of text ≡ Ok configuration
+    (configuration : Configuration) (placing : Placing) (ending : Ending ViewEnd) → argument_fault_of settings ≡ None → configuration_of text ≡ Ok configuration
     → length readers ≡ configuration.cores → placing.lanes ≡ map (λ reader. lane_of (option_map records_of (known reader)) []) readers → placing.pairs ≡ option_map pairs_of bytes
     → taken_of placing.kept ≡ none_taken → place_of placing.kept ≡ 0 → WindowsAreConfigured configuration → EndsAreApart configuration
     → IsShown can_fail configuration relations placing ending → EndsAs (given_as text known readers bytes can_fail) relations settings ending
@@ -74,20 +77,20 @@ end_of_texts known readers bytes can_fail text relations settings configuration 
     inr (outcome, is, answer_of_texts known readers bytes can_fail text relations settings configuration placing outcome none read cores opened pairs taken place windows ends answer)
 
 -- a lack of memory is an answer of any texts
-pub memory_ends : (given : Given) (relations : List Relation) (settings : Settings) (ending : Ending) → ending ≡ out_of_memory → EndsAs given relations settings ending
+pub memory_ends : (given : Given) (relations : List Relation) (settings : Settings) (ending : Ending ViewEnd) → ending ≡ out_of_memory refusing → EndsAs given relations settings ending
 memory_ends given relations settings ending is = inr (Err Memory, is, ([], λ recordings certificate e known. want_of_memory refl))
 
 -- the refusal of the configuration
 pub configuration_of_texts : {A : Type 0} (known : A → Option (List ℕ)) (readers : List A) (bytes : Option (List ℕ)) (can_fail : CanFail) (text : List ℕ) (relations : List Relation)
     (settings : Settings) (fault : ConfigFault) → argument_fault_of settings ≡ None → (fault ≢ config.Memory → configuration_of text ≡ Err fault)
-    → EndsAs (given_as text known readers bytes can_fail) relations settings (Checked (Err (config_refusal_of fault)))
+    → EndsAs (given_as text known readers bytes can_fail) relations settings (Own (Checked (Err (config_refusal_of fault))))
 configuration_of_texts known readers bytes can_fail text relations settings fault none read =
     inr (Err (config_refusal_of fault), refl, ([], λ recordings certificate e is. refused_configuration fault refl none read))
 
 -- the refusal of another number of recordings than the configured one
 pub count_of_texts : {A : Type 0} (known : A → Option (List ℕ)) (readers : List A) (bytes : Option (List ℕ)) (can_fail : CanFail) (text : List ℕ) (relations : List Relation) (settings : Settings)
     (configuration : Configuration) → argument_fault_of settings ≡ None → configuration_of text ≡ Ok configuration → length readers ≢ configuration.cores
-    → EndsAs (given_as text known readers bytes can_fail) relations settings (Checked (Err (Arguments ReaderCount)))
+    → EndsAs (given_as text known readers bytes can_fail) relations settings (Own (Checked (Err (Arguments ReaderCount))))
 count_of_texts known readers bytes can_fail text relations settings configuration none read apart =
     inr (
       Err (Arguments ReaderCount),

@@ -1,15 +1,18 @@
 // The files of a run, opened and shown.
 
 ghost use Rattle.std.specs.Prelude.{◌≡◌, ◌⊎◌, IfErr, IfOk, is_some, length, vec_len};
-ghost use Rattle.view_ending.specs.declared.ending.Ending.TheVariants.{Unopened};
-ghost use Rattle.view_ending.specs.Endings.{out_of_memory};
+ghost use Rattle.program_ends.specs.declared.ending.Ending.TheVariants.{Unopened};
+ghost use Rattle.program_ends.specs.Endings.{out_of_memory};
+ghost use Rattle.shown_files.specs.Endings.{refusing};
 ghost use Rattle.shown_files.specs.Files.{AreOpened, EndsAsAsked, IsOfFiles};
 
+use crate::ending::ViewEnd;
 use crate::shown::{Judged, Request, show_under};
 use crate::viewer::Viewer;
 use answer_words::{Explainer, InputNames, open, open_text};
 use asked_rules::{all_relations, read_rules};
 use csv_rows::{TextSource, Watched};
+use program_ends::{Ending, out_of_memory, refused_rules};
 use rule_options::RuleOptions;
 use sink::Sink;
 use std::alloc::Global;
@@ -18,7 +21,6 @@ use std::io;
 use std::io::ErrorKind;
 use std::sync::Wait;
 use std::thread::Threads;
-use view_ending::{Ending, out_of_memory, refused_by};
 
 /// The files of a run that should be shown, and the rules that options request for it.
 #[derive(Debug, Drop)]
@@ -36,7 +38,7 @@ pub fn show_files<R, V: Viewer, W: Sink>(
     viewer: &V,
     explainer: &mut Explainer,
     output: &mut W,
-) -> Ending
+) -> Ending<ViewEnd>
 where
     R: Files<File = File> + Threads + Wait + Sync + Copy + Send + 'static,
     ensures { IsOfFiles ⟦<Watched<File> as TextSource>⟧.remaining ⟦<Watched<File> as TextSource>⟧.can_fail asked.now result }
@@ -62,9 +64,9 @@ impl Opened<Watched<File>> {
         alloc: Global,
         names: &InputNames,
         explainer: &mut Explainer,
-    ) -> Result<Opened<Watched<File>>, Ending>
+    ) -> Result<Opened<Watched<File>>, Ending<ViewEnd>>
         ensures opened { IfOk result (AreOpened names.now) }
-        ensures refused { IfErr result (λ ending. (ending ≡ Unopened) ⊎ (ending ≡ out_of_memory)) }
+        ensures refused { IfErr result (λ ending. (ending ≡ Unopened) ⊎ (ending ≡ out_of_memory refusing)) }
     {
         let config = reported(
             explainer,
@@ -93,7 +95,7 @@ impl<S: TextSource + Drop + Send + 'static> Opened<S> {
         viewer: &V,
         explainer: &mut Explainer,
         output: &mut W,
-    ) -> Ending
+    ) -> Ending<ViewEnd>
     where
         R: Files<File = File> + Threads + Wait + Sync + Copy + Send + 'static,
         ensures { EndsAsAsked S.remaining S.can_fail self asked.now result }
@@ -109,7 +111,7 @@ impl<S: TextSource + Drop + Send + 'static> Opened<S> {
             Ok(rules) => rules,
             Err(refusal) => {
                 explainer.note_rules(&asked.names, &refusal, rules_text);
-                return refused_by(refusal.fault);
+                return refused_rules(refusal.fault);
             }
         };
         let Ok(options) = asked.options.in_order(alloc) else {
@@ -140,8 +142,8 @@ fn reported<T: Drop>(
     explainer: &mut Explainer,
     name: &str,
     answer: io::Result<T>,
-) -> Result<T, Ending>
-    ensures { IfErr result (λ ending. (ending ≡ Unopened) ⊎ (ending ≡ out_of_memory)) }
+) -> Result<T, Ending<ViewEnd>>
+    ensures { IfErr result (λ ending. (ending ≡ Unopened) ⊎ (ending ≡ out_of_memory refusing)) }
 {
     match answer {
         Ok(value) => Ok(value),
@@ -158,9 +160,9 @@ fn open_rules<R: Files<File = File>>(
     alloc: Global,
     names: &InputNames,
     explainer: &mut Explainer,
-) -> Result<Option<Vec<u8>>, Ending>
+) -> Result<Option<Vec<u8>>, Ending<ViewEnd>>
     ensures opened { IfOk result (λ rules. is_some rules ≡ is_some names.now.rules) }
-    ensures refused { IfErr result (λ ending. (ending ≡ Unopened) ⊎ (ending ≡ out_of_memory)) }
+    ensures refused { IfErr result (λ ending. (ending ≡ Unopened) ⊎ (ending ≡ out_of_memory refusing)) }
 {
     match &names.rules {
         None => Ok(None),
@@ -176,9 +178,9 @@ fn open_cores<R: Files<File = File>>(
     alloc: Global,
     names: &InputNames,
     explainer: &mut Explainer,
-) -> Result<Vec<Watched<File>>, Ending>
+) -> Result<Vec<Watched<File>>, Ending<ViewEnd>>
     ensures opened { IfOk result (λ cores. vec_len cores ≡ vec_len names.now.cores) }
-    ensures refused { IfErr result (λ ending. (ending ≡ Unopened) ⊎ (ending ≡ out_of_memory)) }
+    ensures refused { IfErr result (λ ending. (ending ≡ Unopened) ⊎ (ending ≡ out_of_memory refusing)) }
 {
     let mut cores = Vec::new(alloc);
     for name in names.cores.iter() {

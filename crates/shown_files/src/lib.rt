@@ -5,9 +5,11 @@
 //! refused. A viewer decides nothing of that: its end is the answer of the check.
 #![tactic(auto)]
 
+mod ending;
 mod files;
 mod shown;
 mod viewer;
 
+pub use ending::ViewEnd;
 pub use files::{FilesAsked, show_files};
 pub use viewer::{Shown, Viewer};

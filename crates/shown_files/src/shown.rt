@@ -5,9 +5,11 @@ ghost use Rattle.report.specs.declared.settings.Settings.{Settings};
 ghost use Rattle.report.specs.Answers.{given_by};
 ghost use Rattle.report.specs.Outcome.{argument_fault_of, config_refusal_of};
 ghost use Rattle.user_rules.specs.Rules.{relations_of};
-ghost use Rattle.view_ending.specs.declared.ending.Ending.TheVariants.{Checked};
+ghost use Rattle.program_ends.specs.declared.ending.Ending.TheVariants.{Own};
+ghost use Rattle.shown_files.specs.declared.ending.ViewEnd.TheVariants.{Checked};
 ghost use Rattle.shown_files.specs.Shown.{EndsAs};
 
+use crate::ending::ViewEnd;
 use crate::viewer::{Shown, Viewer};
 use answer_words::{Explainer, InputNames};
 use apex_types::View;
@@ -16,6 +18,7 @@ use csv_rows::TextSource;
 use module_config::{Config, ConfigFault};
 use order_cert::CertSource;
 use placement::Placer;
+use program_ends::{Ending, out_of_memory};
 use report::{ArgumentFault, CheckFault};
 use rule_options::RuleOption;
 use rules_file::NamedRule;
@@ -25,7 +28,6 @@ use std::fs::{File, Files};
 use std::sync::Wait;
 use std::thread::Threads;
 use user_rules::{Relation, Rule, Test};
-use view_ending::{Ending, out_of_memory};
 
 /// How many records of a core are read ahead.
 const DEPTH: usize = 64;
@@ -61,7 +63,7 @@ pub fn show_under<T, R, C, V: Viewer, W: Sink>(
     viewer: &V,
     explainer: &mut Explainer,
     output: &mut W,
-) -> Ending
+) -> Ending<ViewEnd>
 where
     T: Files<File = File> + Threads + Wait + Sync + Copy + Send + 'static,
     R: TextSource + Drop + Send + 'static,
@@ -96,7 +98,7 @@ fn show_judged<T, R, C, V: Viewer, W: Sink>(
     viewer: &V,
     explainer: &mut Explainer,
     output: &mut W,
-) -> Ending
+) -> Ending<ViewEnd>
 where
     T: Files<File = File> + Threads + Wait + Sync + Copy + Send + 'static,
     R: TextSource + Drop + Send + 'static,
@@ -108,7 +110,9 @@ where
         Err(fault) => return refused_configuration(fault),
     };
     if judged.recordings.len() != config.cores() as usize {
-        return Ending::Checked(Err(CheckFault::Arguments(ArgumentFault::ReaderCount)));
+        return Ending::Own(ViewEnd::Checked(Err(CheckFault::Arguments(
+            ArgumentFault::ReaderCount,
+        ))));
     }
     config.keeps_limits();
     let Judged {
@@ -132,11 +136,11 @@ where
 }
 
 // The end for a fault of the configuration. A lack of memory counts as the check's own.
-fn refused_configuration(fault: ConfigFault) -> Ending
-    ensures { result ≡ Checked (Err (config_refusal_of fault)) }
+fn refused_configuration(fault: ConfigFault) -> Ending<ViewEnd>
+    ensures { result ≡ Own (Checked (Err (config_refusal_of fault))) }
 {
     match fault {
         ConfigFault::Memory => out_of_memory(),
-        _ => Ending::Checked(Err(CheckFault::Config(fault))),
+        _ => Ending::Own(ViewEnd::Checked(Err(CheckFault::Config(fault)))),
     }
 }

@@ -6,10 +6,12 @@ ghost use Rattle.placement.specs.Lanes.{AreHonest};
 ghost use Rattle.user_rules.specs.Rules.{relations_of};
 ghost use Rattle.shown_files.specs.Shown.{IsShown};
 
+use crate::ending::ViewEnd;
 use answer_words::{Explainer, InputNames};
 use csv_rows::TextSource;
 use module_config::Config;
 use placement::Placer;
+use program_ends::Ending;
 use rule_options::RuleOption;
 use rules_file::NamedRule;
 use sink::Sink;
@@ -17,7 +19,6 @@ use std::alloc::Global;
 use std::fs::{File, Files};
 use std::sync::Wait;
 use user_rules::Rule;
-use view_ending::Ending;
 
 /// A run that is shown: its configuration, its files as the command line names them, and its rules, those of options first.
 #[derive(Clone, Copy)]
@@ -44,7 +45,7 @@ pub trait Viewer {
         placer: &mut Placer<S, C>,
         explainer: &mut Explainer,
         output: &mut W,
-    ) -> Ending
+    ) -> Ending<ViewEnd>
     where
         R: Files<File = File> + Wait,
         requires going { placer.old.ended ≡ false }

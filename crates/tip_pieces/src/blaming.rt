@@ -3,7 +3,7 @@
 use crate::held::{clock_of, partition_of};
 use crate::pieces::{Pieces, Rejection};
 use crate::reach::touched_by_call;
-use crate::things;
+use crate::things::Thing;
 use apex_machine::{Process, Wait};
 use apex_types::{Body, Cause, CoreId, Ordered, PartId, Who, Woken};
 use piece_check::{Piece, Subject};
@@ -16,7 +16,7 @@ pub fn blame(
     ordered: &Ordered,
     time: u64,
     rejection: Rejection,
-    things: &mut Vec<u64>,
+    things: &mut Vec<Thing>,
 ) -> Result<(), AllocError> {
     if rejection.piece == 0 || matches!(rejection.cause, Cause::Names | Cause::Window) {
         return Ok(());
@@ -27,11 +27,11 @@ pub fn blame(
     match piece.subject() {
         Subject::Module => Ok(()),
         Subject::Channel(number) => {
-            things.push(things::channel(number))?;
+            things.push(Thing::Channel(number))?;
             blame_call(&ordered.rec.body, things)
         }
         Subject::Partition(part) => {
-            things.push(things::mode(part))?;
+            things.push(Thing::Mode(part))?;
             blame_in_partition(piece, part, ordered, time, rejection.cause, things)
         }
     }
@@ -44,7 +44,7 @@ fn blame_in_partition(
     ordered: &Ordered,
     time: u64,
     cause: Cause,
-    things: &mut Vec<u64>,
+    things: &mut Vec<Thing>,
 ) -> Result<(), AllocError> {
     if cause == Cause::Choice {
         return blame_choice(piece, part, ordered, things);
@@ -52,7 +52,7 @@ fn blame_in_partition(
     match &ordered.rec.body {
         Body::Disp(_) => Ok(()),
         Body::Ret(ret) => {
-            things.push(things::process(ret.who))?;
+            things.push(Thing::from(ret.who))?;
             Ok(())
         }
         Body::Call(_) => blame_call(&ordered.rec.body, things),
@@ -64,10 +64,10 @@ fn blame_in_partition(
 }
 
 // Adds what a call is about, and its caller.
-fn blame_call(body: &Body, things: &mut Vec<u64>) -> Result<(), AllocError> {
+fn blame_call(body: &Body, things: &mut Vec<Thing>) -> Result<(), AllocError> {
     match body {
         Body::Call(call) => {
-            things.push(things::process(call.who))?;
+            things.push(Thing::from(call.who))?;
             touched_by_call(call, things)
         }
         Body::Ret(_) | Body::Disp(_) | Body::Tick(_) => Ok(()),
@@ -79,15 +79,15 @@ fn blame_choice(
     piece: &Piece,
     part: PartId,
     ordered: &Ordered,
-    things: &mut Vec<u64>,
+    things: &mut Vec<Thing>,
 ) -> Result<(), AllocError> {
     if let Some(state) = partition_of(piece) {
         if let Some(who) = state.processes().ready_on(part, ordered.core) {
-            things.push(things::process(who))?;
+            things.push(Thing::from(who))?;
         }
     }
     if let Some(who) = expected_by(piece, ordered) {
-        things.push(things::process(who))?;
+        things.push(Thing::from(who))?;
     }
     Ok(())
 }
@@ -109,7 +109,7 @@ fn blame_tick(
     core: CoreId,
     time: u64,
     woken: &Woken,
-    things: &mut Vec<u64>,
+    things: &mut Vec<Thing>,
 ) -> Result<(), AllocError> {
     // The initialising process is not among those that are counted.
     for index in 0..usize::saturating_add(table.len(), 1) {
@@ -117,7 +117,7 @@ fn blame_tick(
             let who = Who { part, proc: *proc };
             let is_named = woken.as_slice().contains(&who);
             if falls_due(process, core, time.saturating_add(1)) != is_named {
-                things.push(things::process(who))?;
+                things.push(Thing::from(who))?;
             }
         }
     }

@@ -1,6 +1,6 @@
 // Whether records of other cores can tell that a record was taken, and what it touches.
 
-use crate::things;
+use crate::things::Thing;
 use apex_types::{
     BlackboardOperation, Body, Call, CallerOperation, Code, CoreId, EventOperation, NewObject,
     ObjectKind, ObjectOperation, Out, PartId, ProcessOperation, QueuingOperation, Request,
@@ -119,13 +119,13 @@ fn is_free_call(reach: Reach, call: &Call) -> bool {
     }
 }
 
-/// What a record touches.
-pub fn touched(body: &Body, into: &mut Vec<u64>) -> Result<(), AllocError> {
+/// Adds what a record touches.
+pub fn touched(body: &Body, into: &mut Vec<Thing>) -> Result<(), AllocError> {
     match body {
         Body::Disp(_) | Body::Ret(_) => Ok(()),
         Body::Tick(woken) => {
             for who in woken.as_slice() {
-                into.push(things::process(*who))?;
+                into.push(Thing::from(*who))?;
             }
             Ok(())
         }
@@ -133,45 +133,53 @@ pub fn touched(body: &Body, into: &mut Vec<u64>) -> Result<(), AllocError> {
     }
 }
 
-/// What a call is about.
-pub fn touched_by_call(call: &Call, into: &mut Vec<u64>) -> Result<(), AllocError> {
-    let part = call.who.part;
+/// Adds what a call is about.
+pub fn touched_by_call(call: &Call, into: &mut Vec<Thing>) -> Result<(), AllocError> {
     if changes_caller(call) {
-        into.push(things::process(call.who))?;
+        into.push(Thing::from(call.who))?;
     }
     for who in call.claim.woken.as_slice() {
-        into.push(things::process(*who))?;
+        into.push(Thing::from(*who))?;
     }
-    if let Some(chan) = call.claim.chan {
-        into.push(things::channel(chan))?;
+    if let Some(channel) = call.claim.chan {
+        into.push(Thing::Channel(channel))?;
     }
-    let made = call.claim.val.unwrap_or(0);
-    match &call.request {
-        Request::CreateProcess { .. } => into.push(things::numbered(part, made))?,
-        Request::Process(number, _) => into.push(things::numbered(part, *number))?,
-        Request::Caller(_) => {}
-        Request::SetPartitionMode(_) => into.push(things::mode(part))?,
-        Request::Create(_, made_object) => {
-            let kind = made_object.kind();
-            into.push(things::object(part, kind, made))?;
-        }
-        Request::Object(number, operation) => {
-            into.push(things::object(part, operation.kind(), *number))?;
-        }
-        Request::SamplingPort(number, _) => into.push(things::object(
-            part,
-            ObjectKind::SamplingPort,
-            *number,
-        ))?,
-        Request::QueuingPort(number, _) => into.push(things::object(
-            part,
-            ObjectKind::QueuingPort,
-            *number,
-        ))?,
-        Request::GetId(_, _) => {}
-        Request::GetStatus(kind, number) => into.push(things::object(part, *kind, *number))?,
+    if let Some(thing) = requested(call) {
+        into.push(thing)?;
     }
     Ok(())
+}
+
+// What a call's request is about. A number that the call makes is its value.
+fn requested(call: &Call) -> Option<Thing> {
+    let partition = call.who.part;
+    let made = call.claim.val.unwrap_or(0);
+    let (kind, number) = match &call.request {
+        Request::CreateProcess { .. } => {
+            return Some(Thing::Process {
+                partition,
+                number: made,
+            });
+        }
+        Request::Process(number, _) => {
+            return Some(Thing::Process {
+                partition,
+                number: *number,
+            });
+        }
+        Request::SetPartitionMode(_) => return Some(Thing::Mode(partition)),
+        Request::Caller(_) | Request::GetId(_, _) => return None,
+        Request::Create(_, object) => (object.kind(), made),
+        Request::Object(number, operation) => (operation.kind(), *number),
+        Request::SamplingPort(number, _) => (ObjectKind::SamplingPort, *number),
+        Request::QueuingPort(number, _) => (ObjectKind::QueuingPort, *number),
+        Request::GetStatus(kind, number) => (*kind, *number),
+    };
+    Some(Thing::Object {
+        partition,
+        kind,
+        number,
+    })
 }
 
 // Whether a call changes whether its caller is ready, or its position among the ready processes.

@@ -14,7 +14,7 @@ use Rattle.user_rules.specs.declared.broken.Broken.{Broken}
 use Rattle.user_rules.specs.declared.relation.Relation.{Relation}
 use Rattle.user_rules.specs.FirstBroken.{IsFirstRuleBroken, IsFirstViewBroken, MeetsAll}
 use Rattle.verdict_merge.specs.declared.breach.Seen.{Seen}
-use Rattle.verdict_merge.specs.declared.by_threads.Kept.{Kept}
+use Rattle.verdict_merge.specs.declared.kept.Kept.{Kept}
 use Rattle.verdict_merge.specs.Keeping.{AreRising, HasKept, seen_in}
 use Rattle.verdict_merge.specs.Views.{AreSeen, IsFirstBreach, SeesNext, seen_of}
 use Rattle.verdict_merge.proofs.Among.{contains_after, contains_cases, contains_here, contains_none}
@@ -49,21 +49,17 @@ kept_one (first ∷ indices) [] index view even = absurd (omega (arith, even))
 kept_one (place ∷ indices) (first ∷ views) index view even =
     ap (λ list. record { index = place; view = first } ∷ list) (kept_one indices views index view (omega (arith, even)))
 
-pub has_kept : (given : Option View) (index : ℕ) (one : View) (old new : Kept) → given ≡ Some one → length old.indices.items ≡ length old.views.items
-    → new.indices.items ≡ old.indices.items ++ index ∷ [] → new.views.items ≡ old.views.items ++ one ∷ [] → HasKept given index old new
-has_kept given index one old new is even indices views = record {
-  seen = ap (λ list. seen_in list new.views.items) indices ∙ ap (λ list. seen_in (old.indices.items ++ index ∷ []) list) views
-      ∙ kept_one old.indices.items old.views.items index one even
-      ∙ ap (λ view. seen_in old.indices.items old.views.items ++ seen_of view index) (sym is);
-  even = omega (arith, even, ap length indices, ap length views, length-append old.indices.items (index ∷ []), length-append old.views.items (one ∷ []));
-}
+pub has_kept : (given : Option View) (index : ℕ) (one : View) (old : Kept) (indices : List ℕ) (views : List View) → given ≡ Some one
+    → indices ≡ old.indices.items ++ index ∷ [] → views ≡ old.views.items ++ one ∷ [] → seen_in indices views ≡ seen_in old.indices.items old.views.items ++ seen_of given index
+has_kept given index one old indices views is more_indices more_views =
+    ap (λ list. seen_in list views) more_indices ∙ ap (λ list. seen_in (old.indices.items ++ index ∷ []) list) more_views
+    ∙ kept_one old.indices.items old.views.items index one old.even
+    ∙ ap (λ view. seen_in old.indices.items old.views.items ++ seen_of view index) (sym is)
 
 -- without a view, none is kept
-pub none_more : (given : Option View) (index : ℕ) (kept : Kept) → given ≡ None → length kept.indices.items ≡ length kept.views.items → HasKept given index kept kept
-none_more given index kept none even = record {
-  seen = sym (append-nil (seen_in kept.indices.items kept.views.items)) ∙ ap (λ view. seen_in kept.indices.items kept.views.items ++ seen_of view index) (sym none);
-  even = even;
-}
+pub none_more : (given : Option View) (index : ℕ) (kept : Kept) → given ≡ None → HasKept given index kept kept
+none_more given index kept none =
+    sym (append-nil (seen_in kept.indices.items kept.views.items)) ∙ ap (λ view. seen_in kept.indices.items kept.views.items ++ seen_of view index) (sym none)
 
 -- the views that are kept, and the index of each
 

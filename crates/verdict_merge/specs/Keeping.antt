@@ -1,8 +1,9 @@
 -- The views that are kept of the records that a piece judges, to be tested afterwards.
-use Rattle.std.specs.Prelude.{◌≡◌, ◌<◌, ℕ, List, [], ◌∷◌, ◌++◌, Contains, Option, Some, None, length}
+use Rattle.std.specs.Prelude.{◌≡◌, ◌<◌, ◌≤◌, ℕ, List, [], ◌∷◌, ◌++◌, Contains, Option, Some, None, length}
+use Rattle.std.specs.Vec.{vec_capacity}
 use Rattle.apex_types.specs.declared.view.View.{View}
 use Rattle.verdict_merge.specs.declared.breach.Seen.{Seen}
-use Rattle.verdict_merge.specs.declared.by_threads.Kept.{Kept}
+use Rattle.verdict_merge.specs.declared.kept.Kept.{Kept}
 use Rattle.verdict_merge.specs.declared.finding.Refused.{Refused}
 use Rattle.verdict_merge.specs.Views.{seen_of}
 
@@ -23,6 +24,15 @@ view_unless None given = given
 view_unless (Some refused) given = None
 
 -- the view of the record with this index, if there is one, is kept after the views so far
-pub record HasKept (given : Option View) (index : ℕ) (old new : Kept) : Type 0 where
-  pub seen : seen_in new.indices.items new.views.items ≡ seen_in old.indices.items old.views.items ++ seen_of given index
-  pub even : length new.indices.items ≡ length new.views.items
+abbrev pub HasKept : Option View → ℕ → Kept → Kept → Type 0
+HasKept given index old new = seen_in new.indices.items new.views.items ≡ seen_in old.indices.items old.views.items ++ seen_of given index
+
+-- there is room for this many views
+pub record HasRoom (count : ℕ) (kept : Kept) : Type 0 where
+  pub indices : count ≤ vec_capacity kept.indices
+  pub views : count ≤ vec_capacity kept.views
+
+-- the room stays as it is
+pub record KeepsRoom (old new : Kept) : Type 0 where
+  pub indices : vec_capacity new.indices ≡ vec_capacity old.indices
+  pub views : vec_capacity new.views ≡ vec_capacity old.views

@@ -5,7 +5,7 @@ use Rattle.apex_types.specs.declared.record.Ordered.{Ordered}
 use Rattle.apex_machine.specs.Configuration.{Configuration}
 use Rattle.apex_machine.specs.Demands.{FirstFails, LocalStep, demands}
 use Rattle.apex_machine.specs.Pieces.{ModulePart, Part, Piece, part, pieces, touches}
-use Rattle.apex_machine.specs.Runs.{PieceRun, Refuses}
+use Rattle.apex_machine.specs.Runs.{AreOfCores, ArePlaced, PieceRun, Refuses}
 use Rattle.apex_machine.specs.State.{cold_state}
 use Rattle.piece_check.specs.declared.fault.PieceFault.{PieceFault}
 use Rattle.piece_check.specs.Parts.{Holding, HoldsBefore, IsOf, IsPartOf, piece_at}
@@ -71,6 +71,19 @@ pub record IsGoing (configuration : Configuration) (number place : ℕ) (holding
   pub of_module : IsOf configuration holding
   pub whose : IsPartOf (piece_at configuration number) holding.part
   pub holds_before : HoldsBefore place holding.part
+
+-- the piece of this number may judge these records, the first of which is at this place
+pub record MayGoOver (configuration : Configuration) (number first : ℕ) (records : List Ordered) (holding : Holding) : Type 0 where
+  pub piece : number < length (pieces configuration)
+  pub going : IsGoing configuration number first holding
+  pub placed : ArePlaced first records
+  pub cores : AreOfCores configuration.cores records
+
+-- a piece of this module may judge this record next
+pub record MayStep (configuration : Configuration) (holding : Holding) (ordered : Ordered) : Type 0 where
+  pub core : ordered.core < configuration.cores
+  pub of_module : IsOf configuration holding
+  pub holds_before : HoldsBefore ordered.pos holding.part
 
 -- how the piece of this number judged a record that touches it: it made its step, or rejected the record for the first demand that
 -- fails and kept its part

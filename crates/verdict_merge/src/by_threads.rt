@@ -1,7 +1,6 @@
 // One piece judges the records of a round, and several threads test the views of those that it judges.
 
-ghost use Rattle.std.specs.Prelude.{◌≡◌, ◌<◌, ◌≤◌, [], IfOk, IfSome, IsTrue, List, OnErr, Option, length};
-ghost use Rattle.std.specs.Vec.{vec_capacity};
+ghost use Rattle.std.specs.Prelude.{◌≡◌, ◌<◌, [], IfOk, IfSome, IsTrue, List, OnErr, Option, length, suc};
 ghost use Rattle.apex_machine.specs.Pieces.{pieces};
 ghost use Rattle.apex_machine.specs.Runs.{ArePlaced, AreOfCores};
 ghost use Rattle.apex_machine.specs.Views.{view_in};
@@ -9,15 +8,16 @@ ghost use Rattle.piece_check.specs.Parts.{HoldsBefore, IsOf, holder};
 ghost use Rattle.user_rules.specs.Rules.{relations_of};
 ghost use Rattle.user_rules.specs.declared.relation.Relation.{Relation};
 ghost use Rattle.verdict_merge.specs.declared.breach.Breach.{Breach};
-ghost use Rattle.verdict_merge.specs.Keeping.{AreRising, HasKept, seen_in, view_unless};
-ghost use Rattle.verdict_merge.specs.Rounds.{HasJudged, IsGoing, IsJudgedOver};
+ghost use Rattle.verdict_merge.specs.Keeping.{AreRising, HasKept, HasRoom, KeepsRoom, seen_in, view_unless};
+ghost use Rattle.verdict_merge.specs.Rounds.{HasJudged, IsGoing, IsJudgedOver, MayGoOver, MayStep};
 ghost use Rattle.verdict_merge.specs.Views.{IsFirstBreach};
 
 use crate::breach::{Breach, Seen};
 use crate::fault::Memory;
 use crate::finding::Refused;
 use crate::judged::{Judged, judge_piece};
-use crate::outcome::{Lent, PieceOutcome, step_over};
+use crate::kept::Kept;
+use crate::outcome::{Lent, PieceOutcome, Seat, step_over};
 use apex_types::{Ordered, View};
 use piece_check::{Piece, subject_of};
 use std::alloc::Global;
@@ -28,20 +28,12 @@ use user_rules::{Rule, first_broken};
 // their tests.
 const MANY_RULES: usize = 16;
 
-// The views of the records that a piece has judged, in their order, and the indices of these records in their round.
-#[derive(Drop)]
-struct Kept {
-    indices: Vec<usize>,
-    views: Vec<View>,
-}
-
 impl Kept {
     // No view yet, with room for this many. None if memory is refused.
     fn with_room(alloc: Global, count: usize) -> Option<Kept>
         ensures no_index { IfSome result (λ kept. kept.indices.items ≡ []) }
         ensures no_view { IfSome result (λ kept. kept.views.items ≡ []) }
-        ensures room_of_indices { IfSome result (λ kept. count ≤ vec_capacity kept.indices) }
-        ensures room_of_views { IfSome result (λ kept. count ≤ vec_capacity kept.views) }
+        ensures room { IfSome result (HasRoom count) }
     {
         let indices = Vec::with_capacity(alloc, count).ok()?;
         let views = Vec::with_capacity(alloc, count).ok()?;
@@ -50,12 +42,9 @@ impl Kept {
 
     // Keeps the view of the record with this index, if there is one. Takes no memory.
     fn keep(&mut self, index: usize, view: Option<View>)
-        requires even { length self.old.indices.items ≡ length self.old.views.items }
-        requires room_of_indices { length self.old.indices.items < vec_capacity self.old.indices }
-        requires room_of_views { length self.old.views.items < vec_capacity self.old.views }
+        requires room { HasRoom (suc (length self.old.indices.items)) self.old }
         ensures kept { HasKept view index self.old self.new }
-        ensures room_of_indices { vec_capacity self.new.indices ≡ vec_capacity self.old.indices }
-        ensures room_of_views { vec_capacity self.new.views ≡ vec_capacity self.old.views }
+        ensures room { KeepsRoom self.old self.new }
     {
         if let Some(one) = view {
             self.indices.push_reserved(index);
@@ -65,7 +54,6 @@ impl Kept {
 
     // The breach of the first view that breaks a rule. Several threads test the views. Takes no memory.
     fn first_breach<R: Threads + Sync>(&self, rt: &R, rules: &[Rule]) -> Option<Breach>
-        requires even { length self.now.indices.items ≡ length self.now.views.items }
         requires rising { AreRising (seen_in self.now.indices.items self.now.views.items) }
         ensures { IsFirstBreach (relations_of rules.now) (seen_in self.now.indices.items self.now.views.items) result }
     {
@@ -102,7 +90,11 @@ pub fn judge_piece_by_threads<R: Threads + Sync>(
     let Some(mut kept) = Kept::with_room(alloc, lent.records.len()) else {
         return judge_piece(lent, rules, number, piece);
     };
-    match go_over_untested(lent, number, &mut piece, &mut kept) {
+    let seat = Seat {
+        lent: *lent,
+        number,
+    };
+    match go_over_untested(&seat, &mut piece, &mut kept) {
         Ok(found) => {
             let breach = kept.first_breach(rt, rules);
             Ok(Judged {
@@ -117,35 +109,29 @@ pub fn judge_piece_by_threads<R: Threads + Sync>(
     }
 }
 
-// Lets the piece of this number judge the records that touch it, up to the first that it rejects, which leaves the piece as it was
+// Lets the piece of a seat judge the records that touch it, up to the first that it rejects, which leaves the piece as it was
 // before that record. Returns its refusal if it rejected a record. The view of each record that it judges is kept, and none is tested.
 //
 // Memory if the piece was refused memory.
 fn go_over_untested(
-    lent: &Lent,
-    number: usize,
+    seat: &Seat,
     piece: &mut Piece,
     kept: &mut Kept,
 ) -> Result<Option<Refused>, Memory>
-    requires piece { number < length (pieces lent.now.config.now) }
-    requires going { IsGoing lent.now.config.now number lent.now.first piece.old }
-    requires placed { ArePlaced lent.now.first lent.now.records.now }
-    requires cores { AreOfCores lent.now.config.now.cores lent.now.records.now }
-    requires no_index { kept.old.indices.items ≡ [] }
-    requires no_view { kept.old.views.items ≡ [] }
-    requires room_of_indices { length lent.now.records.now ≤ vec_capacity kept.old.indices }
-    requires room_of_views { length lent.now.records.now ≤ vec_capacity kept.old.views }
+    requires may { MayGoOver seat.now.lent.config.now seat.now.number seat.now.lent.first seat.now.lent.records.now piece.old }
+    requires none { kept.old.indices.items ≡ [] }
+    requires room { HasRoom (length seat.now.lent.records.now) kept.old }
     ensures outcome { IfOk result (λ found. (relations : List Relation) (breach : Option Breach)
         → IsFirstBreach relations (seen_in kept.new.indices.items kept.new.views.items) breach
-        → IsJudgedOver lent.now.config.now number lent.now.first lent.now.records.now relations piece.old (record { found = found; breach = breach }) piece.new) }
-    ensures even { IfOk result (λ _. length kept.new.indices.items ≡ length kept.new.views.items) }
+        → IsJudgedOver seat.now.lent.config.now seat.now.number seat.now.lent.first seat.now.lent.records.now relations piece.old (record { found = found; breach = breach }) piece.new) }
     ensures rising { IfOk result (λ _. AreRising (seen_in kept.new.indices.items kept.new.views.items)) }
     ensures memory { OnErr result (IsTrue piece.new.exhausted) }
 {
-    let subject = subject_of(lent.config, number);
+    let lent = &seat.lent;
+    let subject = subject_of(lent.config, seat.number);
     let records = lent.records;
     for index in lent.touched.of(&subject) {
-        match judge_and_keep(lent, number, piece, index, &records[index], kept) {
+        match judge_and_keep(seat, piece, index, &records[index], kept) {
             Ok(None) => {}
             Ok(Some(refused)) => return Ok(Some(refused)),
             Err(memory) => return Err(memory),
@@ -154,28 +140,22 @@ fn go_over_untested(
     Ok(None)
 }
 
-// Lets the piece of this number judge a record that touches it. Returns its refusal if it rejects the record. Else the record's view is
+// Lets the piece of a seat judge a record that touches it. Returns its refusal if it rejects the record. Else the record's view is
 // kept, if the piece has one. Memory if the piece was refused memory.
 #[tactic(auto, using(crate::proofs::Keeping::none_more))]
 fn judge_and_keep(
-    lent: &Lent,
-    number: usize,
+    seat: &Seat,
     piece: &mut Piece,
     index: usize,
     ordered: &Ordered,
     kept: &mut Kept,
 ) -> Result<Option<Refused>, Memory>
-    requires core { ordered.now.core < lent.now.config.now.cores }
-    requires of_module { IsOf lent.now.config.now piece.old }
-    requires holds_before { HoldsBefore ordered.now.pos piece.old.part }
-    requires even { length kept.old.indices.items ≡ length kept.old.views.items }
-    requires room_of_indices { length kept.old.indices.items < vec_capacity kept.old.indices }
-    requires room_of_views { length kept.old.views.items < vec_capacity kept.old.views }
-    ensures judged { IfOk result (λ refused. HasJudged lent.now.config.now number ordered.now piece.old refused piece.new) }
+    requires step { MayStep seat.now.lent.config.now piece.old ordered.now }
+    requires room { HasRoom (suc (length kept.old.indices.items)) kept.old }
+    ensures judged { IfOk result (λ refused. HasJudged seat.now.lent.config.now seat.now.number ordered.now piece.old refused piece.new) }
     ensures kept { IfOk result (λ refused. HasKept (view_unless refused (view_in piece.old.part ordered.now)) index kept.old kept.new) }
-    ensures room_of_indices { vec_capacity kept.new.indices ≡ vec_capacity kept.old.indices }
-    ensures room_of_views { vec_capacity kept.new.views ≡ vec_capacity kept.old.views }
-    ensures of_module { IfOk result (λ _. IsOf lent.now.config.now piece.new) }
+    ensures room { KeepsRoom kept.old kept.new }
+    ensures of_module { IfOk result (λ _. IsOf seat.now.lent.config.now piece.new) }
     ensures whose { holder piece.new.part ≡ holder piece.old.part }
     ensures memory { OnErr result (IsTrue piece.new.exhausted) }
 {
@@ -183,7 +163,7 @@ fn judge_and_keep(
         return Ok(None);
     }
     let view = piece.view(ordered);
-    match step_over(lent, number, piece, index, ordered) {
+    match step_over(seat, piece, index, ordered) {
         Ok(None) => {
             kept.keep(index, view);
             Ok(None)

@@ -38,6 +38,7 @@ mod fault;
 mod finding;
 mod gathering;
 mod judged;
+mod kept;
 mod laws;
 mod outcome;
 mod plain;

@@ -8,7 +8,7 @@ ghost use Rattle.piece_check.specs.Parts.{HoldsBefore, IsOf, holder};
 ghost use Rattle.piece_check.specs.Touching.{AreSortedOut, indices_of};
 ghost use Rattle.piece_check.specs.Found.{IsWindowAt};
 ghost use Rattle.user_rules.specs.Rules.{relations_of};
-ghost use Rattle.verdict_merge.specs.Rounds.{HasJudged, IsGoing, IsJudgedOver, IsRefusal};
+ghost use Rattle.verdict_merge.specs.Rounds.{HasJudged, IsGoing, IsJudgedOver, IsRefusal, MayStep};
 ghost use Rattle.verdict_merge.specs.Views.{HasTested, IsFirstBreach, first_some, seen_of};
 
 use crate::breach::{Breach, Seen};
@@ -75,6 +75,13 @@ impl<'a> Lent<'a> {
     }
 }
 
+/// The seat of a piece in a round: what is lent to the piece, and its number.
+#[derive(Clone, Copy)]
+pub(crate) struct Seat<'a> {
+    pub lent: Lent<'a>,
+    pub number: usize,
+}
+
 /// The outcome of a piece that judged the records of a round.
 #[derive(Clone, Copy, Debug)]
 pub struct PieceOutcome {
@@ -101,19 +108,15 @@ pub fn go_over(
     ensures outcome { IfOk result (λ outcome. IsJudgedOver lent.now.config.now number lent.now.first lent.now.records.now (relations_of rules.now) piece.old outcome piece.new) }
     ensures memory { OnErr result (IsTrue piece.new.exhausted) }
 {
+    let seat = Seat {
+        lent: *lent,
+        number,
+    };
     let subject = subject_of(lent.config, number);
     let records = lent.records;
     let mut breach = None;
     for index in lent.touched.of(&subject) {
-        match judge_one(
-            lent,
-            rules,
-            number,
-            piece,
-            index,
-            &records[index],
-            &mut breach,
-        ) {
+        match judge_one(&seat, rules, piece, index, &records[index], &mut breach) {
             Ok(None) => {}
             Ok(Some(refused)) => {
                 return Ok(PieceOutcome {
@@ -130,24 +133,21 @@ pub fn go_over(
     })
 }
 
-// Lets the piece of this number judge a record that touches it. Returns its refusal if it rejects the record. Else the breach so far
+// Lets the piece of a seat judge a record that touches it. Returns its refusal if it rejects the record. Else the breach so far
 // is kept, or that of the record's view. Memory if the piece was refused memory.
 #[tactic(auto, using(crate::proofs::Untested::untested, crate::proofs::Untested::unruled))]
 fn judge_one(
-    lent: &Lent,
+    seat: &Seat,
     rules: &[Rule],
-    number: usize,
     piece: &mut Piece,
     index: usize,
     ordered: &Ordered,
     breach: &mut Option<Breach>,
 ) -> Result<Option<Refused>, Memory>
-    requires core { ordered.now.core < lent.now.config.now.cores }
-    requires of_module { IsOf lent.now.config.now piece.old }
-    requires holds_before { HoldsBefore ordered.now.pos piece.old.part }
-    ensures judged { IfOk result (λ refused. HasJudged lent.now.config.now number ordered.now piece.old refused piece.new) }
+    requires { MayStep seat.now.lent.config.now piece.old ordered.now }
+    ensures judged { IfOk result (λ refused. HasJudged seat.now.lent.config.now seat.now.number ordered.now piece.old refused piece.new) }
     ensures tested { IfOk result (λ refused. HasTested (relations_of rules.now) (view_in piece.old.part ordered.now) index refused breach.old breach.new) }
-    ensures of_module { IfOk result (λ _. IsOf lent.now.config.now piece.new) }
+    ensures of_module { IfOk result (λ _. IsOf seat.now.lent.config.now piece.new) }
     ensures whose { holder piece.new.part ≡ holder piece.old.part }
     ensures memory { OnErr result (IsTrue piece.new.exhausted) }
 {
@@ -155,33 +155,30 @@ fn judge_one(
         return Ok(None);
     }
     if rules.is_empty() {
-        return step_over(lent, number, piece, index, ordered);
+        return step_over(seat, piece, index, ordered);
     }
-    judge_and_test(lent, rules, number, piece, index, ordered, breach)
+    judge_and_test(seat, rules, piece, index, ordered, breach)
 }
 
 // The same for a record that is not passed by, with the test of its view. It is a function of its own, so that no room is made for a view
 // if there are no rules.
 fn judge_and_test(
-    lent: &Lent,
+    seat: &Seat,
     rules: &[Rule],
-    number: usize,
     piece: &mut Piece,
     index: usize,
     ordered: &Ordered,
     breach: &mut Option<Breach>,
 ) -> Result<Option<Refused>, Memory>
-    requires core { ordered.now.core < lent.now.config.now.cores }
-    requires of_module { IsOf lent.now.config.now piece.old }
-    requires holds_before { HoldsBefore ordered.now.pos piece.old.part }
-    ensures judged { IfOk result (λ refused. HasJudged lent.now.config.now number ordered.now piece.old refused piece.new) }
+    requires { MayStep seat.now.lent.config.now piece.old ordered.now }
+    ensures judged { IfOk result (λ refused. HasJudged seat.now.lent.config.now seat.now.number ordered.now piece.old refused piece.new) }
     ensures tested { IfOk result (λ refused. HasTested (relations_of rules.now) (view_in piece.old.part ordered.now) index refused breach.old breach.new) }
-    ensures of_module { IfOk result (λ _. IsOf lent.now.config.now piece.new) }
+    ensures of_module { IfOk result (λ _. IsOf seat.now.lent.config.now piece.new) }
     ensures whose { holder piece.new.part ≡ holder piece.old.part }
     ensures memory { OnErr result (IsTrue piece.new.exhausted) }
 {
     let next = breach_of(rules, piece, index, ordered);
-    match step_over(lent, number, piece, index, ordered) {
+    match step_over(seat, piece, index, ordered) {
         Ok(None) => {
             keep_first(breach, next);
             Ok(None)
@@ -191,27 +188,25 @@ fn judge_and_test(
     }
 }
 
-// Lets the piece of this number make its step over a record that touches it. Returns its refusal if it rejects the record. Memory if the
+// Lets the piece of a seat make its step over a record that touches it. Returns its refusal if it rejects the record. Memory if the
 // piece was refused memory.
 pub(crate) fn step_over(
-    lent: &Lent,
-    number: usize,
+    seat: &Seat,
     piece: &mut Piece,
     index: usize,
     ordered: &Ordered,
 ) -> Result<Option<Refused>, Memory>
-    requires core { ordered.now.core < lent.now.config.now.cores }
-    requires of_module { IsOf lent.now.config.now piece.old }
-    requires holds_before { HoldsBefore ordered.now.pos piece.old.part }
-    ensures judged { IfOk result (λ refused. HasJudged lent.now.config.now number ordered.now piece.old refused piece.new) }
-    ensures of_module { IfOk result (λ _. IsOf lent.now.config.now piece.new) }
+    requires { MayStep seat.now.lent.config.now piece.old ordered.now }
+    ensures judged { IfOk result (λ refused. HasJudged seat.now.lent.config.now seat.now.number ordered.now piece.old refused piece.new) }
+    ensures of_module { IfOk result (λ _. IsOf seat.now.lent.config.now piece.new) }
     ensures whose { holder piece.new.part ≡ holder piece.old.part }
     ensures memory { OnErr result (IsTrue piece.new.exhausted) }
 {
+    let lent = &seat.lent;
     let window = window_found(lent.config, lent.windows, index);
     match piece.step_at(lent.config, ordered, window) {
         Ok(()) => Ok(None),
-        Err(fault) => refused(fault, number),
+        Err(fault) => refused(fault, seat.number),
     }
 }
 

@@ -9,8 +9,10 @@ ghost use Rattle.verdict_merge.specs.Rounds.{AllRun, AreGoing, parts_in};
 ghost use Rattle.run_walk.specs.Kept.{IsKept};
 ghost use Rattle.run_walk.specs.Walks.{EachRuns};
 ghost use Rattle.shown_run.specs.Stretches.{IsWhole};
-ghost use Rattle.view_ending.specs.declared.ending.Ending.TheVariants.{Checked, Unwritten};
-ghost use Rattle.view_ending.specs.Endings.{out_of_memory};
+ghost use Rattle.program_ends.specs.declared.ending.Ending.TheVariants.{Own};
+ghost use Rattle.program_ends.specs.Endings.{out_of_memory};
+ghost use Rattle.shown_files.specs.declared.ending.ViewEnd.TheVariants.{Checked, Unwritten};
+ghost use Rattle.shown_files.specs.Endings.{refusing};
 ghost use Rattle.shown_files.specs.Shown.{IsShown};
 
 use crate::picture_witness::PictureWitness;
@@ -22,11 +24,12 @@ use csv_rows::TextSource;
 use module_config::Config;
 use piece_check::Piece;
 use placement::Placer;
+use program_ends::{Ending, Line, out_of_memory};
 use report::{CheckFault, Verdict};
 use run_view::{Change, Followed, LastSeen, Lawful, MessageLinks, Received, Sent};
 use run_walk::Walk;
 use sarif_report::name_of_cause;
-use shown_files::Shown;
+use shown_files::{Shown, ViewEnd};
 use shown_run::{Asked, Stretch, gather};
 use sink::Sink;
 use std::alloc::{AllocError, Global};
@@ -34,7 +37,6 @@ use std::collections::VecDeque;
 use std::fs::{File, Files};
 use std::sync::Wait;
 use user_rules::Rule;
-use view_ending::{Ending, Line, out_of_memory};
 use view_page::{PageFault, PageTexts, Strip, strips_of, write_html, write_svg};
 use view_picture::{Added, Picture, Status};
 use wording::{Count, Look, Words};
@@ -49,14 +51,14 @@ pub fn show_picture<R, S: TextSource, C: TextSource, W: Sink>(
     placer: &mut Placer<S, C>,
     explainer: &mut Explainer,
     output: &mut W,
-) -> Ending
+) -> Ending<ViewEnd>
 where
     R: Files<File = File> + Wait,
     requires going { placer.old.ended ≡ false }
     requires first { place_of placer.old.kept ≡ 0 }
     requires cores { length placer.old.lanes ≡ shown.now.config.now.cores }
     ensures shown { AreHonest S.can_fail placer.new.lanes → IsShown (record { recordings = S.can_fail; certificate = C.can_fail }) shown.now.config.now (relations_of rules.now) placer.old result }
-    ensures failed { result ≡ Unwritten → W.failures output.old < W.failures output.new }
+    ensures failed { result ≡ Own Unwritten → W.failures output.old < W.failures output.new }
 {
     let stretch = Asked {
         at: asked.at,
@@ -85,7 +87,7 @@ where
             }
             Err(_) => out_of_memory(),
         },
-        Err(fault) => Ending::Checked(Err(fault)),
+        Err(fault) => Ending::Own(ViewEnd::Checked(Err(fault))),
     }
 }
 
@@ -106,19 +108,19 @@ fn show_stretch<R, W: Sink>(
     gathered: Gathered,
     explainer: &mut Explainer,
     output: &mut W,
-) -> Ending
+) -> Ending<ViewEnd>
 where
     R: Files<File = File>,
     requires { IsWhole shown.now.config.now gathered.stretch }
-    ensures end { (result ≡ Unwritten) ⊎ (result ≡ out_of_memory) ⊎ (result ≡ Checked (Ok gathered.verdict)) }
-    ensures failed { result ≡ Unwritten → W.failures output.old < W.failures output.new }
+    ensures end { (result ≡ Own Unwritten) ⊎ (result ≡ out_of_memory refusing) ⊎ (result ≡ Own (Checked (Ok gathered.verdict))) }
+    ensures failed { result ≡ Own Unwritten → W.failures output.old < W.failures output.new }
 {
     let outcome = Ok(gathered.verdict);
     note_broken(explainer, alloc, shown.options, shown.rules, &outcome);
     match write_picture(rt, alloc, asked, shown, gathered, explainer, output) {
-        Ok(()) => Ending::Checked(outcome),
+        Ok(()) => Ending::Own(ViewEnd::Checked(outcome)),
         Err(PageFault::Memory) => out_of_memory(),
-        Err(PageFault::Unwritten) => Ending::Unwritten,
+        Err(PageFault::Unwritten) => Ending::Own(ViewEnd::Unwritten),
     }
 }
 
@@ -142,7 +144,7 @@ where
     let names = shown.names;
     let files = RunFiles { rt, alloc, names };
     let explanation = explanation_of(alloc, &files, &outcome, explainer)?;
-    let ending = Ending::Checked(outcome);
+    let ending = Ending::Own(ViewEnd::Checked(outcome));
     let line = Line::of(&ending);
     let picture = picture_of(rt, alloc, shown, gathered)?;
     let strips = strips_of(&picture)?;

@@ -4,8 +4,10 @@ ghost use Rattle.std.specs.Prelude.{◌≡◌, ◌⊎◌, false, length};
 ghost use Rattle.order_cert.specs.Kept.{place_of};
 ghost use Rattle.placement.specs.Lanes.{AreHonest};
 ghost use Rattle.user_rules.specs.Rules.{relations_of};
-ghost use Rattle.view_ending.specs.declared.ending.Ending.TheVariants.{Checked, Unwritten};
-ghost use Rattle.view_ending.specs.Endings.{out_of_memory};
+ghost use Rattle.program_ends.specs.declared.ending.Ending.TheVariants.{Own};
+ghost use Rattle.program_ends.specs.Endings.{out_of_memory};
+ghost use Rattle.shown_files.specs.declared.ending.ViewEnd.TheVariants.{Checked, Unwritten};
+ghost use Rattle.shown_files.specs.Endings.{refusing};
 ghost use Rattle.shown_files.specs.Shown.{IsShown};
 
 use answer_words::{Explainer, note_broken};
@@ -14,16 +16,16 @@ use csv_rows::TextSource;
 use module_config::Config;
 use piece_check::Piece;
 use placement::Placer;
+use program_ends::{Ending, out_of_memory};
 use report::{CheckFault, Verdict};
 use run_view::{Change, LastSeen, MessageLinks};
 use sarif_report::name_of_cause;
-use shown_files::Shown;
+use shown_files::{Shown, ViewEnd};
 use shown_run::{FollowFault, Follower, follow};
 use sink::Sink;
 use std::alloc::Global;
 use std::sync::Wait;
 use user_rules::Rule;
-use view_ending::{Ending, out_of_memory};
 use view_trace::{TraceFault, Tracer};
 
 /// Shows a run as a trace, up to the record that decides, or to the last place that may be shown. If the input has a fault, the trace of the records
@@ -37,7 +39,7 @@ pub fn show_trace<R: Wait, S: TextSource, C: TextSource, W: Sink>(
     placer: &mut Placer<S, C>,
     explainer: &mut Explainer,
     output: &mut W,
-) -> Ending
+) -> Ending<ViewEnd>
     requires going { placer.old.ended ≡ false }
     requires first { place_of placer.old.kept ≡ 0 }
     requires cores { length placer.old.lanes ≡ shown.now.config.now.cores }
@@ -88,11 +90,11 @@ impl<'a, 'b, W: Sink> Tracing<'a, 'b, W> {
     }
 
     // Ends the trace of a run that came to this outcome.
-    fn end(mut self, outcome: Result<Verdict, CheckFault>) -> Ending
-        ensures { (result ≡ Unwritten) ⊎ (result ≡ out_of_memory) ⊎ (result ≡ Checked outcome) }
+    fn end(mut self, outcome: Result<Verdict, CheckFault>) -> Ending<ViewEnd>
+        ensures { (result ≡ Own Unwritten) ⊎ (result ≡ out_of_memory refusing) ⊎ (result ≡ Own (Checked outcome)) }
     {
         match self.tracer.end() {
-            Ok(()) => Ending::Checked(outcome),
+            Ok(()) => Ending::Own(ViewEnd::Checked(outcome)),
             Err(fault) => cut_off(fault),
         }
     }
@@ -139,11 +141,11 @@ fn is_past(last: Option<u64>, ordered: &Ordered) -> bool {
 }
 
 // The end of a run whose trace is cut off by this fault.
-fn cut_off(fault: TraceFault) -> Ending
-    ensures { (result ≡ Unwritten) ⊎ (result ≡ out_of_memory) }
+fn cut_off(fault: TraceFault) -> Ending<ViewEnd>
+    ensures { (result ≡ Own Unwritten) ⊎ (result ≡ out_of_memory refusing) }
 {
     match fault {
         TraceFault::Memory => out_of_memory(),
-        TraceFault::Unwritten => Ending::Unwritten,
+        TraceFault::Unwritten => Ending::Own(ViewEnd::Unwritten),
     }
 }

@@ -11,13 +11,13 @@ use crate::traced::show_trace;
 use answer_words::Explainer;
 use csv_rows::TextSource;
 use placement::Placer;
-use shown_files::{Shown, Viewer};
+use program_ends::Ending;
+use shown_files::{Shown, ViewEnd, Viewer};
 use sink::Sink;
 use std::alloc::Global;
 use std::fs::{File, Files};
 use std::sync::Wait;
 use user_rules::Rule;
-use view_ending::Ending;
 
 /// What is written.
 #[derive(Clone, Copy, Debug, PartialEq, Eq)]
@@ -47,7 +47,7 @@ impl Viewer for ViewAsked {
         placer: &mut Placer<S, C>,
         explainer: &mut Explainer,
         output: &mut W,
-    ) -> Ending
+    ) -> Ending<ViewEnd>
     where
         R: Files<File = File> + Wait,
     {

@@ -1,4 +1,4 @@
-use Rattle.apex_laws.proofs.ConditionsMet.{codes_are_the_sentences}
+use Rattle.apex_laws.proofs.ListedConditions.{codes_are_the_sentences}
 use Rattle.apex_laws.proofs.codes_are_the_sentences.Goals as goal
 
 pub returns : goal.returns

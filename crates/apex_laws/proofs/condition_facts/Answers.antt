@@ -1,4 +1,4 @@
-use Rattle.apex_laws.proofs.Facts.{condition_facts}
+use Rattle.apex_laws.proofs.WorkedRun.{condition_facts}
 use Rattle.apex_laws.proofs.condition_facts.Goals as goal
 
 pub returns : goal.returns

@@ -1,4 +1,4 @@
-use Rattle.apex_laws.proofs.ConditionsMet.{conditions_are_the_sentences}
+use Rattle.apex_laws.proofs.ListedConditions.{conditions_are_the_sentences}
 use Rattle.apex_laws.proofs.conditions_are_the_sentences.Goals as goal
 
 pub returns : goal.returns

@@ -1,4 +1,4 @@
-use Rattle.apex_laws.proofs.Answers.{creation_is_the_sentence}
+use Rattle.apex_laws.proofs.ProcessRules.{creation_is_the_sentence}
 use Rattle.apex_laws.proofs.creation_is_the_sentence.Goals as goal
 
 pub returns : goal.returns

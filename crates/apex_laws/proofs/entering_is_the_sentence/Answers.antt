@@ -1,4 +1,4 @@
-use Rattle.apex_laws.proofs.Waits.{entering_is_the_sentence}
+use Rattle.apex_laws.proofs.Wakes.{entering_is_the_sentence}
 use Rattle.apex_laws.proofs.entering_is_the_sentence.Goals as goal
 
 pub returns : goal.returns

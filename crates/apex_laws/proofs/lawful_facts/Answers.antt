@@ -1,4 +1,4 @@
-use Rattle.apex_laws.proofs.Facts.{lawful_facts}
+use Rattle.apex_laws.proofs.WorkedRun.{lawful_facts}
 use Rattle.apex_laws.proofs.lawful_facts.Goals as goal
 
 pub returns : goal.returns

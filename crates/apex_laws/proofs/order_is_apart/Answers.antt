@@ -1,4 +1,4 @@
-use Rattle.apex_laws.proofs.InOrder.{order_is_apart}
+use Rattle.apex_laws.proofs.Stays.{order_is_apart}
 use Rattle.apex_laws.proofs.order_is_apart.Goals as goal
 
 pub returns : goal.returns

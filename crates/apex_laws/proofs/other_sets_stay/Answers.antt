@@ -1,4 +1,4 @@
-use Rattle.apex_laws.proofs.OtherSets.{other_sets_stay}
+use Rattle.apex_laws.proofs.PartObjects.{other_sets_stay}
 use Rattle.apex_laws.proofs.other_sets_stay.Goals as goal
 
 pub returns : goal.returns

@@ -1,4 +1,4 @@
-use Rattle.apex_laws.proofs.Kept.{set_is_the_sentence}
+use Rattle.apex_laws.proofs.Records.{set_is_the_sentence}
 use Rattle.apex_laws.proofs.set_is_the_sentence.Goals as goal
 
 pub returns : goal.returns

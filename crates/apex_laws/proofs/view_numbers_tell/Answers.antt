@@ -1,4 +1,4 @@
-use Rattle.apex_laws.proofs.ViewNumbers.{numbers_tell}
+use Rattle.apex_laws.proofs.Viewed.{numbers_tell}
 use Rattle.apex_laws.proofs.view_numbers_tell.Goals as goal
 
 pub returns : goal.returns

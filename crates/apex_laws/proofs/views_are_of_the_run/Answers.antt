@@ -1,4 +1,4 @@
-use Rattle.apex_laws.proofs.ViewedRuns.{views_are_of_the_run}
+use Rattle.apex_laws.proofs.Viewed.{views_are_of_the_run}
 use Rattle.apex_laws.proofs.views_are_of_the_run.Goals as goal
 
 pub returns : goal.returns

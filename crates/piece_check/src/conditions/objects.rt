@@ -19,9 +19,7 @@ use apex_types::{
     BlackboardOperation, BufferOperation, EventOperation, MutexOperation, ObjectOperation,
     SemaphoreOperation, Who,
 };
-use blackboard::Blackboard;
-use buffer::Buffer;
-use mutex_ceiling::Mutex653;
+use partition_objects::{Blackboard, Buffer, Mutex653};
 use partition_state::PartitionState;
 use wait_set::Conditions;
 

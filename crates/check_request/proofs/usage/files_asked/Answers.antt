@@ -1,7 +1,7 @@
 -- Each part is read of what the parser found, and that is what the words give.
 use Rattle.std.proofs.Common.{◌≡◌, inl, inr, map, rules, string_bytes}
+use Rattle.program_ends.specs.declared.refused.UsageFault.TheVariants.{Usage}
 use Rattle.check_request.specs.Wrong.{IsWrong}
-use Rattle.check_request.specs.declared.usage.UsageFault.TheVariants.{Usage}
 use Rattle.check_request.proofs.Requested.{asks_for, lacks_files, lacks_least, lacks_options, lacks_settings, of_error}
 use Rattle.check_request.proofs.usage.files_asked.Goals as goal
 

@@ -7,9 +7,9 @@ use Rattle.std.specs.Vec.Iter.{into_iter_items}
 use Rattle.std.proofs.lemmas.List.{length-map}
 use Rattle.std.specs.declared.io.ErrorKind.{ErrorKind}
 use Rattle.std.specs.declared.io.ErrorKind.TheVariants.{OutOfMemory}
+use Rattle.program_ends.specs.declared.refused.UsageFault.{UsageFault}
+use Rattle.program_ends.specs.declared.refused.UsageFault.TheVariants.{Usage, Memory}
 use Rattle.check_request.specs.declared.usage.Asked.{Asked}
-use Rattle.check_request.specs.declared.usage.UsageFault.{UsageFault}
-use Rattle.check_request.specs.declared.usage.UsageFault.TheVariants.{Usage, Memory}
 use Rattle.check_request.specs.Requests.{IsRequest, IsRequested}
 use Rattle.check_request.proofs.words.request_of.Goals as goal
 

@@ -1,14 +1,11 @@
-use Rattle.std.proofs.Common.{ℕ, List, Option, None, Some, suc, length}
-use Rattle.std.specs.Prelude.{option_map}
-use Rattle.record_read.proofs.Pieces.{Judged}
+use Rattle.std.proofs.Common.{◌≡◌, None}
+use Rattle.std.specs.Prelude.{is_some}
+use Rattle.record_read.specs.Woken.{length_left, named_by, pieces_of, processes_after}
 use Rattle.record_read.proofs.woken.are_processes.Given as goal
 
-abbrev pub invariant-pieces : goal.invariant-pieces
-invariant-pieces l = Judged l.text l.last (option_map (λ left. left.now) l.left)
+-- the text is a list if what is left of it is
+abbrev pub invariant-processes : goal.invariant-processes
+invariant-processes l = is_some (processes_after None (pieces_of 59 l.text)) ≡ is_some (named_by l.processes)
 
-abbrev pub size_of : Option (List ℕ) → ℕ
-size_of None = 0
-size_of (Some text) = suc (length text)
-
-abbrev pub decreases-pieces : goal.decreases-pieces
-decreases-pieces l = size_of (option_map (λ left. left.now) l.left)
+abbrev pub decreases-processes : goal.decreases-processes
+decreases-processes l = length_left l.processes

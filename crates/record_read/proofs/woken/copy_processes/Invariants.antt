@@ -1,14 +1,10 @@
-use Rattle.std.proofs.Common.{ℕ, List, Option, None, Some, suc, length}
-use Rattle.std.specs.Prelude.{option_map}
+use Rattle.std.proofs.Common.{None}
+use Rattle.record_read.specs.Woken.{length_left, named_by, pieces_of, processes_after}
 use Rattle.record_read.proofs.Pieces.{Named}
 use Rattle.record_read.proofs.woken.copy_processes.Given as goal
 
-abbrev pub invariant-pieces : goal.invariant-pieces
-invariant-pieces l = Named l.text l.named.items (option_map (λ left. left.now) l.left)
+abbrev pub invariant-processes : goal.invariant-processes
+invariant-processes l = Named (processes_after None (pieces_of 59 l.text)) l.named.items (named_by l.processes)
 
-abbrev pub size_of : Option (List ℕ) → ℕ
-size_of None = 0
-size_of (Some text) = suc (length text)
-
-abbrev pub decreases-pieces : goal.decreases-pieces
-decreases-pieces l = size_of (option_map (λ left. left.now) l.left)
+abbrev pub decreases-processes : goal.decreases-processes
+decreases-processes l = length_left l.processes

@@ -20,104 +20,90 @@ use Rattle.verdict_merge.proofs.by_threads.go_over_untested.Goals as goal
 pub loop-index-init : goal.loop-index-init
 loop-index-init c =
     let old = c.args.piece.now in
-    let number = c.args.number in
-    let lent = c.args.lent.now in
+    let number = c.args.seat.now.number in
+    let lent = c.args.seat.now.lent in
     let config = lent.config.now in
     let records = lent.records.now in
     let kept = c.args.kept.now in
-    let none : seen_in kept.indices.items kept.views.items ≡ [] = ap (λ list. seen_in list kept.views.items) c.requires.no_index in
+    let none : seen_in kept.indices.items kept.views.items ≡ [] = ap (λ list. seen_in list kept.views.items) c.requires.none in
     let list : c.of-index-items.result ≡ touching config (piece_at config number) 0 records =
-    c.of-index-items.ensures ∙ sorted_at config records (indices_of lent.touched.now) number (piece_of c.subject_of-subject.result) lent.sorted c.requires.piece c.subject_of-subject.ensures.value c.subject_of-subject.ensures.listed in (
+    c.of-index-items.ensures ∙ sorted_at config records (indices_of lent.touched.now) number (piece_of c.subject_of-subject.result) lent.sorted c.requires.may.piece c.subject_of-subject.ensures.value c.subject_of-subject.ensures.listed in (
       [],
       sym (c.into_iter-index-iterator.ensures.into_iter_gives ∙ list),
       subst (λ seen. HasCome config number old records old seen (reached config (piece_at config number) records 0)) (sym none)
           (holds_at_first config (piece_at config number) records (HasCome config number old records old []) (come_past config number old records old [])
-          (come_nowhere config number old records c.requires.going.of_module c.requires.going.whose)),
+          (come_nowhere config number old records c.requires.may.going.of_module c.requires.may.going.whose)),
       subst AreRising (sym none) tt,
-      ap length c.requires.no_index ∙ sym (ap length c.requires.no_view),
-      c.requires.room_of_indices,
-      c.requires.room_of_views,
+      c.requires.room,
     )
 
 pub bounds-records-index : goal.bounds-records-index
 bounds-records-index c =
-    let lent = c.args.lent.now in
-    let at = next_within lent.config.now c.args.number lent.records.now c.loop-index.invariant.0 c.loop-index.invariant.1 c.in-Some.ensures.steps in
-    rw at.1 (reached_within lent.config.now (piece_at lent.config.now c.args.number) lent.records.now (length c.loop-index.invariant.0) at.0)
+    let lent = c.args.seat.now.lent in
+    let at = next_within lent.config.now c.args.seat.now.number lent.records.now c.loop-index.invariant.0 c.loop-index.invariant.1 c.in-Some.ensures.steps in
+    rw at.1 (reached_within lent.config.now (piece_at lent.config.now c.args.seat.now.number) lent.records.now (length c.loop-index.invariant.0) at.0)
 
 pub offset_bounds-records-index : goal.offset_bounds-records-index
 offset_bounds-records-index c = let within = bounds-records-index c in search rules
 
-pub judge_and_keep-requires-clause-core : goal.judge_and_keep-requires-clause-core
-judge_and_keep-requires-clause-core c =
-    let lent = c.args.lent.now in
-    let at = is_shown lent.config.now c.args.number lent.first lent.records.now c.loop-index.invariant.0 c.loop-index.invariant.1 c.in-Some.ensures.steps c.index-records-index.is c.requires.placed c.requires.cores in
-    at.core
+pub judge_and_keep-requires-clause-step : goal.judge_and_keep-requires-clause-step
+judge_and_keep-requires-clause-step c =
+    let lent = c.args.seat.now.lent in
+    let come = c.loop-index.invariant.2 in
+    let at = is_shown lent.config.now c.args.seat.now.number lent.first lent.records.now c.loop-index.invariant.0 c.loop-index.invariant.1 c.in-Some.ensures.steps c.index-records-index.is c.requires.may.placed c.requires.may.cores in
+    record {
+      core = at.core;
+      of_module = come.of_module;
+      holds_before = subst (λ place. HoldsBefore place c.loop-index.piece.part) (sym at.place) (come.holds_before lent.first c.requires.may.placed c.requires.may.going.holds_before);
+    }
 
-pub judge_and_keep-requires-clause-holds_before : goal.judge_and_keep-requires-clause-holds_before
-judge_and_keep-requires-clause-holds_before c =
-    let lent = c.args.lent.now in
-    let at = is_shown lent.config.now c.args.number lent.first lent.records.now c.loop-index.invariant.0 c.loop-index.invariant.1 c.in-Some.ensures.steps c.index-records-index.is c.requires.placed c.requires.cores in
-    subst (λ place. HoldsBefore place c.loop-index.piece.part) (sym at.place) (c.loop-index.invariant.2.holds_before lent.first c.requires.placed c.requires.going.holds_before)
-
-pub judge_and_keep-requires-clause-room_of_indices : goal.judge_and_keep-requires-clause-room_of_indices
-judge_and_keep-requires-clause-room_of_indices c =
-    let config = c.args.lent.now.config.now in
-    let records = c.args.lent.now.records.now in
-    let piece = piece_at config c.args.number in
+pub judge_and_keep-requires-clause-room : goal.judge_and_keep-requires-clause-room
+judge_and_keep-requires-clause-room c =
+    let lent = c.args.seat.now.lent in
+    let config = lent.config.now in
+    let records = lent.records.now in
+    let piece = piece_at config c.args.seat.now.number in
     let kept = c.loop-index.kept in
-    let at = is_shown config c.args.number c.args.lent.now.first records c.loop-index.invariant.0 c.loop-index.invariant.1 c.in-Some.ensures.steps c.index-records-index.is c.requires.placed c.requires.cores in
+    let at = is_shown config c.args.seat.now.number lent.first records c.loop-index.invariant.0 c.loop-index.invariant.1 c.in-Some.ensures.steps c.index-records-index.is c.requires.may.placed c.requires.may.cores in
     let index = reached config piece records (length c.loop-index.invariant.0) in
     let most = seen_count config piece c.args.piece.now.part 0 (take index records) (seen_in kept.indices.items kept.views.items) c.loop-index.invariant.2.seen in
-    let counted = length-seen_in kept.indices.items kept.views.items c.loop-index.invariant.4 in
+    let counted = length-seen_in kept.indices.items kept.views.items kept.even in
     let taken = length-take-le index records (omega (arith, at.within)) in
-    omega (arith, most, counted, taken, at.within, c.loop-index.invariant.4, c.loop-index.invariant.5)
-
-pub judge_and_keep-requires-clause-room_of_views : goal.judge_and_keep-requires-clause-room_of_views
-judge_and_keep-requires-clause-room_of_views c =
-    let config = c.args.lent.now.config.now in
-    let records = c.args.lent.now.records.now in
-    let piece = piece_at config c.args.number in
-    let kept = c.loop-index.kept in
-    let at = is_shown config c.args.number c.args.lent.now.first records c.loop-index.invariant.0 c.loop-index.invariant.1 c.in-Some.ensures.steps c.index-records-index.is c.requires.placed c.requires.cores in
-    let index = reached config piece records (length c.loop-index.invariant.0) in
-    let most = seen_count config piece c.args.piece.now.part 0 (take index records) (seen_in kept.indices.items kept.views.items) c.loop-index.invariant.2.seen in
-    let counted = length-seen_in kept.indices.items kept.views.items c.loop-index.invariant.4 in
-    let taken = length-take-le index records (omega (arith, at.within)) in
-    omega (arith, most, counted, taken, at.within, c.loop-index.invariant.6)
+    let room = c.loop-index.invariant.4 in
+    record {
+      indices = omega (arith, most, counted, taken, at.within, kept.even, room.indices);
+      views = omega (arith, most, counted, taken, at.within, kept.even, room.views);
+    }
 
 pub returns-in-Ok-Some-clause-outcome : goal.returns-in-Ok-Some-clause-outcome
 returns-in-Ok-Some-clause-outcome c = λ relations breach first.
-    let lent = c.args.lent.now in
+    let lent = c.args.seat.now.lent in
     let kept = c.loop-index.kept in
     let seen = seen_in kept.indices.items kept.views.items in
-    let at = is_shown lent.config.now c.args.number lent.first lent.records.now c.loop-index.invariant.0 c.loop-index.invariant.1 c.in-Some.ensures.steps c.index-records-index.is c.requires.placed c.requires.cores in
-    let index = reached lent.config.now (piece_at lent.config.now c.args.number) lent.records.now (length c.loop-index.invariant.0) in
+    let at = is_shown lent.config.now c.args.seat.now.number lent.first lent.records.now c.loop-index.invariant.0 c.loop-index.invariant.1 c.in-Some.ensures.steps c.index-records-index.is c.requires.may.placed c.requires.may.cores in
+    let index = reached lent.config.now (piece_at lent.config.now c.args.seat.now.number) lent.records.now (length c.loop-index.invariant.0) in
     let none = rw c.in-Ok-Some.field-0-is at c.in-Ok-Some.ensures.kept in
-    refuses_there lent.config.now c.args.number lent.first lent.records.now relations c.args.piece.now c.loop-index.piece c.judge_and_keep.new.piece _ seen c.in-Ok-Some.refused index c.index-records-index.result
-    refl c.loop-index.invariant.2 (subst (λ list. IsFirstBreach relations list breach) (none.seen ∙ append-nil seen) first) c.requires.placed c.requires.going.holds_before at.within at.is at.touched (rw c.in-Ok-Some.field-0-is at c.in-Ok-Some.ensures.judged) c.in-Ok-Some.ensures.of_module
-
-pub returns-in-Ok-Some-clause-even : goal.returns-in-Ok-Some-clause-even
-returns-in-Ok-Some-clause-even c = c.in-Ok-Some.ensures.kept.even
+    refuses_there lent.config.now c.args.seat.now.number lent.first lent.records.now relations c.args.piece.now c.loop-index.piece c.judge_and_keep.new.piece _ seen c.in-Ok-Some.refused index c.index-records-index.result
+    refl c.loop-index.invariant.2 (subst (λ list. IsFirstBreach relations list breach) (none ∙ append-nil seen) first) c.requires.may.placed c.requires.may.going.holds_before at.within at.is at.touched (rw c.in-Ok-Some.field-0-is at c.in-Ok-Some.ensures.judged) c.in-Ok-Some.ensures.of_module
 
 pub returns-in-Ok-Some-clause-rising : goal.returns-in-Ok-Some-clause-rising
 returns-in-Ok-Some-clause-rising c =
     let kept = c.loop-index.kept in
     let seen = seen_in kept.indices.items kept.views.items in
     let none = rw c.in-Ok-Some.field-0-is at c.in-Ok-Some.ensures.kept in
-    subst AreRising (sym (none.seen ∙ append-nil seen)) c.loop-index.invariant.3
+    subst AreRising (sym (none ∙ append-nil seen)) c.loop-index.invariant.3
 
 pub loop-index-preserved : goal.loop-index-preserved
 loop-index-preserved c =
-    let lent = c.args.lent.now in
+    let lent = c.args.seat.now.lent in
     let config = lent.config.now in
     let records = lent.records.now in
-    let number = c.args.number in
+    let number = c.args.seat.now.number in
     let piece = piece_at config number in
     let ordered = c.index-records-index.result in
     let outcome = c.loop-index.invariant.0 in
     let come = c.loop-index.invariant.2 in
-    let at = is_shown config number lent.first records outcome c.loop-index.invariant.1 c.in-Some.ensures.steps c.index-records-index.is c.requires.placed c.requires.cores in
+    let at = is_shown config number lent.first records outcome c.loop-index.invariant.1 c.in-Some.ensures.steps c.index-records-index.is c.requires.may.placed c.requires.may.cores in
     let index = reached config piece records (length outcome) in
     let judged = rw c.in-Ok-None.field-0-is at c.in-Ok-None.ensures.judged in
     let kept = rw c.in-Ok-None.field-0-is at c.in-Ok-None.ensures.kept in
@@ -131,7 +117,7 @@ loop-index-preserved c =
     let more = seen ++ seen_of given index in
     let over = come_over config number old records c.loop-index.piece next seen index ordered come at.within at.is at.touched judged.0
     c.in-Ok-None.ensures.of_module whose holds_before in
-    let is : seen_in c.judge_and_keep.new.kept.indices.items c.judge_and_keep.new.kept.views.items ≡ more = kept.seen ∙ ap (λ n. seen ++ seen_of given n) at.reaches in
+    let is : seen_in c.judge_and_keep.new.kept.indices.items c.judge_and_keep.new.kept.views.items ≡ more = kept ∙ ap (λ n. seen ++ seen_of given n) at.reaches in
     let less : (one : Seen) → Contains seen one → one.index < index =
     λ one there. let below = seen_less config piece old.part (take index records) seen come.seen one there in omega (arith, below, length-take-le index records (omega (arith, at.within))) in
     let longer : suc (length outcome) ≡ length (outcome ++ c.in-Some.index ∷ []) = omega (arith, length-append outcome (c.in-Some.index ∷ [])) in (
@@ -142,32 +128,24 @@ loop-index-preserved c =
           (holds_at_next config piece records (HasCome config number old records next more) (length outcome) at.listed
           (come_past config number old records next more) over)),
       subst AreRising (sym is) (rising_on seen given index less c.loop-index.invariant.3),
-      kept.even,
-      omega (arith, c.judge_and_keep.ensures.room_of_indices, c.loop-index.invariant.5),
-      omega (arith, c.judge_and_keep.ensures.room_of_views, c.loop-index.invariant.6),
+      record {
+        indices = omega (arith, c.judge_and_keep.ensures.room.indices, c.loop-index.invariant.4.indices);
+        views = omega (arith, c.judge_and_keep.ensures.room.views, c.loop-index.invariant.4.views);
+      },
     )
 
 pub returns-clause-outcome : goal.returns-clause-outcome
 returns-clause-outcome c = λ relations breach first.
-    let lent = c.args.lent.now in
+    let lent = c.args.seat.now.lent in
     let records = lent.records.now in
     let outcome = c.loop-index.invariant.0 in
-    let piece = piece_at lent.config.now c.args.number in
+    let piece = piece_at lent.config.now c.args.seat.now.number in
     let kept = c.loop-index.kept in
     let all : touching lent.config.now piece 0 records ≡ outcome = c.loop-index.invariant.1 ∙ ap (λ left. outcome ++ left) c.in-None.ensures.steps.0 ∙ append-nil outcome in
     let end : reached lent.config.now piece records (length outcome) ≡ length records =
     get_or_past (touching lent.config.now piece 0 records) (length outcome) (length records) (omega (arith, ap length all)) in
-    goes_through lent.config.now c.args.number lent.first records relations c.args.piece.now c.loop-index.piece _ (seen_in kept.indices.items kept.views.items)
-    (reached lent.config.now piece records (length outcome)) refl c.loop-index.invariant.2 first end c.requires.placed c.requires.going.holds_before
-
-pub returns-clause-even : goal.returns-clause-even
-returns-clause-even c = c.loop-index.invariant.4
+    goes_through lent.config.now c.args.seat.now.number lent.first records relations c.args.piece.now c.loop-index.piece _ (seen_in kept.indices.items kept.views.items)
+    (reached lent.config.now piece records (length outcome)) refl c.loop-index.invariant.2 first end c.requires.may.placed c.requires.may.going.holds_before
 
 pub returns-clause-rising : goal.returns-clause-rising
 returns-clause-rising c = c.loop-index.invariant.3
-
-pub judge_and_keep-requires-clause-even : goal.judge_and_keep-requires-clause-even
-judge_and_keep-requires-clause-even c = c.loop-index.invariant.4
-
-pub judge_and_keep-requires-clause-of_module : goal.judge_and_keep-requires-clause-of_module
-judge_and_keep-requires-clause-of_module c = c.loop-index.invariant.2.of_module

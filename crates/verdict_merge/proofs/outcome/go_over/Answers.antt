@@ -44,17 +44,16 @@ bounds-records-index g c =
 pub offset_bounds-records-index : goal.offset_bounds-records-index
 offset_bounds-records-index g c = let within = bounds-records-index g c in search rules
 
-pub judge_one-requires-clause-core : goal.judge_one-requires-clause-core
-judge_one-requires-clause-core g c =
+pub judge_one-requires : goal.judge_one-requires
+judge_one-requires g c =
     let lent = c.args.lent.now in
+    let come = c.loop-index.invariant.3 in
     let at = is_shown lent.config.now c.args.number lent.first lent.records.now c.loop-index.invariant.1 c.loop-index.invariant.2 c.in-Some.ensures.steps c.index-records-index.is c.requires.placed c.requires.cores in
-    at.core
-
-pub judge_one-requires-clause-holds_before : goal.judge_one-requires-clause-holds_before
-judge_one-requires-clause-holds_before g c =
-    let lent = c.args.lent.now in
-    let at = is_shown lent.config.now c.args.number lent.first lent.records.now c.loop-index.invariant.1 c.loop-index.invariant.2 c.in-Some.ensures.steps c.index-records-index.is c.requires.placed c.requires.cores in
-    subst (λ place. HoldsBefore place c.loop-index.piece.part) (sym at.place) (c.loop-index.invariant.3.holds_before lent.first c.requires.placed c.requires.going.holds_before)
+    record {
+      core = at.core;
+      of_module = come.of_module;
+      holds_before = subst (λ place. HoldsBefore place c.loop-index.piece.part) (sym at.place) (come.holds_before lent.first c.requires.placed c.requires.going.holds_before);
+    }
 
 pub returns-in-Ok-Some-clause-outcome : goal.returns-in-Ok-Some-clause-outcome
 returns-in-Ok-Some-clause-outcome g c =

@@ -1,4 +1,5 @@
 use Rattle.std.proofs.Common.{◌≡◌, ◌∙◌, ℕ, List, Bool, Option, Result, Ok, ap, subst, sym, inr, map, option_map}
+use Rattle.program_ends.specs.declared.ending.Ending.{Ending}
 use Rattle.report.specs.declared.fault.CheckFault.{CheckFault}
 use Rattle.report.specs.declared.last.LastItem.{LastItem}
 use Rattle.report.specs.declared.settings.Settings.{Settings}
@@ -7,7 +8,7 @@ use Rattle.rule_options.specs.declared.option.RuleOption.{RuleOption}
 use Rattle.rule_options.specs.Options.{in_order}
 use Rattle.rules_file.specs.Reading.{SaidRule, said, without_key}
 use Rattle.verdict_merge.specs.declared.verdict.Verdict.{Verdict}
-use Rattle.apexcheck.specs.declared.ending.Ending.{Ending}
+use Rattle.apexcheck.specs.declared.ending.CheckEnd.{CheckEnd}
 use Rattle.apexcheck.specs.Endings.{end_of_check}
 use Rattle.apexcheck.specs.Files.{given_of}
 use Rattle.asked_rules.specs.Asked.{rules_given}
@@ -16,7 +17,7 @@ use Rattle.apexcheck.proofs.files.Opened.check.Goals as goal
 
 -- a run ends by the answer under the rules that its text says
 ends : (given : Given) (options : List RuleOption) (text : Option (List ℕ)) (settings : Settings) (least : Option ℕ) (asked : Bool) (rules : List SaidRule)
-    → (outcome : Result Verdict CheckFault) (last : List LastItem) (reported : Option (List LastItem)) (ending : Ending)
+    → (outcome : Result Verdict CheckFault) (last : List LastItem) (reported : Option (List LastItem)) (ending : Ending CheckEnd)
     → rules_given text ≡ Ok rules → reported ≡ where_asked asked last → ending ≡ end_of_check least outcome reported
     → AnswersRuled given options rules settings outcome last → IsRuledEnding given options text settings least asked ending
 ends given options text settings least asked rules outcome last reported ending read same by is =

@@ -6,7 +6,7 @@ use Rattle.core_intake.proofs.lane.Lane.next.Goals as goal
 
 pub invariant_of-self : goal.invariant_of-self
 invariant_of-self g c =
-    let taken = takes_first _ _ _ _ _ (c.receive.ensures.kept _ c.self.invariant.3) (rw c.in-Some.is at c.next.ensures.first) in (
+    let taken = takes_first _ _ _ _ _ (c.receive.ensures.kept _ c.self.invariant.3) c.next-answer.ensures.first in (
       c.self.invariant.0,
       c.receive.ensures.seat,
       search rules,
@@ -16,5 +16,5 @@ invariant_of-self g c =
 
 pub returns-clause-gives : goal.returns-clause-gives
 returns-clause-gives g c going =
-    let taken = takes_first _ _ _ _ _ (c.receive.ensures.kept _ c.self.invariant.3) (rw c.in-Some.is at c.next.ensures.first) in
+    let taken = takes_first _ _ _ _ _ (c.receive.ensures.kept _ c.self.invariant.3) c.next-answer.ensures.first in
     rw (← c.self.view_is) (ap (answered (option_map records_of (g.R.TextSource.remaining c.self.inside.reader.promise.reader.value))) (takes_one _ _ _ _ taken))

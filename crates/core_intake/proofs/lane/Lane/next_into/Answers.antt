@@ -6,7 +6,7 @@ use Rattle.core_intake.proofs.lane.Lane.next_into.Goals as goal
 
 pub invariant_of-self : goal.invariant_of-self
 invariant_of-self g c =
-    let put = c.in-Some.ensures.puts in
+    let put = c.next_into-put.ensures.puts in
     let taken = takes_first _ _ _ _ _ (c.receive.ensures.kept _ c.self.invariant.3) put.1 in (
       c.self.invariant.0,
       c.receive.ensures.seat,
@@ -29,7 +29,7 @@ returns-then-self g c =
 
 pub returns : goal.returns
 returns g c =
-    let put = c.in-Some.ensures.puts in
+    let put = c.next_into-put.ensures.puts in
     let taken = takes_first _ _ _ _ _ (c.receive.ensures.kept _ c.self.invariant.3) put.1 in (
       put.0,
       put.2,

@@ -1,5 +1,0 @@
-pub mod Booleans
-pub mod Copies
-pub mod Tables
-pub mod Numbers
-pub mod Results

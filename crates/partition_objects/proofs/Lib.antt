@@ -1,0 +1,4 @@
+mod Copies
+pub mod Tables
+pub mod Numbers
+mod TimeOuts

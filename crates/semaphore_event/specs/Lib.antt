@@ -1,2 +1,0 @@
-pub mod Semaphores
-pub mod Events

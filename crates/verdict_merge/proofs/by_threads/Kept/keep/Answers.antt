@@ -1,7 +1,0 @@
-use Rattle.std.proofs.Common.{rules, ◌≡◌, Some}
-use Rattle.verdict_merge.proofs.Keeping.{has_kept}
-use Rattle.verdict_merge.proofs.by_threads.Kept.keep.Goals as goal
-
-pub returns-in-Some-clause-kept : goal.returns-in-Some-clause-kept
-returns-in-Some-clause-kept c =
-    has_kept c.args.view c.args.index c.in-Some.one c.args.self.now _ (search rules) c.requires.even c.push_reserved.ensures.items c.push_reserved-in-Some.ensures.items
