@@ -2,11 +2,13 @@
 use Rattle.std.specs.Prelude.{ℕ, Bool, true, false, ◌&&◌, ◌||◌, not, ◌==◌, List, [], ◌∷◌, codes}
 use Rattle.std.specs.List.{list_any}
 
--- the names that the program's tags have. None of them is that of a script, a link, an image or a frame
+-- the names that the program's tags have. None of them is that of a script, of a style sheet or another file from elsewhere, of an image
+-- or of a frame
 abbrev pub tag_names : List (List ℕ)
 tag_names =
     codes "!DOCTYPE" ∷ codes "html" ∷ codes "head" ∷ codes "meta" ∷ codes "title" ∷ codes "style" ∷ codes "body"
-    ∷ codes "h1" ∷ codes "h2" ∷ codes "h3" ∷ codes "p" ∷ codes "pre" ∷ codes "code" ∷ codes "div" ∷ codes "ul" ∷ codes "li"
+    ∷ codes "h1" ∷ codes "h2" ∷ codes "h3" ∷ codes "p" ∷ codes "pre" ∷ codes "code" ∷ codes "a" ∷ codes "div" ∷ codes "ul" ∷ codes "li"
+    ∷ codes "details" ∷ codes "summary"
     ∷ codes "table" ∷ codes "caption" ∷ codes "thead" ∷ codes "tbody" ∷ codes "tr" ∷ codes "th" ∷ codes "td"
     ∷ codes "svg" ∷ codes "defs" ∷ codes "pattern" ∷ codes "marker"
     ∷ codes "g" ∷ codes "rect" ∷ codes "circle" ∷ codes "line" ∷ codes "path" ∷ codes "text" ∷ []

@@ -5,7 +5,7 @@ use crate::layout::Strip;
 use crate::style::{DEFINITIONS, PAGE_STYLE, STYLE};
 use markup::Markup;
 use std::alloc::AllocError;
-use view_picture::Picture;
+use view_picture::{Column, Picture};
 use view_words::Look;
 
 /// What a page says in addition to its picture.
@@ -22,7 +22,11 @@ pub struct PageTexts<'a> {
 }
 
 /// Begins a page, up to its picture.
-pub fn page_head(out: &mut Markup, texts: &PageTexts<'_>) -> Result<(), AllocError> {
+pub fn page_head(
+    out: &mut Markup,
+    picture: &Picture,
+    texts: &PageTexts<'_>,
+) -> Result<(), AllocError> {
     out.mark(
         "<!DOCTYPE html>\n<html lang=\"en\">\n<head>\n<meta charset=\"utf-8\"/>\n<meta name=\"viewport\" content=\"width=device-width\"/>\n<title>",
     )?;
@@ -35,17 +39,47 @@ pub fn page_head(out: &mut Markup, texts: &PageTexts<'_>) -> Result<(), AllocErr
         out.mark(" lawful-run")?;
     }
     out.mark("\">\n")?;
-    tell_answer(out, texts)?;
+    tell_answer(out, picture, texts)?;
     out.mark("<svg class=\"hidden\" aria-hidden=\"true\">")?;
     out.mark(DEFINITIONS)?;
-    out.mark("</svg>\n")?;
-    tell_key(out)
+    out.mark("</svg>\n")
+}
+
+/// What the picture shows, and the file and the line of the record that is rejected or breaks a rule.
+pub fn tell_heading(
+    out: &mut Markup,
+    picture: &Picture,
+    texts: &PageTexts<'_>,
+) -> Result<(), AllocError> {
+    out.say(texts.heading)?;
+    if let Some(column) = fault_of(picture) {
+        out.mark(": ")?;
+        out.say(column.location.as_str())?;
+    }
+    Ok(())
+}
+
+// The record that is rejected or breaks a rule.
+fn fault_of(picture: &Picture) -> Option<&Column> {
+    picture
+        .columns()
+        .iter()
+        .find(|column| column.status.is_fault())
 }
 
 // What the picture shows, its files, and the answer with what explains it.
-fn tell_answer(out: &mut Markup, texts: &PageTexts<'_>) -> Result<(), AllocError> {
+fn tell_answer(
+    out: &mut Markup,
+    picture: &Picture,
+    texts: &PageTexts<'_>,
+) -> Result<(), AllocError> {
     out.mark("<h1>")?;
     out.say(texts.heading)?;
+    if let Some(column) = fault_of(picture) {
+        out.mark(": <a href=\"#fault\">")?;
+        out.say(column.location.as_str())?;
+        out.mark("</a>")?;
+    }
     out.mark("</h1>\n<p>")?;
     out.say(texts.files)?;
     out.mark("</p>\n<pre>")?;
@@ -91,8 +125,8 @@ const KEY: [(Look, &str); 10] = [
     (Look::OtherMode, "a mode other than NORMAL"),
 ];
 
-// The key of the picture.
-fn tell_key(out: &mut Markup) -> Result<(), AllocError> {
+/// Adds the key of the picture.
+pub fn tell_key(out: &mut Markup) -> Result<(), AllocError> {
     out.mark("<ul class=\"key\">\n")?;
     for (look, text) in KEY {
         out.mark("<li><svg width=\"34\" height=\"18\" aria-hidden=\"true\"><g class=\"")?;

@@ -4,8 +4,10 @@ ghost use Rattle.std.specs.Prelude.{IfOk};
 ghost use Rattle.view_page.specs.Strips.{Cover};
 ghost use Rattle.view_picture.specs.Records.{record_count};
 
-use std::alloc::{AllocError, Global};
-use view_picture::{Column, Lane, Picture, Status};
+use crate::groups::{Group, all_groups, near_groups};
+use crate::rows::{Heading, Row, Rows};
+use std::alloc::AllocError;
+use view_picture::{Column, Picture, Status};
 use view_words::LaneKey;
 
 /// The width of the labels of lanes, in pixels like all lengths here.
@@ -31,19 +33,8 @@ const NARROW_STEP: u64 = 11;
 /// The height of the numbers of places below the labels of records.
 const PLACES: u64 = 16;
 
-/// The free height below a lane, and the additional free height above the first lane of a partition.
-const GAP: u64 = 3;
-
-const GROUP_GAP: u64 = 7;
-
-/// The height of a mark with a text.
-const BOX: u64 = 19;
-
 /// The free height below the last lane.
 const BELOW: u64 = 8;
-
-/// How many lanes a picture may have before the lanes of each strip are chosen separately.
-const MANY_LANES: usize = 60;
 
 /// The records of a strip: from one column to another, without the last.
 #[derive(Clone, Copy, Debug, PartialEq, Eq)]
@@ -107,21 +98,6 @@ fn width_of(column: Option<&Column>, step: u64) -> u64 {
     }
 }
 
-/// A lane of a strip: its index, and its position.
-#[derive(Clone, Copy, Debug)]
-pub struct Row {
-    pub lane: usize,
-    pub y: u64,
-    pub height: u64,
-}
-
-impl Row {
-    /// The middle of the lane.
-    pub fn middle(self) -> u64 {
-        self.y.saturating_add(self.height / 2)
-    }
-}
-
 /// Where everything is in a strip.
 #[derive(Drop)]
 pub struct Layout {
@@ -129,6 +105,7 @@ pub struct Layout {
     /// The left edge of each column, and the right edge of the last.
     pub edges: Vec<u64>,
     pub rows: Vec<Row>,
+    pub(crate) headings: Vec<Heading>,
     /// Where the labels of the records end, and where the first lane begins.
     pub foot_of_labels: u64,
     pub top: u64,
@@ -138,15 +115,52 @@ pub struct Layout {
 }
 
 impl Layout {
-    /// Where everything is in this strip, in a picture in which it begins at this height.
-    pub fn new(picture: &Picture, strip: Strip) -> Result<Layout, AllocError> {
-        let alloc = picture.alloc();
-        let edges = edges_of(picture, strip)?;
+    /// Where everything is in a strip that has all its lanes.
+    pub fn whole(picture: &Picture, strip: Strip) -> Result<Layout, AllocError> {
+        let groups = all_groups(picture, strip)?;
+        Layout::of_groups(picture, strip, groups.as_slice())
+    }
+
+    /// Where everything is in a strip without those lanes that have nothing to do with a fault in it.
+    pub fn near(picture: &Picture, strip: Strip) -> Result<Layout, AllocError> {
+        let groups = near_groups(picture, strip)?;
+        Layout::of_groups(picture, strip, groups.as_slice())
+    }
+
+    // Where everything is in a strip that has the lanes of these groups.
+    fn of_groups(picture: &Picture, strip: Strip, groups: &[Group]) -> Result<Layout, AllocError> {
         let foot_of_labels = height_of_labels(picture, strip);
         let top = foot_of_labels.saturating_add(PLACES);
-        let rows = rows_of(alloc, picture, strip, top)?;
+        let mut rows = Rows::from(picture.alloc(), top);
+        for group in groups {
+            rows.add_group(picture, strip, group)?;
+        }
+        Layout::of_rows(picture, strip, foot_of_labels, rows)
+    }
+
+    /// Where everything is in a strip that has only those lanes, and no labels of records.
+    pub fn elsewhere(picture: &Picture, strip: Strip) -> Result<Layout, AllocError> {
+        let mut rows = Rows::from(picture.alloc(), PLACES);
+        rows.add_lanes(picture, strip, &Group::Elsewhere)?;
+        Layout::of_rows(picture, strip, 0, rows)
+    }
+
+    // Where everything is if the lanes are in these rows.
+    fn of_rows(
+        picture: &Picture,
+        strip: Strip,
+        foot_of_labels: u64,
+        rows: Rows,
+    ) -> Result<Layout, AllocError> {
+        let edges = edges_of(picture, strip)?;
+        let top = foot_of_labels.saturating_add(PLACES);
+        let Rows {
+            rows,
+            headings,
+            y: _,
+        } = rows;
         let bottom = match rows.last() {
-            Some(row) => row.y.saturating_add(row.height),
+            Some(row) => row.foot(),
             None => top,
         };
         let right = match edges.last() {
@@ -157,6 +171,7 @@ impl Layout {
             strip,
             edges,
             rows,
+            headings,
             foot_of_labels,
             top,
             bottom,
@@ -215,79 +230,10 @@ fn height_of_labels(picture: &Picture, strip: Strip) -> u64 {
     let mut longest = 0usize;
     for column in strip.from..strip.to {
         if let Some(column) = picture.columns().get(column) {
-            if column.status != Status::After && column.status != Status::Beyond {
+            if column.status.is_judged() {
                 longest = longest.max(column.label.len().min(LONGEST_LABEL));
             }
         }
     }
     (longest as u64).saturating_mul(13).saturating_add(50) / 2
-}
-
-// The lanes of a strip, from this height on.
-fn rows_of(
-    alloc: Global,
-    picture: &Picture,
-    strip: Strip,
-    top: u64,
-) -> Result<Vec<Row>, AllocError> {
-    let all = Strip {
-        from: 0,
-        to: usize::MAX,
-    };
-    let count = picture
-        .lanes()
-        .iter()
-        .filter(|lane| is_shown(picture, lane, all))
-        .count();
-    let chosen = if count > MANY_LANES { strip } else { all };
-    let mut rows = Vec::new(alloc);
-    let mut y = top;
-    for (index, lane) in picture.lanes().iter().enumerate() {
-        if !is_shown(picture, lane, chosen) {
-            continue;
-        }
-        if begins_group(&lane.key) {
-            y = y.saturating_add(GROUP_GAP);
-        }
-        let height = height_of(lane);
-        rows.push(Row {
-            lane: index,
-            y,
-            height,
-        })?;
-        y = y.saturating_add(height).saturating_add(GAP);
-    }
-    Ok(rows)
-}
-
-// Whether a lane is shown at these columns: a core is, and so is what acts or is affected there, with its partition.
-fn is_shown(picture: &Picture, lane: &Lane, strip: Strip) -> bool {
-    match lane.key {
-        LaneKey::Core(_) => true,
-        LaneKey::Process(_) | LaneKey::Thing(_) => lane.is_concerned(strip.from, strip.to),
-        LaneKey::Partition(_) => picture.lanes().iter().any(|other| {
-            other.key.partition() == lane.key.partition()
-                && other.is_concerned(strip.from, strip.to)
-        }),
-    }
-}
-
-// Whether there is additional free height above a lane.
-fn begins_group(key: &LaneKey) -> bool {
-    match key {
-        LaneKey::Partition(_) => true,
-        LaneKey::Core(_) | LaneKey::Process(_) | LaneKey::Thing(_) => false,
-    }
-}
-
-// The height of a lane: that of its kind, or more if it has several marks with texts.
-fn height_of(lane: &Lane) -> u64 {
-    let height = match lane.key {
-        LaneKey::Core(_) => 40,
-        LaneKey::Partition(_) => 18,
-        LaneKey::Process(_) => 26,
-        LaneKey::Thing(_) => 20,
-    };
-    let boxes = lane.marks.iter().filter(|mark| mark.kind.is_box()).count() as u64;
-    boxes.saturating_mul(BOX).max(height)
 }

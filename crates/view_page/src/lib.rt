@@ -8,10 +8,14 @@
 
 mod classes;
 mod fault;
+mod groups;
 mod html;
 mod layout;
+mod names;
+mod rows;
 mod shapes;
 mod strip;
+mod strip_bars;
 mod strip_marks;
 mod style;
 mod table;

@@ -55,13 +55,20 @@ pub(crate) fn tell_box(
     out.mark("\"")
 }
 
-// The size of a picture, whose points are pixels.
-pub(crate) fn tell_size(out: &mut Markup, width: u64, height: u64) -> Result<(), AllocError> {
+// The size of a picture, whose points are pixels, and of which this one is the leftmost.
+pub(crate) fn tell_size(
+    out: &mut Markup,
+    left: u64,
+    width: u64,
+    height: u64,
+) -> Result<(), AllocError> {
     out.mark(" width=\"")?;
     out.say(width)?;
     out.mark("\" height=\"")?;
     out.say(height)?;
-    out.mark("\" viewBox=\"0 0 ")?;
+    out.mark("\" viewBox=\"")?;
+    out.say(left)?;
+    out.mark(" 0 ")?;
     out.say(width)?;
     out.mark(" ")?;
     out.say(height)?;
@@ -122,5 +129,29 @@ impl Display for Fitted<'_> {
             f.write_char(character)?;
         }
         f.write_char('…')
+    }
+}
+
+// A name, or its first and last characters if it has more than this many: names that begin alike often differ at their ends. Two thirds
+// of those that are shown are before the gap.
+#[derive(Clone, Copy)]
+pub(crate) struct Shortened<'a>(pub &'a str, pub usize);
+
+impl Display for Shortened<'_> {
+    fn fmt<W: std::fmt::Write>(&self, f: &mut std::fmt::Formatter<W>) -> std::fmt::Result {
+        let count = self.0.chars().count();
+        if count <= self.1 {
+            return write!(f, "{}", self.0);
+        }
+        let shown = self.1.saturating_sub(1);
+        let after = shown / 3;
+        for character in self.0.chars().take(shown.saturating_sub(after)) {
+            f.write_char(character)?;
+        }
+        f.write_char('…')?;
+        for character in self.0.chars().skip(count.saturating_sub(after)) {
+            f.write_char(character)?;
+        }
+        Ok(())
     }
 }

@@ -1,27 +1,18 @@
 // A strip of a picture as SVG.
 
-ghost use Rattle.std.specs.Prelude.{◌≡◌, true};
-ghost use Rattle.markup.specs.Own.{is_own};
-
-use crate::classes::{
-    class_of_ground, class_of_lane, class_of_status, classes_of_look, pattern_of,
-};
-use crate::html::PageTexts;
-use crate::layout::{LABELS, LONGEST_LABEL, Layout, Row, Strip};
-use crate::shapes::{
-    BAND, BEFORE_TEXT, CHARACTER, Fitted, INSIDE, tell_box, tell_rect, tell_size, tell_text,
-};
-use crate::strip_marks::{tell_arrow, tell_marks};
+use crate::classes::{class_of_ground, class_of_status};
+use crate::groups::count_elsewhere;
+use crate::html::{PageTexts, tell_heading};
+use crate::layout::{LABELS, LONGEST_LABEL, Layout, Strip};
+use crate::names::{begin_lane, tell_names};
+use crate::shapes::{Shortened, tell_rect, tell_size, tell_text};
+use crate::strip_bars::{tell_bar_texts, tell_bars};
+use crate::strip_marks::{tell_arrow, tell_boxes, tell_points};
 use crate::style::{DEFINITIONS, STYLE};
 use crate::wrapped::{longest, wrapped_lines};
 use markup::Markup;
-use run_view::ThingKey;
 use std::alloc::AllocError;
-use view_picture::{Bar, Column, Lane, Picture, Status};
-use view_words::{LaneKey, Saying};
-
-/// The fewest characters of a text that are worth showing.
-const LEAST_ROOM: usize = 9;
+use view_picture::{Column, Picture, Status};
 
 /// The height of a line of text below a picture.
 const TEXT_LINE: u64 = 17;
@@ -31,9 +22,6 @@ const ANSWER_CHARACTER: u64 = 8;
 
 /// The space before such a line.
 const BEFORE_ANSWER: u64 = 8;
-
-/// The height of a bar whose text is in the middle. The text of a higher bar is at its top, with marks below it.
-const TALL: u64 = 19;
 
 /// Begins a picture by itself, with these strips one below the other.
 pub fn svg_head(
@@ -46,14 +34,14 @@ pub fn svg_head(
     let mut width = width_of_lines(&lines);
     let mut height = TEXT_LINE.saturating_mul((lines.len() as u64).saturating_add(1));
     for strip in strips {
-        let layout = Layout::new(picture, *strip)?;
+        let layout = Layout::whole(picture, *strip)?;
         width = width.max(layout.width);
         height = height.saturating_add(layout.height);
     }
     out.mark("<svg xmlns=\"http://www.w3.org/2000/svg\" class=\"alone\"")?;
-    tell_size(out, width, height)?;
+    tell_size(out, 0, width, height)?;
     out.mark(">\n<title>")?;
-    out.say(texts.heading)?;
+    tell_heading(out, picture, texts)?;
     out.mark("</title>\n<style>")?;
     out.mark(STYLE)?;
     out.mark("</style>\n")?;
@@ -83,51 +71,144 @@ fn width_of_lines(lines: &[String]) -> u64 {
     longest.saturating_add(2 * BEFORE_ANSWER)
 }
 
-/// Adds a strip, which begins at this height of the picture. Returns the height at which it ends.
+/// Adds a strip to a picture by itself, at this height. Returns the height at which it ends.
 pub fn tell_strip(
     out: &mut Markup,
     picture: &Picture,
     strip: Strip,
     y: u64,
 ) -> Result<u64, AllocError> {
-    let layout = Layout::new(picture, strip)?;
+    let layout = Layout::whole(picture, strip)?;
     out.mark("<svg class=\"strip\" y=\"")?;
     out.say(y)?;
     out.mark("\"")?;
-    tell_size(out, layout.width, layout.height)?;
-    out.mark(" role=\"img\">\n")?;
-    tell_title(out, picture, strip)?;
+    tell_size(out, 0, layout.width, layout.height)?;
+    out.mark(" role=\"img\">\n<title>")?;
+    tell_places(out, picture, strip)?;
+    out.mark("</title>\n")?;
+    tell_names(out, picture, &layout)?;
     tell_grounds(out, picture, &layout)?;
-    for column in strip.from..strip.to {
-        if let Some(one) = picture.columns().get(column) {
-            tell_column(out, &layout, column, one)?;
-        }
-    }
-    for row in layout.rows.iter() {
-        if let Some(lane) = picture.lanes().get(row.lane) {
-            tell_lane(out, picture, &layout, *row, lane)?;
-        }
-    }
-    for arrow in picture.arrows().iter() {
-        tell_arrow(out, picture, &layout, arrow)?;
-    }
-    tell_frames(out, picture, &layout)?;
+    tell_columns(out, picture, &layout)?;
+    tell_lanes(out, picture, &layout)?;
     out.mark("</svg>\n")?;
     Ok(y.saturating_add(layout.height))
 }
 
-// What the strip shows, for a person who cannot see it.
-fn tell_title(out: &mut Markup, picture: &Picture, strip: Strip) -> Result<(), AllocError> {
+/// Adds a strip to a page, without those lanes that have nothing to do with a fault in it.
+pub fn tell_near(out: &mut Markup, picture: &Picture, strip: Strip) -> Result<(), AllocError> {
+    let layout = Layout::near(picture, strip)?;
+    begin_box(out, picture, &layout)?;
+    tell_grounds(out, picture, &layout)?;
+    tell_columns(out, picture, &layout)?;
+    tell_lanes(out, picture, &layout)?;
+    end_box(out)
+}
+
+/// Adds the lanes of a strip that have nothing to do with a fault in it, folded, if there are any.
+pub fn tell_elsewhere(out: &mut Markup, picture: &Picture, strip: Strip) -> Result<(), AllocError> {
+    let count = count_elsewhere(picture, strip);
+    if count == 0 {
+        return Ok(());
+    }
+    let layout = Layout::elsewhere(picture, strip)?;
+    out.mark("<details class=\"elsewhere\">\n<summary>")?;
+    out.say(count)?;
+    out.say(if count == 1 {
+        " more lane"
+    } else {
+        " more lanes"
+    })?;
+    out.mark(", which the fault does not touch</summary>\n")?;
+    begin_box(out, picture, &layout)?;
+    tell_grounds(out, picture, &layout)?;
+    tell_numbers(out, picture, &layout)?;
+    tell_lanes(out, picture, &layout)?;
+    end_box(out)?;
+    out.mark("</details>\n")
+}
+
+// Begins the box of a page in which a strip scrolls sideways: the names of its lanes, which stay, and the strip up to its title.
+fn begin_box(out: &mut Markup, picture: &Picture, layout: &Layout) -> Result<(), AllocError> {
+    out.mark(
+        "<div class=\"scrolled\" tabindex=\"0\"><div class=\"beside\">\n<svg class=\"strip names\"",
+    )?;
+    tell_size(out, 0, LABELS, layout.height)?;
+    out.mark(">\n<rect class=\"paper\" width=\"100%\" height=\"100%\"/>\n")?;
+    tell_names(out, picture, layout)?;
+    out.mark("</svg>\n<svg class=\"strip\"")?;
+    tell_size(
+        out,
+        LABELS,
+        layout.width.saturating_sub(LABELS),
+        layout.height,
+    )?;
+    out.mark(" role=\"img\">\n<title>")?;
+    tell_places(out, picture, layout.strip)?;
+    out.mark("; the table below says the same</title>\n")
+}
+
+// Ends that box.
+fn end_box(out: &mut Markup) -> Result<(), AllocError> {
+    out.mark("</svg>\n</div></div>\n")
+}
+
+// The labels and numbers of the records, and what each says when a person points at it.
+fn tell_columns(out: &mut Markup, picture: &Picture, layout: &Layout) -> Result<(), AllocError> {
+    for column in layout.strip.from..layout.strip.to {
+        if let Some(one) = picture.columns().get(column) {
+            tell_column(out, layout, column, one)?;
+        }
+    }
+    Ok(())
+}
+
+// The numbers of the records alone.
+fn tell_numbers(out: &mut Markup, picture: &Picture, layout: &Layout) -> Result<(), AllocError> {
+    for column in layout.strip.from..layout.strip.to {
+        if let Some(one) = picture.columns().get(column) {
+            tell_number(out, layout, column, one)?;
+        }
+    }
+    Ok(())
+}
+
+// The lanes of a strip. No line is over a text: first the bars, then the frames, the arrows and the marks without texts, and then all texts.
+fn tell_lanes(out: &mut Markup, picture: &Picture, layout: &Layout) -> Result<(), AllocError> {
+    for row in layout.rows.iter() {
+        if let Some(lane) = picture.lanes().get(row.lane) {
+            begin_lane(out, lane)?;
+            tell_bars(out, picture, layout, *row, lane)?;
+            out.mark("</g>\n")?;
+        }
+    }
+    tell_frames(out, picture, layout)?;
+    for arrow in picture.arrows().iter() {
+        tell_arrow(out, picture, layout, arrow)?;
+    }
+    for row in layout.rows.iter() {
+        if let Some(lane) = picture.lanes().get(row.lane) {
+            begin_lane(out, lane)?;
+            tell_points(out, picture, layout, *row, lane)?;
+            out.mark("</g>\n")?;
+        }
+    }
+    for row in layout.rows.iter() {
+        if let Some(lane) = picture.lanes().get(row.lane) {
+            begin_lane(out, lane)?;
+            tell_bar_texts(out, layout, *row, lane)?;
+            tell_boxes(out, layout, *row, lane)?;
+            out.mark("</g>\n")?;
+        }
+    }
+    Ok(())
+}
+
+// The places of a strip.
+fn tell_places(out: &mut Markup, picture: &Picture, strip: Strip) -> Result<(), AllocError> {
     let first = picture.columns().get(strip.from);
     let last = picture.columns().get(strip.to.saturating_sub(1));
     if let (Some(first), Some(last)) = (first, last) {
-        out.mark("<title>")?;
-        out.say(format_args!(
-            "Places {} to {}; the table below the picture says the same",
-            first.place.number(),
-            last.place.number()
-        ))?;
-        out.mark("</title>\n")?;
+        out.say(format_args!("Places {} to {}", first.place.number(), last.place.number()))?;
     }
     Ok(())
 }
@@ -211,19 +292,16 @@ fn tell_column(
     out.mark("</title>\n")?;
     let height = layout.bottom.saturating_sub(layout.foot_of_labels);
     tell_rect(out, "hit", left, layout.foot_of_labels, right, height)?;
-    match column.status {
-        Status::After | Status::Beyond => {}
-        Status::Accepted | Status::Rejected | Status::Broken => {
-            tell_label(out, layout, index, left, column)?;
-        }
+    if column.status.is_judged() {
+        tell_label(out, layout, left, column)?;
     }
+    tell_number(out, layout, index, column)?;
     out.mark("</g>\n")
 }
 
 fn tell_label(
     out: &mut Markup,
     layout: &Layout,
-    index: usize,
     left: u64,
     column: &Column,
 ) -> Result<(), AllocError> {
@@ -236,145 +314,24 @@ fn tell_label(
     out.mark(",")?;
     out.say(y)?;
     out.mark(") rotate(-62)\">")?;
-    if column.status == Status::Rejected || column.status == Status::Broken {
+    if column.status.is_fault() {
         out.mark("✗ ")?;
     }
-    out.say(Fitted(column.label.as_str(), LONGEST_LABEL))?;
-    out.mark("</text>\n")?;
+    out.say(Shortened(column.label.as_str(), LONGEST_LABEL))?;
+    out.mark("</text>\n")
+}
+
+// The place of a record that is judged, if there is room for it.
+fn tell_number(
+    out: &mut Markup,
+    layout: &Layout,
+    index: usize,
+    column: &Column,
+) -> Result<(), AllocError> {
     let place = column.place.number();
-    if place < 10_000 || index % 3 == 0 {
+    if column.status.is_judged() && (place < 10_000 || index % 3 == 0) {
         let y = layout.foot_of_labels.saturating_add(11);
-        tell_text(out, "place", left.saturating_add(2), y, place)?;
+        tell_text(out, "place", layout.left(index).saturating_add(2), y, place)?;
     }
     Ok(())
-}
-
-// A lane: its label, its bars and its marks.
-fn tell_lane(
-    out: &mut Markup,
-    picture: &Picture,
-    layout: &Layout,
-    row: Row,
-    lane: &Lane,
-) -> Result<(), AllocError> {
-    out.mark("<g class=\"lane ")?;
-    out.mark(class_of_lane(&lane.key))?;
-    out.mark("\">\n")?;
-    let is_core = matches!(&lane.key, LaneKey::Core(_));
-    let x = match &lane.key {
-        LaneKey::Process(_) | LaneKey::Thing(ThingKey::Object { .. }) => 18,
-        LaneKey::Core(_) | LaneKey::Partition(_) | LaneKey::Thing(ThingKey::Channel(_)) => 6,
-    };
-    let most = ((LABELS - 20) / CHARACTER) as usize;
-    tell_text(
-        out,
-        "name",
-        x,
-        row.middle().saturating_add(4),
-        Fitted(lane.label.as_str(), most),
-    )?;
-    let (y, height) = if is_core {
-        for bar in lane.windows.as_slice() {
-            tell_bar(out, picture, layout, bar, row.y, BAND)?;
-        }
-        (
-            row.y.saturating_add(BAND + 1),
-            row.height.saturating_sub(BAND + 1),
-        )
-    } else {
-        (row.y, row.height)
-    };
-    for bar in lane.bars.as_slice() {
-        tell_bar(out, picture, layout, bar, y, height)?;
-    }
-    tell_marks(out, picture, layout, row, lane)?;
-    out.mark("</g>\n")
-}
-
-// A bar, as far as it is in the strip.
-fn tell_bar(
-    out: &mut Markup,
-    picture: &Picture,
-    layout: &Layout,
-    bar: &Bar,
-    y: u64,
-    height: u64,
-) -> Result<(), AllocError> {
-    let from = bar.from.max(layout.strip.from);
-    let to = bar.to.min(layout.strip.to);
-    if from >= to {
-        return Ok(());
-    }
-    let (left, right) = (layout.left(from), layout.left(to));
-    out.mark("<g class=\"")?;
-    out.mark(classes_of_look(bar.saying.look))?;
-    out.mark("\"><title>")?;
-    out.say(bar.saying.title.as_str())?;
-    tell_stretch(out, picture, bar)?;
-    out.mark("</title><rect class=\"fill\" ")?;
-    tell_box(out, left, y, right, height)?;
-    out.mark("/>")?;
-    if let Some(pattern) = pattern_of(bar.saying.look) {
-        out.mark("<rect class=\"pattern\" fill=\"")?;
-        out.mark(pattern)?;
-        out.mark("\" ")?;
-        tell_box(out, left, y, right, height)?;
-        out.mark("/>")?;
-    }
-    tell_bar_text(out, &bar.saying, left, y, right, height)?;
-    out.mark("</g>\n")
-}
-
-// The text of a bar, as far as there is room for it.
-fn tell_bar_text(
-    out: &mut Markup,
-    saying: &Saying,
-    left: u64,
-    y: u64,
-    right: u64,
-    height: u64,
-) -> Result<(), AllocError> {
-    let room = (right.saturating_sub(left).saturating_sub(INSIDE) / CHARACTER) as usize;
-    let Some(text) = text_that_fits(saying, room) else {
-        return Ok(());
-    };
-    let y = y.saturating_add(height.min(TALL) / 2).saturating_add(4);
-    let x = left.saturating_add(BEFORE_TEXT);
-    tell_text(out, class_of_bar_text(height), x, y, Fitted(text, room))
-}
-
-// The class of the text of a bar of this height.
-fn class_of_bar_text(height: u64) -> &'static str
-    ensures { is_own result.now ≡ true }
-{
-    if height <= BAND { "said small" } else { "said" }
-}
-
-// The text of a bar that has room for this many characters: its text, the shorter one, or the beginning of its text.
-fn text_that_fits(saying: &Saying, room: usize) -> Option<&str> {
-    let (text, brief) = (saying.text.as_str(), saying.brief.as_str());
-    if text.chars().count() <= room {
-        Some(text)
-    } else if room >= LEAST_ROOM {
-        Some(text)
-    } else if !brief.is_empty() && brief.chars().count() <= room {
-        Some(brief)
-    } else {
-        None
-    }
-}
-
-// The first and the last place of a bar.
-fn tell_stretch(out: &mut Markup, picture: &Picture, bar: &Bar) -> Result<(), AllocError> {
-    out.mark("\n")?;
-    match picture.columns().get(bar.from) {
-        Some(column) if bar.from > 0 => {
-            out.say(format_args!("from place {}", column.place.number()))?;
-        }
-        _ => out.mark("from before the picture or its first record")?,
-    }
-    match picture.columns().get(bar.to) {
-        Some(column) => out.say(format_args!(", up to place {}", column.place.number())),
-        None => out.mark(", to the end of the picture"),
-    }
 }

@@ -3,34 +3,44 @@
 use crate::classes::{
     class_of_point, classes_of_arrow, classes_of_box, sign_of_box, words_of_arrow,
 };
-use crate::layout::{LABELS, Layout, Row};
-use crate::shapes::{BAND, CHARACTER, Fitted, INSIDE, tell_box, tell_line};
+use crate::layout::{LABELS, Layout};
+use crate::rows::{ABOVE_FOOT, MARKS, Row};
+use crate::shapes::{CHARACTER, Fitted, INSIDE, tell_box, tell_line};
 use markup::Markup;
 use std::alloc::AllocError;
 use std::fmt::Display;
 use view_picture::{Arrow, ArrowEnd, ArrowKind, Lane, Mark, MarkKind, Picture};
 
-// The marks of a lane in the strip.
-pub(crate) fn tell_marks(
+// The marks of a lane at the left edges of records.
+pub(crate) fn tell_points(
     out: &mut Markup,
     picture: &Picture,
     layout: &Layout,
     row: Row,
     lane: &Lane,
 ) -> Result<(), AllocError> {
-    let mut line = 0u64;
-    let boxes = lane.marks.iter().filter(|mark| mark.kind.is_box()).count() as u64;
     for mark in lane.marks.iter() {
-        if !layout.has(mark.column) {
-            continue;
-        }
-        if mark.kind.is_box() {
-            let height = row.height / boxes.max(1);
-            let y = row.y.saturating_add(height.saturating_mul(line));
-            tell_box_mark(out, layout, mark, y, height)?;
-            line = line.saturating_add(1);
-        } else {
+        if layout.has(mark.column) && !mark.kind.is_box() {
             tell_point_mark(out, picture, layout, mark, row)?;
+        }
+    }
+    Ok(())
+}
+
+// The marks of a lane that have their texts beside them, one below the other.
+pub(crate) fn tell_boxes(
+    out: &mut Markup,
+    layout: &Layout,
+    row: Row,
+    lane: &Lane,
+) -> Result<(), AllocError> {
+    let boxes = lane.marks.iter().filter(|mark| mark.kind.is_box()).count() as u64;
+    let height = row.height / boxes.max(1);
+    let mut y = row.y;
+    for mark in lane.marks.iter() {
+        if layout.has(mark.column) && mark.kind.is_box() {
+            tell_box_mark(out, layout, mark, y, height)?;
+            y = y.saturating_add(height);
         }
     }
     Ok(())
@@ -100,15 +110,14 @@ fn tell_point(
 ) -> Result<(), AllocError> {
     let x = layout.left(mark.column);
     match mark.kind {
-        MarkKind::Tick => tell_line(out, x, row.y, row.y.saturating_add(BAND)),
+        MarkKind::Tick => tell_line(out, x, row.foot().saturating_sub(MARKS), row.foot()),
         MarkKind::Restart => {
             let bottom = foot_of_partition(picture, layout, row);
             tell_line(out, x, row.y.saturating_sub(4), bottom)
         }
         MarkKind::Dispatch => {
-            let middle = row.middle().saturating_add(7);
             out.mark("<path d=\"M")?;
-            out.say(format_args!("{x},{}", middle.saturating_sub(6)))?;
+            out.say(format_args!("{x},{}", row.foot().saturating_sub(MARKS)))?;
             out.mark("l9,6l-9,6z\"/>")
         }
         MarkKind::Call
@@ -119,7 +128,7 @@ fn tell_point(
             out.mark("<circle r=\"3.5\" cx=\"")?;
             out.say(x)?;
             out.mark("\" cy=\"")?;
-            out.say(row.y.saturating_add(row.height).saturating_sub(5))?;
+            out.say(row.foot().saturating_sub(ABOVE_FOOT))?;
             out.mark("\"/>")
         }
     }
@@ -131,11 +140,11 @@ fn foot_of_partition(picture: &Picture, layout: &Layout, row: Row) -> u64 {
         Some(lane) => lane.key.partition(),
         None => None,
     };
-    let mut foot = row.y.saturating_add(row.height);
+    let mut foot = row.foot();
     for other in layout.rows.iter() {
         if let Some(lane) = picture.lanes().get(other.lane) {
             if lane.key.partition() == part {
-                foot = foot.max(other.y.saturating_add(other.height));
+                foot = foot.max(other.foot());
             }
         }
     }
@@ -166,8 +175,8 @@ pub(crate) fn tell_arrow(
     };
     let way = Way {
         kind: arrow.kind,
-        from: (left, from.middle()),
-        to: (right, to.middle()),
+        from: (left, from.end_of_arrow(&arrow.from.lane)),
+        to: (right, to.end_of_arrow(&arrow.to.lane)),
     };
     tell_way(out, arrow, way)
 }
@@ -202,7 +211,7 @@ impl Display for Way {
         let ((left, top), (right, bottom)) = (self.from, self.to);
         match self.kind {
             ArrowKind::Wake => {
-                let x = left.saturating_add(5);
+                let x = left.saturating_add(3);
                 write!(f, "M{x},{top}L{x},{bottom}")
             }
             ArrowKind::Message => {

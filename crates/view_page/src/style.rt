@@ -6,10 +6,13 @@ pub const STYLE: &str = "
 .alone { color-scheme: light dark; }
 .strip, .key { font: 11px system-ui, -apple-system, 'Segoe UI', 'DejaVu Sans', sans-serif; }
 .paper { fill: #ffffff; }
-.strip .place { fill: #5b6570; font-size: 9px; }
-.strip .name { font-weight: 600; }
+.strip .place { fill: #57616b; font-size: 9px; }
+.strip .heading { fill: #57616b; font-size: 10px; }
+.strip .label { fill: #14181d; }
+.strip .name { fill: #14181d; font-weight: 600; }
 .strip .process .name, .strip .thing .name { font-weight: 400; }
 .strip .rejected .label, .strip .broken .label { fill: #b84300; font-weight: 700; }
+.answer .line { fill: #14181d; font: 13px ui-monospace, 'DejaVu Sans Mono', monospace; white-space: pre; }
 .ground { fill: #f1f3f5; }
 .ground-rejected { fill: #b84300; fill-opacity: .14; }
 .frame { fill: none; stroke: #b84300; stroke-width: 2; }
@@ -18,24 +21,27 @@ pub const STYLE: &str = "
 .record:hover .hit { fill: #5b6570; fill-opacity: .18; }
 .bar .fill { stroke: #ffffff; stroke-width: 1; }
 .bar .said { fill: #000000; pointer-events: none; }
+.plate { pointer-events: none; }
 .strip .small { font-size: 10px; }
 .pattern { pointer-events: none; }
-.window .fill { fill: #cfe3ef; }
-.no-window .fill { fill: #e3e3e3; }
-.occupied .fill { fill: #0072b2; }
+.window .fill, .window .plate { fill: #cfe3ef; }
+.no-window .fill, .no-window .plate { fill: #e3e3e3; }
+.occupied .fill, .occupied .plate { fill: #0072b2; }
 .bar.occupied .said, .bar.running .said, .bar.raised .said { fill: #ffffff; }
-.idle .fill { fill: #e3e3e3; }
-.normal .fill { fill: #b5e0d2; }
-.other-mode .fill { fill: #f0e442; }
-.running .fill { fill: #0072b2; }
-.raised .fill { fill: #0072b2; stroke: #d55e00; stroke-width: 3; }
-.ready .fill, .preempted .fill { fill: #9bd3f3; }
-.waiting .fill { fill: #f3bd55; }
-.suspended .fill { fill: #dfa6c6; }
+.idle .fill, .idle .plate { fill: #e3e3e3; }
+.normal .fill, .normal .plate { fill: #b5e0d2; }
+.other-mode .fill, .other-mode .plate { fill: #f0e442; }
+.running .fill, .running .plate { fill: #0072b2; }
+.raised .fill, .raised .plate { fill: #0072b2; }
+.raised .fill { stroke: #d55e00; stroke-width: 3; }
+.ready .fill, .ready .plate, .preempted .fill, .preempted .plate { fill: #9bd3f3; }
+.waiting .fill, .waiting .plate { fill: #f3bd55; }
+.suspended .fill, .suspended .plate { fill: #dfa6c6; }
 .dormant .fill { fill: none; stroke: #c3cad1; stroke-dasharray: 3 3; }
-.bar.dormant .said { fill: #5b6570; }
-.free .fill { fill: #e9e4d8; }
-.awaited .fill { fill: #f6dca6; }
+.dormant .plate { fill: #f1f3f5; }
+.bar.dormant .said { fill: #57616b; }
+.free .fill, .free .plate { fill: #e9e4d8; }
+.awaited .fill, .awaited .plate { fill: #f6dca6; }
 .mark.tick line { stroke: #000000; stroke-width: 1.5; }
 .mark.tick line.halo { stroke: #ffffff; stroke-width: 3.5; }
 .mark.dispatch path { fill: #000000; stroke: #ffffff; }
@@ -57,7 +63,8 @@ pub const STYLE: &str = "
 #after path { stroke: #c3cad1; stroke-width: 3; }
 @media screen and (prefers-color-scheme: dark) {
 .paper { fill: #14181d; }
-.strip .place { fill: #a3adb8; }
+.strip .place, .strip .heading { fill: #a3adb8; }
+.strip .label, .strip .name, .answer .line { fill: #e9edf1; }
 .strip .rejected .label, .strip .broken .label { fill: #ff9a57; }
 .ground { fill: #20262d; }
 .ground-rejected { fill: #ff9a57; }
@@ -66,7 +73,11 @@ pub const STYLE: &str = "
 .bar .fill { stroke: #14181d; }
 .raised .fill { stroke: #d55e00; }
 .dormant .fill { stroke: #46505b; }
+.dormant .plate { fill: #20262d; }
 .bar.dormant .said { fill: #a3adb8; }
+.mark.tick line { stroke: #e9edf1; }
+.mark.tick line.halo { stroke: #14181d; }
+.mark.dispatch path { fill: #e9edf1; stroke: #14181d; }
 .mark.restart line { stroke: #ff9a57; }
 .mark.restart line.halo { stroke: #14181d; }
 .mark.lawful rect { fill: #14181d; stroke: #4fd0a5; }
@@ -94,23 +105,31 @@ pub const DEFINITIONS: &str = "<defs>
 </defs>
 ";
 
-/// The style of a page.
+/// The style of a page. In a narrow one, each row of the table is a card.
 pub const PAGE_STYLE: &str = "
-.page { --ink: #14181d; --paper: #ffffff; --soft: #5b6570; --ground: #f1f3f5; --line: #c3cad1; --fault: #b84300; --right: #00684b; color-scheme: light dark; }
+.page { --ink: #14181d; --paper: #ffffff; --soft: #57616b; --ground: #f1f3f5; --line: #c3cad1; --fault: #b84300; --right: #00684b; color-scheme: light dark; }
 @media screen and (prefers-color-scheme: dark) { .page { --ink: #e9edf1; --paper: #14181d; --soft: #a3adb8; --ground: #20262d; --line: #46505b; --fault: #ff9a57; --right: #4fd0a5; } }
 body.page { margin: 0; padding: 16px 20px 40px; background: var(--paper); color: var(--ink); font: 15px/1.45 system-ui, -apple-system, 'Segoe UI', 'DejaVu Sans', sans-serif; }
-h1 { font-size: 22px; margin: 0 0 4px; }
+h1 { font-size: 22px; margin: 0 0 4px; overflow-wrap: anywhere; }
 h2 { font-size: 17px; margin: 22px 0 6px; }
 h3 { font-size: 14px; margin: 0 0 2px; color: var(--soft); font-weight: 600; }
+p { margin: 0; overflow-wrap: anywhere; }
 code, pre { font: 13px/1.45 ui-monospace, 'DejaVu Sans Mono', monospace; }
 pre { margin: 8px 0; padding: 10px 12px; border-left: 4px solid var(--fault); background: var(--ground); white-space: pre-wrap; overflow-wrap: anywhere; }
 .lawful-run pre { border-left-color: var(--right); }
 .strips { display: flex; flex-wrap: wrap; gap: 14px 18px; align-items: flex-start; }
 .piece { max-width: 100%; }
-.strip { display: block; max-width: 100%; height: auto; }
+.strip { display: block; flex: none; }
+.scrolled { overflow-x: auto; }
+.beside { display: flex; width: max-content; }
+.names { position: sticky; left: 0; z-index: 1; }
+.elsewhere { margin: 8px 0 0; color: var(--soft); font-size: 13px; }
+summary { cursor: pointer; }
+a { color: inherit; }
+tr:target td { border-color: var(--fault); }
 .key { display: flex; flex-wrap: wrap; gap: 6px 16px; margin: 10px 0 18px; padding: 0; list-style: none; font-size: 12px; }
 .key svg { vertical-align: -5px; margin-right: 5px; }
-.key .point { background: #cfe3ef; border-radius: 3px; }
+.key .point { background: var(--ground); border-radius: 3px; }
 table { border-collapse: collapse; font-size: 13px; }
 caption { text-align: left; font-weight: 600; padding: 4px 0; }
 th, td { border: 1px solid var(--line); padding: 3px 7px; text-align: left; vertical-align: top; }
@@ -120,6 +139,20 @@ th { background: var(--ground); white-space: nowrap; }
 tr.rejected td, tr.broken td { background: color-mix(in srgb, var(--fault) 14%, transparent); font-weight: 600; }
 tr.after td { color: var(--soft); }
 .hidden { position: absolute; width: 0; height: 0; overflow: hidden; }
+@media screen and (max-width: 700px) {
+body.page { padding: 12px 12px 32px; }
+table, caption, tbody, tr { display: block; }
+thead { display: none; }
+tr { border: 1px solid var(--line); margin: 0 0 8px; }
+td { display: block; border: 0; }
+td:nth-child(-n+3) { display: inline-block; }
+td:nth-child(1)::before { content: 'place '; }
+td:nth-child(2)::before { content: 'core '; }
+td:nth-child(3)::before { content: 'time '; }
+td:nth-child(3):empty { display: none; }
+td:nth-child(5):empty { display: none; }
+td:nth-child(5), td:nth-child(6) { border-top: 1px solid var(--line); }
+}
 @page { size: A4 landscape; margin: 10mm; }
-@media print { body.page { padding: 0; font-size: 11px; } .piece { break-inside: avoid; } tr { break-inside: avoid; } .strip, .key svg { print-color-adjust: exact; -webkit-print-color-adjust: exact; } }
+@media print { body.page { padding: 0; font-size: 11px; } .piece { break-inside: avoid; } .scrolled { overflow: visible; zoom: .8; } tr { break-inside: avoid; } .strip, .key svg { print-color-adjust: exact; -webkit-print-color-adjust: exact; } }
 ";

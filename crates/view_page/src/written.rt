@@ -3,9 +3,9 @@
 ghost use Rattle.view_page.specs.Sent.{Ends, taken_by};
 
 use crate::fault::PageFault;
-use crate::html::{PageTexts, page_foot, page_head, strip_heading};
+use crate::html::{PageTexts, page_foot, page_head, strip_heading, tell_key};
 use crate::layout::Strip;
-use crate::strip::{svg_foot, svg_head, tell_strip};
+use crate::strip::{svg_foot, svg_head, tell_elsewhere, tell_near, tell_strip};
 use crate::table::{table_foot, table_head, tell_rows};
 use markup::Markup;
 use sink::Sink;
@@ -34,7 +34,7 @@ pub fn write_svg<W: Sink>(
     put(&mut out, output)
 }
 
-/// Writes a page: the last strip, which has the fault, then those before it, then the table.
+/// Writes a page: the last strip, which has the fault, then the key, the strips before it and the table.
 pub fn write_html<W: Sink>(
     alloc: Global,
     picture: &Picture,
@@ -45,13 +45,13 @@ pub fn write_html<W: Sink>(
     ensures { Ends result (taken_by W.bytes W.failures output.old) (taken_by W.bytes W.failures output.new) }
 {
     let mut out = Markup::new(alloc);
-    page_head(&mut out, texts)?;
+    page_head(&mut out, picture, texts)?;
     put(&mut out, output)?;
     write_strips(&mut out, picture, strips, output)?;
     write_table(&mut out, picture, strips, output)
 }
 
-// Writes the last strip, and then those before it.
+// Writes the last strip and the key, and then the strips before it.
 fn write_strips<W: Sink>(
     out: &mut Markup,
     picture: &Picture,
@@ -64,6 +64,7 @@ fn write_strips<W: Sink>(
         return Ok(());
     };
     write_piece(out, picture, *last, output)?;
+    tell_key(out)?;
     if before.is_empty() {
         return Ok(());
     }
@@ -98,7 +99,8 @@ fn write_piece<W: Sink>(
 {
     out.mark("<div class=\"piece\">\n")?;
     strip_heading(out, picture, strip)?;
-    tell_strip(out, picture, strip, 0)?;
+    tell_near(out, picture, strip)?;
+    tell_elsewhere(out, picture, strip)?;
     out.mark("</div>\n")?;
     put(out, output)
 }

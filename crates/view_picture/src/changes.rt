@@ -77,14 +77,19 @@ impl Picture {
             Some(last) => Some(*last),
             None => None,
         };
-        if !matches!(&last, Some(last) if last.window == view.window) {
+        let has_window = matches!(&last, Some(last) if last.window == view.window);
+        let has_occupant = matches!(&last, Some(last) if last.occupant == view.occupant);
+        if !has_window {
             add_words(told, format_args!("{}", window.title))?;
         }
-        if !matches!(&last, Some(last) if last.occupant == view.occupant) {
+        if !has_occupant {
             add_words(told, format_args!("{}", occupant.title))?;
         }
         self.keep_core(view)?;
         let lane = self.lane(LaneKey::Core(view.core), "")?;
+        if !has_window || !has_occupant {
+            lane.concerned.push(column)?;
+        }
         lane.windows.say(column, window)?;
         lane.bars.say(column, occupant)
     }
@@ -107,18 +112,28 @@ impl Picture {
         told: &mut String,
     ) -> Result<(), AllocError> {
         let is_affected = self.is_affected(who, view);
-        self.keep_process(who, view)?;
         let name = process_name(self.alloc, pieces, who)?;
         let lane = self.lane(LaneKey::Process(*who), name.as_str())?;
-        if !is_affected {
-            return Ok(());
+        if is_affected {
+            lane.concerned.push(column)?;
+            self.tell_process(who, name.as_str(), view, told)?;
         }
-        lane.concerned.push(column)?;
-        let saying = process_saying(self.alloc, who, view, Hold::Waits)?;
+        self.keep_process(who, name, view)
+    }
+
+    // Says what a process does from now on.
+    fn tell_process(
+        &self,
+        who: &Who,
+        name: &str,
+        view: &ProcessView,
+        told: &mut String,
+    ) -> Result<(), AllocError> {
+        let saying = process_saying(self.alloc, who, name, view, Hold::Waits)?;
         let verb = verb_of(saying.look);
         add_words(
             told,
-            format_args!("{} {verb}{}", Numbered(*who), saying.text),
+            format_args!("{}{name} {verb}{}", Numbered(*who), saying.text),
         )?;
         let (current, base) = (view.current_priority, view.base_priority);
         if current != base {
@@ -141,15 +156,24 @@ impl Picture {
     }
 
     // Keeps what is known of a process.
-    fn keep_process(&mut self, who: &Who, view: &ProcessView) -> Result<(), AllocError> {
+    fn keep_process(
+        &mut self,
+        who: &Who,
+        name: String,
+        view: &ProcessView,
+    ) -> Result<(), AllocError> {
         match self
             .processes
             .iter()
             .position(|process| process.who == *who)
         {
-            Some(index) => self.processes[index].view = *view,
+            Some(index) => {
+                self.processes[index].name = name;
+                self.processes[index].view = *view;
+            }
             None => self.processes.push(ProcessNow {
                 who: *who,
+                name,
                 view: *view,
                 hold: Hold::Waits,
             })?,
@@ -191,7 +215,13 @@ impl Picture {
         };
         let before = process.hold;
         let now = self.hold_of(process);
-        let saying = process_saying(self.alloc, &process.who, &process.view, now)?;
+        let saying = process_saying(
+            self.alloc,
+            &process.who,
+            process.name.as_str(),
+            &process.view,
+            now,
+        )?;
         let key = LaneKey::Process(process.who);
         if let Some(process) = self.processes.get_mut(index) {
             process.hold = now;

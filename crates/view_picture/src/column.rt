@@ -17,6 +17,24 @@ pub enum Status {
     Beyond,
 }
 
+impl Status {
+    /// Whether the record is judged.
+    pub fn is_judged(self) -> bool {
+        match self {
+            Status::Accepted | Status::Rejected | Status::Broken => true,
+            Status::After | Status::Beyond => false,
+        }
+    }
+
+    /// Whether the record is rejected or breaks a rule.
+    pub fn is_fault(self) -> bool {
+        match self {
+            Status::Rejected | Status::Broken => true,
+            Status::Accepted | Status::After | Status::Beyond => false,
+        }
+    }
+}
+
 /// Where a record is: its file, its line if it is known, and its row there.
 #[derive(Clone, Copy, Debug)]
 pub struct Source<'a> {
@@ -34,12 +52,22 @@ pub struct Column {
     pub time: Option<u64>,
     pub status: Status,
     pub label: String,
+    /// Its file and, if it is known, its line; and the same with its row.
+    pub location: String,
     pub source: String,
     pub words: String,
     pub changes: String,
 }
 
-// Where a record is, in words.
+// The file of a record and, if it is known, its line.
+pub(crate) fn location_text(alloc: Global, source: &Source<'_>) -> Result<String, AllocError> {
+    match source.line {
+        Some(line) => format!(in alloc; "{}, line {line}", source.file),
+        None => String::from_str(alloc, source.file),
+    }
+}
+
+// Where a record is, with its row if that is known.
 pub(crate) fn source_text(alloc: Global, source: &Source<'_>) -> Result<String, AllocError> {
     match source.line {
         Some(line) => format!(in alloc; "{}, line {line}: {}", source.file, source.row),

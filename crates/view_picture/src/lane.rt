@@ -53,6 +53,8 @@ pub struct Lane {
     pub marks: Vec<Mark>,
     /// The columns at which it acts or is affected, in rising order.
     pub concerned: Vec<usize>,
+    /// Whether the record that is rejected or breaks a rule touches it.
+    pub is_touched: bool,
 }
 
 impl Lane {
@@ -65,6 +67,7 @@ impl Lane {
             bars: Bars::new(alloc),
             marks: Vec::new(alloc),
             concerned: Vec::new(alloc),
+            is_touched: false,
         }
     }
 

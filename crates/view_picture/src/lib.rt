@@ -12,6 +12,7 @@ mod column;
 mod lane;
 mod marks;
 mod picture;
+mod touched;
 
 pub use arrow::{Arrow, ArrowEnd, ArrowKind};
 pub use bars::{Bar, Bars};

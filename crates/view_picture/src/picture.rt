@@ -4,9 +4,10 @@ ghost use Rattle.std.specs.Prelude.{◌≡◌, ◌<◌, IfOk, length};
 ghost use Rattle.view_picture.specs.Records.{record_count};
 
 use crate::arrow::Arrow;
-use crate::column::{Column, Source, Status, source_text};
+use crate::column::{Column, Source, Status, location_text, source_text};
 use crate::lane::{Lane, MarkKind};
 use crate::marks::actor_of;
+use crate::touched::{is_at_core, names};
 use apex_types::{Body, CoreId, Ordered, Who};
 use piece_check::Piece;
 use run_view::{Change, CoreView, Followed, Lawful, ProcessView};
@@ -25,10 +26,11 @@ pub struct Picture {
     pub(crate) processes: Vec<ProcessNow>,
 }
 
-// A process as it is now.
-#[derive(Clone, Copy)]
+// A process as it is now, with its name in quotes after a space; the name is empty if it has none.
+#[derive(Drop)]
 pub(crate) struct ProcessNow {
     pub(crate) who: Who,
+    pub(crate) name: String,
     pub(crate) view: ProcessView,
     pub(crate) hold: Hold,
 }
@@ -149,13 +151,37 @@ impl Picture {
         }
     }
 
+    // Notes which lanes this record touches: those that act or are affected in its column, those of what it names, and those of what is
+    // on its core.
+    fn note_touched(&mut self, column: usize, ordered: &Ordered) {
+        let core = match self.cores.iter().find(|view| view.core == ordered.core) {
+            Some(view) => Some(*view),
+            None => None,
+        };
+        for lane in self.lanes.iter_mut() {
+            lane.is_touched = lane.is_concerned(column, column.saturating_add(1))
+                || names(ordered, &lane.key)
+                || is_at_core(&core, &lane.key);
+        }
+    }
+
     fn add_column(&mut self, added: &Added<'_>, changes: String) -> Result<(), AllocError> {
         let ordered = added.ordered;
         let time = match added.status {
             Status::Accepted | Status::Broken => self.time_of(&ordered.core),
             Status::Rejected | Status::After | Status::Beyond => None,
         };
+        let column = self.columns.len();
+        if added.status.is_judged() {
+            self.lane(LaneKey::Core(ordered.core), "")?
+                .concerned
+                .push(column)?;
+        }
+        if added.status.is_fault() {
+            self.note_touched(column, ordered);
+        }
         let label = label_of(self.alloc, ordered, time)?;
+        let location = location_text(self.alloc, &added.source)?;
         let source = source_text(self.alloc, &added.source)?;
         self.columns.push(Column {
             place: ordered.pos,
@@ -163,6 +189,7 @@ impl Picture {
             time,
             status: added.status,
             label,
+            location,
             source,
             words: words_of(self.alloc, ordered)?,
             changes,

@@ -20,10 +20,11 @@ pub enum Hold {
     Waits,
 }
 
-/// What is said of a process.
+/// What is said of a process, whose name is in quotes after a space, or is empty if it has none.
 pub fn process_saying(
     alloc: Global,
     who: &Who,
+    name: &str,
     view: &ProcessView,
     hold: Hold,
 ) -> Result<Saying, AllocError> {
@@ -31,7 +32,7 @@ pub fn process_saying(
     let text = text_of(alloc, view, hold)?;
     let verb = verb_of(look);
     let title = format!(in alloc;
-        "{} {verb}{text}; its own priority is {}, and its core {}",
+        "{}{name} {verb}{text}; its own priority is {}, and its core {}",
         Numbered(*who),
         view.base_priority,
         view.affinity.number()

@@ -1,5 +1,6 @@
 // What the bars of objects and channels say.
 
+use crate::labels::quoted;
 use crate::look::Look;
 use crate::process_bars::Short;
 use crate::saying::Saying;
@@ -24,8 +25,9 @@ pub fn thing_saying(alloc: Global, key: &ThingKey, view: &ThingView) -> Result<S
         Queue("; sends:", &view.senders),
         Queue("; waits:", &view.waiters)
     )?;
+    let name = quoted(alloc, view.name.as_slice())?;
     let title = format!(in alloc;
-        "{} {}{}{}",
+        "{}{name} {}{}{}",
         KeyName(*key),
         HeldInFull(&view.contents),
         QueueInFull("to send", &view.senders),

@@ -1,0 +1,186 @@
+// The bars of a strip, and their texts.
+
+ghost use Rattle.std.specs.Prelude.{◌≡◌, true};
+ghost use Rattle.markup.specs.Own.{is_own};
+
+use crate::classes::{classes_of_look, pattern_of};
+use crate::layout::Layout;
+use crate::rows::{MARKS, Row};
+use crate::shapes::{BAND, BEFORE_TEXT, CHARACTER, Fitted, INSIDE, tell_box, tell_text};
+use markup::Markup;
+use std::alloc::AllocError;
+use view_picture::{Bar, Lane, Picture};
+use view_words::{LaneKey, Saying};
+
+/// The fewest characters of a text that are worth showing.
+const LEAST_ROOM: usize = 9;
+
+/// The height of a bar whose text is in the middle. The text of a higher bar is at its top, with marks below it.
+const TALL: u64 = 19;
+
+// Where the bars of a lane are: those of the windows, which only a core has, and below them the others.
+#[derive(Clone, Copy, Debug)]
+struct Places {
+    y: u64,
+    height: u64,
+}
+
+// Where the bars of a lane are that are not of windows.
+fn places_of(row: Row, lane: &Lane) -> Places {
+    match &lane.key {
+        LaneKey::Core(_) => Places {
+            y: row.y.saturating_add(BAND + 1),
+            height: row.height.saturating_sub(BAND + 1 + MARKS),
+        },
+        LaneKey::Partition(_) | LaneKey::Process(_) | LaneKey::Thing(_) => Places {
+            y: row.y,
+            height: row.height,
+        },
+    }
+}
+
+/// Adds the bars of a lane, without their texts.
+pub fn tell_bars(
+    out: &mut Markup,
+    picture: &Picture,
+    layout: &Layout,
+    row: Row,
+    lane: &Lane,
+) -> Result<(), AllocError> {
+    let windows = Places {
+        y: row.y,
+        height: BAND,
+    };
+    for bar in lane.windows.as_slice() {
+        tell_bar(out, picture, layout, bar, windows)?;
+    }
+    for bar in lane.bars.as_slice() {
+        tell_bar(out, picture, layout, bar, places_of(row, lane))?;
+    }
+    Ok(())
+}
+
+/// Adds the texts of the bars of a lane.
+pub fn tell_bar_texts(
+    out: &mut Markup,
+    layout: &Layout,
+    row: Row,
+    lane: &Lane,
+) -> Result<(), AllocError> {
+    let windows = Places {
+        y: row.y,
+        height: BAND,
+    };
+    for bar in lane.windows.as_slice() {
+        tell_bar_text(out, layout, bar, windows)?;
+    }
+    for bar in lane.bars.as_slice() {
+        tell_bar_text(out, layout, bar, places_of(row, lane))?;
+    }
+    Ok(())
+}
+
+// Where a bar begins and ends in a strip. None if it is not in it.
+fn ends_of(layout: &Layout, bar: &Bar) -> Option<(u64, u64)> {
+    let from = bar.from.max(layout.strip.from);
+    let to = bar.to.min(layout.strip.to);
+    if from >= to {
+        return None;
+    }
+    Some((layout.left(from), layout.left(to)))
+}
+
+// A bar, as far as it is in the strip.
+fn tell_bar(
+    out: &mut Markup,
+    picture: &Picture,
+    layout: &Layout,
+    bar: &Bar,
+    places: Places,
+) -> Result<(), AllocError> {
+    let Some((left, right)) = ends_of(layout, bar) else {
+        return Ok(());
+    };
+    out.mark("<g class=\"")?;
+    out.mark(classes_of_look(bar.saying.look))?;
+    out.mark("\"><title>")?;
+    out.say(bar.saying.title.as_str())?;
+    tell_stretch(out, picture, bar)?;
+    out.mark("</title><rect class=\"fill\" ")?;
+    tell_box(out, left, places.y, right, places.height)?;
+    out.mark("/>")?;
+    if let Some(pattern) = pattern_of(bar.saying.look) {
+        out.mark("<rect class=\"pattern\" fill=\"")?;
+        out.mark(pattern)?;
+        out.mark("\" ")?;
+        tell_box(out, left, places.y, right, places.height)?;
+        out.mark("/>")?;
+    }
+    out.mark("</g>\n")
+}
+
+// The text of a bar, as far as there is room for it, on a plate of the bar's colour.
+fn tell_bar_text(
+    out: &mut Markup,
+    layout: &Layout,
+    bar: &Bar,
+    places: Places,
+) -> Result<(), AllocError> {
+    let Some((left, right)) = ends_of(layout, bar) else {
+        return Ok(());
+    };
+    let room = (right.saturating_sub(left).saturating_sub(INSIDE) / CHARACTER) as usize;
+    let Some(text) = text_that_fits(&bar.saying, room) else {
+        return Ok(());
+    };
+    let x = left.saturating_add(BEFORE_TEXT);
+    let y = places
+        .y
+        .saturating_add(places.height.min(TALL) / 2)
+        .saturating_add(4);
+    let shown = text.chars().count().min(room) as u64;
+    let end = x.saturating_add(shown.saturating_mul(CHARACTER));
+    out.mark("<g class=\"")?;
+    out.mark(classes_of_look(bar.saying.look))?;
+    out.mark("\"><rect class=\"plate\" ")?;
+    tell_box(out, x.saturating_sub(2), y.saturating_sub(9), end, 11)?;
+    out.mark("/>")?;
+    tell_text(out, class_of_text(places.height), x, y, Fitted(text, room))?;
+    out.mark("</g>\n")
+}
+
+// The class of the text of a bar of this height.
+fn class_of_text(height: u64) -> &'static str
+    ensures { is_own result.now ≡ true }
+{
+    if height <= BAND { "said small" } else { "said" }
+}
+
+// The text of a bar that has room for this many characters: its text, the shorter one, or the beginning of its text.
+fn text_that_fits(saying: &Saying, room: usize) -> Option<&str> {
+    let (text, brief) = (saying.text.as_str(), saying.brief.as_str());
+    if text.chars().count() <= room {
+        Some(text)
+    } else if room >= LEAST_ROOM {
+        Some(text)
+    } else if !brief.is_empty() && brief.chars().count() <= room {
+        Some(brief)
+    } else {
+        None
+    }
+}
+
+// The first and the last place of a bar.
+fn tell_stretch(out: &mut Markup, picture: &Picture, bar: &Bar) -> Result<(), AllocError> {
+    out.mark("\n")?;
+    match picture.columns().get(bar.from) {
+        Some(column) if bar.from > 0 => {
+            out.say(format_args!("from place {}", column.place.number()))?;
+        }
+        _ => out.mark("from before the picture or its first record")?,
+    }
+    match picture.columns().get(bar.to) {
+        Some(column) => out.say(format_args!(", up to place {}", column.place.number())),
+        None => out.mark(", to the end of the picture"),
+    }
+}

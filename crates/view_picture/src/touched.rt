@@ -1,0 +1,82 @@
+// What a record touches, by the record itself and by what is on its core. No rule of the machine is asked.
+
+use apex_types::{Body, Call, Ordered, Request, Who};
+use run_view::{CoreView, ThingKey};
+use view_words::LaneKey;
+
+// Whether a record is of this core, or names this process, object or channel.
+pub(crate) fn names(ordered: &Ordered, key: &LaneKey) -> bool {
+    match key {
+        LaneKey::Core(core) => *core == ordered.core,
+        LaneKey::Partition(_) => false,
+        LaneKey::Process(who) => names_process(&ordered.rec.body, who),
+        LaneKey::Thing(key) => match &ordered.rec.body {
+            Body::Call(call) => names_thing(call, key),
+            Body::Ret(_) | Body::Disp(_) | Body::Tick(_) => false,
+        },
+    }
+}
+
+// Whether this is the partition in whose window a core is, or the process that is its occupant.
+pub(crate) fn is_at_core(core: &Option<CoreView>, key: &LaneKey) -> bool {
+    let Some(core) = core else {
+        return false;
+    };
+    match key {
+        LaneKey::Partition(part) => core.window == Some(*part),
+        LaneKey::Process(who) => core.occupant == Some(*who),
+        LaneKey::Core(_) | LaneKey::Thing(_) => false,
+    }
+}
+
+fn names_process(body: &Body, who: &Who) -> bool {
+    match body {
+        Body::Disp(occupant) => *occupant == Some(*who),
+        Body::Tick(woken) => woken.as_slice().iter().any(|named| *named == *who),
+        Body::Ret(ret) => ret.who == *who,
+        Body::Call(call) => {
+            call.who == *who
+                || call
+                    .claim
+                    .woken
+                    .as_slice()
+                    .iter()
+                    .any(|named| *named == *who)
+                || call.who.part == who.part
+                    && process_of(call) == Some(i64::from(who.proc.number()))
+        }
+    }
+}
+
+// The number of the process that a call names or creates.
+fn process_of(call: &Call) -> Option<i64> {
+    match &call.request {
+        Request::Process(number, _) => Some(*number),
+        Request::CreateProcess { .. } => call.claim.val,
+        Request::Caller(_)
+        | Request::SetPartitionMode(_)
+        | Request::Create(..)
+        | Request::Object(..)
+        | Request::SamplingPort(..)
+        | Request::QueuingPort(..)
+        | Request::GetId(..)
+        | Request::GetStatus(..) => None,
+    }
+}
+
+// Whether a call uses, creates or looks up this object, or goes through this channel.
+fn names_thing(call: &Call, key: &ThingKey) -> bool {
+    match key {
+        ThingKey::Channel(channel) => call.claim.chan == Some(*channel),
+        ThingKey::Object { part, kind, number } => {
+            let named = match &call.request {
+                Request::Object(number, operation) if operation.kind() == *kind => Some(*number),
+                Request::GetStatus(one, number) if *one == *kind => Some(*number),
+                Request::Create(_, object) if object.kind() == *kind => call.claim.val,
+                Request::GetId(one, _) if *one == *kind => call.claim.val,
+                _ => None,
+            };
+            call.who.part == *part && named == Some(i64::from(*number))
+        }
+    }
+}
