@@ -44,9 +44,11 @@ struct recorder {
     uint64_t rows;
 };
 
-enum kind { DISP, TICK, CALL, RET, LOST };
+enum kind { DISP, TICK, CALL, RET, ARRIVE, DEPART, LOST };
 
-static const char *const KINDS[] = {[DISP] = "disp", [TICK] = "tick", [CALL] = "call", [RET] = "ret", [LOST] = "lost"};
+static const char *const KINDS[] = {
+    [DISP] = "disp", [TICK] = "tick", [CALL] = "call", [RET] = "ret", [ARRIVE] = "arrive", [DEPART] = "depart", [LOST] = "lost",
+};
 
 /* The fields that an entry has, beside those whose length says so. */
 enum field {
@@ -59,7 +61,8 @@ enum field {
     HAS_MESSAGE = 64,
     HAS_PRIORITY = 128,
     HAS_OUTCOME = 256,
-    HAS_CHANNEL = 512
+    HAS_CHANNEL = 512,
+    HAS_N3_LATER = 1024 /* a third number from format 3 on */
 };
 
 /* An entry before it is in the ring. */
@@ -120,7 +123,7 @@ struct recorder *rec_open(void *memory, size_t size, unsigned core, enum rec_for
     size_t capacity = LEAST_WORDS;
     struct recorder *recorder;
 
-    if (memory == NULL || core >= REC_CORES || (format != REC_FORMAT_1 && format != REC_FORMAT_2))
+    if (memory == NULL || core >= REC_CORES || (format != REC_FORMAT_1 && format != REC_FORMAT_2 && format != REC_FORMAT_3))
         return NULL;
     if (size < skipped + own || (size - skipped - own) / sizeof(uint64_t) < LEAST_WORDS)
         return NULL;
@@ -296,6 +299,8 @@ void rec_call(struct recorder *recorder, const struct rec_call *call)
 
     if (entry.service < REC_SERVICES)
         entry.fields |= SERVICES[entry.service].takes;
+    if ((entry.fields & HAS_N3_LATER) && recorder->format >= REC_FORMAT_3)
+        entry.fields |= HAS_N3;
     if ((entry.fields & HAS_NAME) && call->name != NULL) {
         entry.name = call->name;
         entry.name_length = call->name_length;
@@ -319,6 +324,36 @@ void rec_ret(struct recorder *recorder, const struct rec_return *ret)
         .values = ret->values,
         .data = ret->data,
         .data_length = ret->data_length,
+    };
+
+    put(recorder, &entry);
+}
+
+void rec_arrive(struct recorder *recorder, const struct rec_crossing *crossing)
+{
+    struct entry entry = {
+        .kind = ARRIVE,
+        .fields = HAS_CHANNEL,
+        .channel = crossing->channel,
+        .message = crossing->message,
+        .message_length = crossing->message_length,
+        .woken = crossing->woken,
+        .woken_count = crossing->woken_count,
+    };
+
+    put(recorder, &entry);
+}
+
+void rec_depart(struct recorder *recorder, const struct rec_crossing *crossing)
+{
+    struct entry entry = {
+        .kind = DEPART,
+        .fields = HAS_CHANNEL,
+        .channel = crossing->channel,
+        .data = crossing->message,
+        .data_length = crossing->message_length,
+        .woken = crossing->woken,
+        .woken_count = crossing->woken_count,
     };
 
     put(recorder, &entry);
@@ -507,7 +542,8 @@ static void add_next_field(struct text *text, bool is_filled, struct reader *rea
         add_integer(text, (int64_t)next_word(reader));
 }
 
-/* Writes the row of a record, and moves the reader past its entry. Its second and third value come after the woken processes. */
+/* Writes the row of a record, and moves the reader past its entry. Its second and third value come after the woken processes, and then the
+ * error, which no record here has. */
 static bool write_record(struct text *text, struct reader *reader)
 {
     union head head;
@@ -538,6 +574,8 @@ static bool write_record(struct text *text, struct reader *reader)
     add_woken(text, reader, head.is.woken_count);
     for (i = 1; i < 3 && reader->recorder->format >= REC_FORMAT_2; i++)
         add_next_field(text, head.is.value_count > i, &values);
+    if (reader->recorder->format >= REC_FORMAT_3)
+        add(text, ',');
     return end_row(text, reader->recorder);
 }
 
@@ -547,7 +585,7 @@ static bool write_lost(struct text *text, struct recorder *recorder, size_t lost
     begin_row(text, recorder, LOST);
     add_commas(text, 4);
     add_natural(text, lost - recorder->reported);
-    add_commas(text, recorder->format == REC_FORMAT_1 ? 10 : 12);
+    add_commas(text, recorder->format == REC_FORMAT_1 ? 10 : recorder->format == REC_FORMAT_2 ? 12 : 13);
     if (!end_row(text, recorder))
         return false;
     recorder->reported = lost;

@@ -24,15 +24,19 @@
 #define REC_NAME_BYTES 32
 #define REC_WOKEN 4096
 
-/* The format of the rows: format 2 also has the services that return the number of a name, or a status. */
-enum rec_format { REC_FORMAT_1 = 1, REC_FORMAT_2 = 2 };
+/*
+ * The format of the rows: format 2 also has the services that return the number of a name, or the status of an object or a port. Format 3
+ * has all services, and messages from and to the outside of the module.
+ */
+enum rec_format { REC_FORMAT_1 = 1, REC_FORMAT_2 = 2, REC_FORMAT_3 = 3 };
 
 /*
  * The services, in the order of the table in docs/FORMATS.md, each with the members of `struct rec_call` that it needs besides those
- * that each call has. Those from GET_BUFFER_ID on are in format 2 alone.
+ * that each call has. Those from GET_BUFFER_ID on are in no row of format 1, and those from GET_PARTITION_STATUS on in format 3 alone. The
+ * time capacity of CREATE_PROCESS is in its `n3`, -1 for none; only format 3 has it.
  */
 #define REC_EACH_SERVICE(service)                                                 \
-    service(CREATE_PROCESS, HAS_N1 | HAS_N2 | HAS_NAME)                           \
+    service(CREATE_PROCESS, HAS_N1 | HAS_N2 | HAS_N3_LATER | HAS_NAME)            \
     service(INITIALIZE_PROCESS_CORE_AFFINITY, HAS_N1 | HAS_N2)                    \
     service(START, HAS_N1)                                                        \
     service(STOP, HAS_N1)                                                         \
@@ -82,7 +86,16 @@ enum rec_format { REC_FORMAT_1 = 1, REC_FORMAT_2 = 2 };
     service(GET_SAMPLING_PORT_ID, HAS_NAME)                                       \
     service(GET_SAMPLING_PORT_STATUS, HAS_N1)                                     \
     service(GET_QUEUING_PORT_ID, HAS_NAME)                                        \
-    service(GET_QUEUING_PORT_STATUS, HAS_N1)
+    service(GET_QUEUING_PORT_STATUS, HAS_N1)                                      \
+    service(GET_PARTITION_STATUS, 0)                                              \
+    service(GET_PROCESS_ID, HAS_NAME)                                             \
+    service(GET_PROCESS_STATUS, HAS_N1)                                           \
+    service(DELAYED_START, HAS_N1 | HAS_N2)                                       \
+    service(CLEAR_QUEUING_PORT, HAS_N1)                                           \
+    service(RESET_MUTEX, HAS_N1 | HAS_N2)                                         \
+    service(GET_PROCESS_MUTEX_STATE, HAS_N1)                                      \
+    service(REPORT_APPLICATION_MESSAGE, HAS_N2 | HAS_MESSAGE)                     \
+    service(CREATE_ERROR_HANDLER, 0)
 
 /* REC_CREATE_PROCESS, and so on. */
 enum rec_service {
@@ -143,6 +156,15 @@ struct rec_return {
     size_t data_length;
 };
 
+/* A message that passes an end of a channel outside the module. */
+struct rec_crossing {
+    uint8_t channel;
+    const uint8_t *message; /* 1 to REC_MESSAGE_BYTES bytes */
+    size_t message_length;
+    const struct rec_process *woken; /* the processes whose waits end, in any order */
+    size_t woken_count;
+};
+
 /* A recorder of one core. It is in the memory that its opener gave. */
 struct recorder;
 
@@ -165,6 +187,10 @@ void rec_call(struct recorder *recorder, const struct rec_call *call);
 
 /* The return of a call. */
 void rec_ret(struct recorder *recorder, const struct rec_return *ret);
+
+/* A message that arrives from outside at a channel, and one that departs from a channel to the outside. Only format 3 has their rows. */
+void rec_arrive(struct recorder *recorder, const struct rec_crossing *crossing);
+void rec_depart(struct recorder *recorder, const struct rec_crossing *crossing);
 
 /* Takes all of a text, or answers false. */
 typedef bool rec_sink(void *to, const char *text, size_t length);

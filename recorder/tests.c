@@ -152,7 +152,7 @@ static const struct {
     enum rec_service service;
     const char *fields; /* from `service` to `msg` */
 } TAKEN[] = {
-    {REC_CREATE_PROCESS, "CREATE_PROCESS,1,2,,N,"},
+    {REC_CREATE_PROCESS, "CREATE_PROCESS,1,2,3,N,"},
     {REC_INITIALIZE_PROCESS_CORE_AFFINITY, "INITIALIZE_PROCESS_CORE_AFFINITY,1,2,,,"},
     {REC_START, "START,1,,,,"},
     {REC_STOP, "STOP,1,,,,"},
@@ -203,6 +203,15 @@ static const struct {
     {REC_GET_SAMPLING_PORT_STATUS, "GET_SAMPLING_PORT_STATUS,1,,,,"},
     {REC_GET_QUEUING_PORT_ID, "GET_QUEUING_PORT_ID,,,,N,"},
     {REC_GET_QUEUING_PORT_STATUS, "GET_QUEUING_PORT_STATUS,1,,,,"},
+    {REC_GET_PARTITION_STATUS, "GET_PARTITION_STATUS,,,,,"},
+    {REC_GET_PROCESS_ID, "GET_PROCESS_ID,,,,N,"},
+    {REC_GET_PROCESS_STATUS, "GET_PROCESS_STATUS,1,,,,"},
+    {REC_DELAYED_START, "DELAYED_START,1,2,,,"},
+    {REC_CLEAR_QUEUING_PORT, "CLEAR_QUEUING_PORT,1,,,,"},
+    {REC_RESET_MUTEX, "RESET_MUTEX,1,2,,,"},
+    {REC_GET_PROCESS_MUTEX_STATE, "GET_PROCESS_MUTEX_STATE,1,,,,"},
+    {REC_REPORT_APPLICATION_MESSAGE, "REPORT_APPLICATION_MESSAGE,,2,,,6d65"},
+    {REC_CREATE_ERROR_HANDLER, "CREATE_ERROR_HANDLER,,,,,"},
 };
 
 static void services(void)
@@ -211,7 +220,7 @@ static void services(void)
 
     count("as many services as are tested", sizeof TAKEN / sizeof TAKEN[0] == REC_SERVICES);
     for (i = 0; i < sizeof TAKEN / sizeof TAKEN[0]; i++) {
-        struct recorder *recorder = open_ring(RING, REC_FORMAT_2);
+        struct recorder *recorder = open_ring(RING, REC_FORMAT_3);
         char row[256];
         rec_call(recorder, &(struct rec_call){.caller = {1, 2},
                                               .service = TAKEN[i].service,
@@ -223,9 +232,48 @@ static void services(void)
                                               .message = (const uint8_t *)"message",
                                               .priority = 9,
                                               .outcome = REC_INVALID_PARAM});
-        snprintf(row, sizeof row, "0,call,1,2,%s,9,INVALID_PARAM,,,,,,\n", TAKEN[i].fields);
+        snprintf(row, sizeof row, "0,call,1,2,%s,9,INVALID_PARAM,,,,,,,\n", TAKEN[i].fields);
         expect(TAKEN[i].fields, recorder, row);
     }
+}
+
+/* What only format 3 has: a time capacity, and messages from and to the outside. */
+
+static void create_process(struct recorder *recorder)
+{
+    rec_call(recorder, &(struct rec_call){.caller = {1, 0},
+                                          .service = REC_CREATE_PROCESS,
+                                          .n1 = 5,
+                                          .n2 = 20,
+                                          .n3 = 10,
+                                          .name = "N",
+                                          .name_length = 1,
+                                          .outcome = REC_NO_ERROR,
+                                          .value_count = 1,
+                                          .values = {7}});
+}
+
+static void later_fields(void)
+{
+    static const struct rec_process woken[] = {{1, 3}, {0, 2}};
+    struct recorder *recorder = open_ring(RING, REC_FORMAT_2);
+
+    create_process(recorder);
+    expect("no time capacity in format 2", recorder, "0,call,1,0,CREATE_PROCESS,5,20,,N,,0,NO_ERROR,7,,,,,\n");
+    recorder = open_ring(RING, REC_FORMAT_3);
+    create_process(recorder);
+    rec_arrive(recorder, &(struct rec_crossing){.channel = 4,
+                                                .message = (const uint8_t *)"\x0a\xbc",
+                                                .message_length = 2,
+                                                .woken = woken,
+                                                .woken_count = 2});
+    rec_depart(recorder, &(struct rec_crossing){.channel = 255, .message = (const uint8_t *)"\xff", .message_length = 1});
+    rec_disp(recorder, NULL);
+    expect("the records of format 3", recorder,
+           "0,call,1,0,CREATE_PROCESS,5,20,10,N,,0,NO_ERROR,7,,,,,,\n"
+           "1,arrive,,,,,,,,0abc,,,,,4,0:2;1:3,,,\n"
+           "2,depart,,,,,,,,,,,,ff,255,,,,\n"
+           "3,disp,,,,,,,,,,,,,,,,,\n");
 }
 
 /* Fields at their edges. */
@@ -347,7 +395,7 @@ static void openings(void)
     bool is_refused = true;
 
     count("a core that there is not", rec_open(memory, sizeof memory, 16, REC_FORMAT_2) == NULL);
-    count("a format that there is not", rec_open(memory, sizeof memory, 0, (enum rec_format)3) == NULL);
+    count("a format that there is not", rec_open(memory, sizeof memory, 0, (enum rec_format)4) == NULL);
     count("no memory", rec_open(NULL, sizeof memory, 0, REC_FORMAT_2) == NULL);
     for (size = 0; size < 1024; size++)
         is_refused = is_refused && rec_open(memory, size, 0, REC_FORMAT_2) == NULL;
@@ -504,6 +552,7 @@ int main(void)
 {
     kinds();
     services();
+    later_fields();
     outcomes();
     names();
     lengths();

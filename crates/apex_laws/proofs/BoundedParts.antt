@@ -10,11 +10,12 @@ use Rattle.apex_laws.proofs.Common.{caller_with, change_at, channel_of, cold_par
 use Rattle.apex_laws.proofs.Common.{initialising_process, is_done, is_in, is_named, is_no_error, is_released, is_suspension, item_at, message_of, mutex_released, names_one_of, natural_of, new_process, next_release, not_acquired, numbered}
 use Rattle.apex_laws.proofs.Common.{objects_by, outcome_demands, partition_by, partition_demands, period_given, period_of, release_after, release_reached, release_taken, released, released_once, returned, set_after, set_by, stopped, stops}
 use Rattle.apex_laws.proofs.Common.{ticked, time_of, waiting, waits_at, waits_for_normal, with_sets, woken_by, woken_if_named}
+use Rattle.apex_laws.proofs.Common.{Arrive, Depart, Receivers, Senders, channel_set, time_of}
 use Rattle.apex_laws.proofs.Booleans.{by_test, either_way, impossible, never_found, one_item}
 use Rattle.apex_laws.proofs.Codes.{no_error_is_done, not_done}
 use Rattle.apex_laws.proofs.Keeps.{set_by_wait, set_case}
-use Rattle.apex_laws.proofs.Restarts.{call_case, done_case, return_case}
-use Rattle.apex_laws.proofs.SoundParts.{named_across, own_holds, WaitsInSet}
+use Rattle.apex_laws.proofs.Restarts.{call_case, done_case, return_case, woken_table}
+use Rattle.apex_laws.proofs.SoundParts.{named_across, named_wait, own_holds, WaitsInSet}
 use Rattle.apex_laws.proofs.Tables.{at_each}
 use Rattle.apex_laws.proofs.Waiters.{all_weaker}
 use Rattle.apex_laws.proofs.WaitersOf.{not_named}
@@ -99,6 +100,9 @@ used_counts configuration place who claimed (Request.Object mutex (on.Mutex (Mut
 used_counts configuration place who claimed (Request.Object mutex (on.Mutex MutexOperation.Release)) partition all =
     change_counts place (natural_of mutex) (λ found. (mutex_released (first_waiter found.discipline found.waiters) found).next) partition.mutexes
     (λ found most. released_counts place (first_waiter found.discipline found.waiters) found most) all
+used_counts configuration place who claimed (Request.Object mutex (on.Mutex (MutexOperation.Reset process))) partition all =
+    change_counts place (natural_of mutex) (λ found. (handed_on (first_waiter found.discipline found.waiters) found).next) partition.mutexes
+    (λ found most. handed_on_counts place (first_waiter found.discipline found.waiters) found) all
 used_counts configuration place who claimed (Request.SamplingPort port SamplingOperation.Read) partition all = counts_later place partition.mutexes all
 used_counts configuration place who claimed _ partition all = counts_later place partition.mutexes all
 
@@ -115,6 +119,8 @@ counts_after configuration cores place core number (Tick woken) partition all =
     sets_count (place + 1) (set_after place (Tick woken)) partition (counts_later place partition.mutexes all)
 counts_after configuration cores place core number (Ret ret) partition all =
     return_case (λ next. AllFound (CountsTo (place + 1)) next.mutexes) configuration cores place core number ret partition (counts_later place partition.mutexes all) (counts_later place partition.mutexes all)
+counts_after configuration cores place core number (Arrive crossing) partition all = counts_later place partition.mutexes all
+counts_after configuration cores place core number (Depart crossing) partition all = counts_later place partition.mutexes all
 counts_after configuration cores place core number (Call call) partition all =
     call_case (λ next. AllFound (CountsTo (place + 1)) next.mutexes) configuration cores place core number call partition
     (λ own none. sets_count (place + 1) (set_after place (Call call)) (cond (is_done call.claim.out) (objects_by configuration call.who call.claim.val call.request partition) partition)
@@ -143,7 +149,7 @@ bounded_kept most old new keeps bounded = (subst (λ last. last ≤ most) (sym k
 set_by_keeps : (place period : ℕ) (cores : List CoreState) (partition : Partition) (caller : ℕ) (asked : Request) (number : ℕ) (x : Process)
     → KeepsRelease x (set_by place period cores partition caller asked number x)
 set_by_keeps place period cores partition caller asked number x =
-    set_case (KeepsRelease x) place period cores partition caller asked number x (λ affinity current retained position suspended. (refl, refl)) (λ now. (refl, refl)) (λ now. (refl, refl))
+    set_case (KeepsRelease x) place period cores partition caller asked number x (λ affinity current retained position suspended. (refl, refl)) (λ now delay. (refl, refl)) (λ now delay. (refl, refl))
 
 adjusted_keeps : (place period : ℕ) (cores : List CoreState) (partition : Partition) (call : CallRecord) (number : ℕ) (x : Process)
     → KeepsRelease x (adjusted place period cores partition call number x)
@@ -175,47 +181,48 @@ waiter_ends table wanted number x waits at =
 woken_keeps : (place : ℕ) (message : List ℕ) (x : Process) → EndsNoRelease x.wait → KeepsRelease x (woken_by place message x)
 woken_keeps place message x ends = (ends.1 x.last_release, refl)
 
-woken_if_named_keeps : (place : ℕ) (call : CallRecord) (who : Who) (x : Process) → (is_named who call.claim.woken ≡ true → EndsNoRelease x.wait) → KeepsRelease x (woken_if_named place call who x)
-woken_if_named_keeps place call who x ends =
-    by_test (KeepsRelease x) (is_named who call.claim.woken) (woken_by place (message_of call.request) x) x
-    (λ named. woken_keeps place (message_of call.request) x (ends named)) (λ not_named. (refl, refl))
+woken_if_named_keeps : (place : ℕ) (message : List ℕ) (woken : List Who) (who : Who) (x : Process) → (is_named who woken ≡ true → EndsNoRelease x.wait)
+    → KeepsRelease x (woken_if_named place message woken who x)
+woken_if_named_keeps place message woken who x ends =
+    by_test (KeepsRelease x) (is_named who woken) (woken_by place message x) x (λ named. woken_keeps place message x (ends named)) (λ not_named. (refl, refl))
 
 -- if a service wakes a process, it starts none and lets none enter NORMAL
-waking_keeps_wait : (place period : ℕ) (cores : List CoreState) (partition : Partition) (now : ℕ) (caller : Who) (asked : Request) (number : ℕ) (x : Process) (one : Who)
-    → is_named one (answer_of now caller partition asked).woken ≡ true → waits_for_normal x.wait ≡ false → (set_by place period cores partition caller.proc asked number x).wait ≡ x.wait
-waking_keeps_wait place period cores partition now caller (Request.Process process ProcessOperation.Start) number x one named normal = nobody one [] refl named
-waking_keeps_wait place period cores partition now caller asked number x one named normal = set_by_wait place period cores partition caller.proc asked number x tt normal
+waking_keeps_wait : (place period : ℕ) (cores : List CoreState) (core : ℕ) (partition : Partition) (caller : Who) (asked : Request) (number : ℕ) (x : Process) (one : Who)
+    → is_named one (answer_of cores core caller partition asked).woken ≡ true → waits_for_normal x.wait ≡ false → (set_by place period cores partition caller.proc asked number x).wait ≡ x.wait
+waking_keeps_wait place period cores core partition caller (Request.Process process ProcessOperation.Start) number x one named normal = nobody one [] refl named
+waking_keeps_wait place period cores core partition caller (Request.Process process (ProcessOperation.DelayedStart delay)) number x one named normal = nobody one [] refl named
+waking_keeps_wait place period cores core partition caller asked number x one named normal = set_by_wait place period cores partition caller.proc asked number x tt normal
 
 -- what an own call sets in a process whose wait it ends leaves a wait that ends with no release
-own_ends : (number place now period : ℕ) (cores : List CoreState) (partition : Partition) (caller : Who) (asked : Request) (claim : Claim) → IsSoundPart number place partition
-    → (conditions : List Condition) (channel : Option ℕ) → AllHold (outcome_demands conditions channel number asked (answer_of now caller partition asked) claim)
+own_ends : (number place core period : ℕ) (cores : List CoreState) (partition : Partition) (caller : Who) (asked : Request) (claim : Claim) → IsSoundPart number place partition
+    → (conditions : List Condition) (channel : Option ℕ) → AllHold (outcome_demands conditions channel number asked (answer_of cores core caller partition asked) claim)
     → (who : Who) → who.part ≡ number → is_named who claim.woken ≡ true → (x : Process) → item_at partition.table who.proc ≡ Some x
     → EndsNoRelease x.wait × ((set_by place period cores partition caller.proc asked who.proc x).wait ≡ x.wait)
-own_ends number place now period cores partition caller asked claim sound (condition ∷ conditions) channel hold who here named x at = nobody who claim.woken hold.1.1.1.1.0 named
-own_ends number place now period cores partition caller asked claim sound [] (Some channel) hold who here named x at =
+own_ends number place core period cores partition caller asked claim sound (condition ∷ conditions) channel hold who here named x at = nobody who claim.woken hold.1.1.1.1.0 named
+own_ends number place core period cores partition caller asked claim sound [] (Some channel) hold who here named x at =
     absurd (true≢false (sym named ∙ not_named who claim.woken (subst (λ part. names_one_of part claim.woken ≡ false) (sym here) hold.1.1.0)))
-own_ends number place now period cores partition caller asked claim sound [] None hold who here named x at =
+own_ends number place core period cores partition caller asked claim sound [] None hold who here named x at =
     let Ends : Who → Type 0 = λ one. (y : Process) → item_at partition.table one.proc ≡ Some y → EndsNoRelease y.wait in
     let answered = sym (hold.1.1.1.1.0 who) ∙ named in
-    let ends : EndsNoRelease x.wait = (answer_wakes Ends now caller partition asked
+    let ends : EndsNoRelease x.wait = (answer_wakes Ends cores core caller partition asked
     (λ wanted used. all_weaker (WaitsInSet number wanted partition) (λ entry. Ends entry.who)
     (λ entry is_member y at. waiter_ends partition.table wanted entry.who.proc y is_member.1 at) (entries_at partition wanted) (sound.is_member wanted))
     (λ process target is suspends y at.
     (let is_member = created_is partition.table process target is in
     let same = one_item (sym is_member.2 ∙ ap (λ one. item_at partition.table (natural_of one)) (sym is_member.1) ∙ at) in
     subst (λ one. EndsNoRelease one.wait) same (suspension_ends target.wait suspends)))).has who answered x at in
-    (ends, waking_keeps_wait place period cores partition now caller asked who.proc x who answered ends.0)
+    (ends, waking_keeps_wait place period cores core partition caller asked who.proc x who answered ends.0)
 
 -- the caller
 
 -- PERIODIC_WAIT that answers NO_ERROR found the release reached
-release_found : (conditions : List Condition) (number now : ℕ) (partition : Partition) (caller : Who) (claim : Claim)
-    → AllHold (outcome_demands conditions None number (Request.Caller CallerOperation.PeriodicWait) (answer_of now caller partition (Request.Caller CallerOperation.PeriodicWait)) claim) → is_no_error claim.out ≡ true
-    → is_released now (item_at partition.table caller.proc) ≡ true
-release_found (condition ∷ conditions) number now partition caller claim hold no_error =
+release_found : (conditions : List Condition) (number : ℕ) (cores : List CoreState) (core : ℕ) (partition : Partition) (caller : Who) (claim : Claim)
+    → AllHold (outcome_demands conditions None number (Request.Caller CallerOperation.PeriodicWait) (answer_of cores core caller partition (Request.Caller CallerOperation.PeriodicWait)) claim) → is_no_error claim.out ≡ true
+    → is_released (time_of cores core) (item_at partition.table caller.proc) ≡ true
+release_found (condition ∷ conditions) number cores core partition caller claim hold no_error =
     absurd (true≢false (sym (no_error_is_done claim.out no_error) ∙ not_done (condition ∷ conditions) claim.out hold.1.0))
-release_found [] number now partition caller claim hold no_error =
-    elim (is_released now (item_at partition.table caller.proc)) as (λ reached. is_no_error (cond reached done waiting).out ≡ true → reached ≡ true) [ true ↦ λ is. refl | false ↦ λ is. is ]
+release_found [] number cores core partition caller claim hold no_error =
+    elim (is_released (time_of cores core) (item_at partition.table caller.proc)) as (λ reached. is_no_error (cond reached done waiting).out ≡ true → reached ≡ true) [ true ↦ λ is. refl | false ↦ λ is. is ]
     (ap is_no_error (sym hold.1.0) ∙ no_error)
 
 taken_bounded : (place : ℕ) (asked : Request) (x : Process) → x.last_release ≤ place → (asked ≡ (Request.Caller CallerOperation.PeriodicWait) → next_release x ≤ place) → release_taken asked x ≤ place + 1
@@ -238,54 +245,54 @@ next_kept old new keeps = λ i. release_after (keeps.0 i) (keeps.1 i)
 -- a call of one of these processes
 
 -- what is demanded of its outcome
-abbrev OutcomeHolds : Configuration → ℕ → ℕ → Partition → CallRecord → Request → Type 0
-OutcomeHolds configuration number now partition call asked =
-    AllHold (outcome_demands (conditions_of configuration call.who partition asked) (channel_of partition asked) number asked (answer_of now call.who partition asked) call.claim)
+abbrev OutcomeHolds : Configuration → ℕ → List CoreState → ℕ → Partition → CallRecord → Request → Type 0
+OutcomeHolds configuration number cores core partition call asked =
+    AllHold (outcome_demands (conditions_of configuration call.who partition asked) (channel_of partition asked) number asked (answer_of cores core call.who partition asked) call.claim)
 
 -- the release that its caller takes is one that was reached
-caller_takes : (configuration : Configuration) (number place now : ℕ) (partition : Partition) (call : CallRecord) (x new : Process) → now ≤ place → KeepsRelease x new
-    → item_at partition.table call.who.proc ≡ Some x → OutcomeHolds configuration number now partition call call.request → IsBounded place new
+caller_takes : (configuration : Configuration) (number place : ℕ) (cores : List CoreState) (core : ℕ) (partition : Partition) (call : CallRecord) (x new : Process) → time_of cores core ≤ place → KeepsRelease x new
+    → item_at partition.table call.who.proc ≡ Some x → OutcomeHolds configuration number cores core partition call call.request → IsBounded place new
     → is_no_error call.claim.out ≡ true → release_taken call.request new ≤ place + 1
-caller_takes configuration number place now partition call x new most keeps at hold bounded no_error =
+caller_takes configuration number place cores core partition call x new most keeps at hold bounded no_error =
     taken_bounded place call.request new bounded.0
     (λ asked.
-    (let own : OutcomeHolds configuration number now partition call (Request.Caller CallerOperation.PeriodicWait) = subst (OutcomeHolds configuration number now partition call) asked hold in
-    let reached = release_found (conditions_of configuration call.who partition (Request.Caller CallerOperation.PeriodicWait)) number now partition call.who call.claim
+    (let own : OutcomeHolds configuration number cores core partition call (Request.Caller CallerOperation.PeriodicWait) = subst (OutcomeHolds configuration number cores core partition call) asked hold in
+    let reached = release_found (conditions_of configuration call.who partition (Request.Caller CallerOperation.PeriodicWait)) number cores core partition call.who call.claim
     own no_error in
-    let here : is_released now (Some x) ≡ true = subst (λ one. is_released now one ≡ true) at reached in
-    let before : next_release x ≤ now = leb-true (next_release x) now here in
+    let here : is_released (time_of cores core) (Some x) ≡ true = subst (λ one. is_released (time_of cores core) one ≡ true) at reached in
+    let before : next_release x ≤ time_of cores core = leb-true (next_release x) (time_of cores core) here in
     let same = next_kept x new keeps in
     omega (arith, before, same, most)))
 
-called_bounded : (configuration : Configuration) (number place now : ℕ) (cores : List CoreState) (partition : Partition) (call : CallRecord) → IsSoundPart number place partition
-    → call.who.part ≡ number → now ≤ place → OutcomeHolds configuration number now partition call call.request
-    → (period process : ℕ) (x : Process) → item_at partition.table process ≡ Some x → IsBounded place x → IsBounded (place + 1) (called place now period cores partition call process x)
-called_bounded configuration number place now cores partition call sound own most hold period process x at bounded =
+called_bounded : (configuration : Configuration) (number place core : ℕ) (cores : List CoreState) (partition : Partition) (call : CallRecord) → IsSoundPart number place partition
+    → call.who.part ≡ number → time_of cores core ≤ place → OutcomeHolds configuration number cores core partition call call.request
+    → (period process : ℕ) (x : Process) → item_at partition.table process ≡ Some x → IsBounded place x → IsBounded (place + 1) (called place (time_of cores core) period cores partition call process x)
+called_bounded configuration number place core cores partition call sound own most hold period process x at bounded =
     let changed = adjusted place period cores partition call process x in
     let keeps : KeepsRelease x changed = adjusted_keeps place period cores partition call process x in
     let kept : IsBounded place changed = bounded_kept place x changed keeps bounded in
     let who : Who = record { part = call.who.part; proc = process } in
     either_way (nat_eq process call.who.proc)
     (λ caller. (let there : item_at partition.table call.who.proc ≡ Some x = ap (item_at partition.table) (sym (eqb-true process call.who.proc caller)) ∙ at in
-    let after : IsBounded (place + 1) (caller_after place now call changed) = caller_bounded place now call call.claim.out changed kept
-    (caller_takes configuration number place now partition call x changed most keeps there hold kept) in
+    let after : IsBounded (place + 1) (caller_after place (time_of cores core) call changed) = caller_bounded place (time_of cores core) call call.claim.out changed kept
+    (caller_takes configuration number place cores core partition call x changed most keeps there hold kept) in
     rw caller after))
     (λ other. (let ends : is_named who call.claim.woken ≡ true → EndsNoRelease changed.wait = λ named.
-    (let both = own_ends number place now period cores partition call.who call.request call.claim sound (conditions_of configuration call.who partition call.request)
+    (let both = own_ends number place core period cores partition call.who call.request call.claim sound (conditions_of configuration call.who partition call.request)
     (channel_of partition call.request) hold who own named x at in
     by_test (λ (one : Process). EndsNoRelease one.wait) (is_done call.claim.out) (set_by place period cores partition call.who.proc call.request process x) x
     (λ done. subst EndsNoRelease (sym both.1) both.0) (λ not_done. both.0)) in
-    rw other (by_test (IsBounded (place + 1)) (stops call who) (stopped changed) (woken_if_named place call who changed) (λ stops_it. bounded_later place changed kept)
-    (λ goes_on. bounded_later place (woken_if_named place call who changed)
-    (bounded_kept place changed (woken_if_named place call who changed) (woken_if_named_keeps place call who changed ends) kept)))))
+    rw other (by_test (IsBounded (place + 1)) (stops call who) (stopped changed) (woken_if_named place (message_of call.request) call.claim.woken who changed) (λ stops_it. bounded_later place changed kept)
+    (λ goes_on. bounded_later place (woken_if_named place (message_of call.request) call.claim.woken who changed)
+    (bounded_kept place changed (woken_if_named place (message_of call.request) call.claim.woken who changed) (woken_if_named_keeps place (message_of call.request) call.claim.woken who changed ends) kept)))))
 
 -- a created process has no last release, and a period that fits
 created_bounded : (most core : ℕ) (call : CallRecord) (asked : Request) → GivesPeriod asked → AllFound (IsBounded most) (created_by core call asked)
-created_bounded most core call (Request.CreateProcess name priority period) fits =
-    by_test (AllFound (IsBounded most)) (is_done call.claim.out) (numbered call.claim.val (new_process core name priority period)) []
-    (λ done. numbered_has (IsBounded most) call.claim.val (new_process core name priority period) (omega arith, given period fits)) (λ not_done number item at. never_found at)
+created_bounded most core call (Request.CreateProcess name priority period time_capacity) fits =
+    by_test (AllFound (IsBounded most)) (is_done call.claim.out) (numbered call.claim.val (new_process core name priority period time_capacity)) []
+    (λ done. numbered_has (IsBounded most) call.claim.val (new_process core name priority period time_capacity) (omega arith, given period fits)) (λ not_done number item at. never_found at)
   where
-    given : (period : ℤ) → GivesPeriod (Request.CreateProcess name priority period) → (one : ℕ) → period_given period ≡ Some one → one < period_limit
+    given : (period : ℤ) → GivesPeriod (Request.CreateProcess name priority period time_capacity) → (one : ℕ) → period_given period ≡ Some one → one < period_limit
     given (pos n) fits one is = subst (λ one. one < period_limit) (one_item is) fits
     given (negsuc n) fits one is = never_found is
 created_bounded most core call _ fits = λ number item at. never_found at
@@ -298,6 +305,17 @@ foreign_ends : (asked : Request) (chan : Option ℕ) (number : ℕ) (table : Tab
 foreign_ends asked chan number table others wakes who here named x at =
     let across = named_across asked chan number table others wakes who here named in
     waiter_ends table across.0 who.proc x across.2 at
+
+-- the processes of a partition at a record of others that ends waits without a release
+woken_bounded : (place number : ℕ) (message : List ℕ) (woken : List Who) (table : Table)
+    → ((who : Who) → who.part ≡ number → is_named who woken ≡ true → (x : Process) → item_at table who.proc ≡ Some x → EndsNoRelease x.wait)
+    → AllFound (IsBounded place) table → AllFound (IsBounded (place + 1)) (woken_table place number message woken table)
+woken_bounded place number message woken table ends all =
+    let change : ℕ → Process → Process = λ other process. woken_if_named place message woken (record { part = number; proc = other }) process in
+    each_has (IsBounded (place + 1)) change table
+    (λ process x at. bounded_later place (change process x) (bounded_kept place x (change process x)
+    (woken_if_named_keeps place message woken (record { part = number; proc = process }) x (λ named. ends (record { part = number; proc = process }) refl named x at))
+    (all process x at)))
 
 -- a tick
 
@@ -350,22 +368,26 @@ bounded_after configuration number cores partition place core (Call call) sound 
     let Fact = IsBounded (place + 1) in
     let now = time_of cores core in
     let period = period_of configuration call.who.part in
-    let foreign : ℕ → Process → Process = λ other process. woken_if_named place call (record { part = number; proc = other }) process in
     call_case (λ next. AllFound Fact next.table) configuration cores place core number call partition
     (λ own none.
     (let demands = own_holds configuration number core cores partition call own hold in
     joined_has Fact (each_item (called place now period cores partition call) partition.table) (created_by (first_core configuration call.who.part) call call.request)
     (each_has Fact (called place now period cores partition call) partition.table
-    (λ process x at. called_bounded configuration number place now cores partition call sound (eqb-true call.who.part number own) most demands.1.1.1.1.1 period process x at (all process x at)))
+    (λ process x at. called_bounded configuration number place core cores partition call sound (eqb-true call.who.part number own) most demands.1.1.1.1.1 period process x at (all process x at)))
     (created_bounded (place + 1) (first_core configuration call.who.part) call call.request fits)))
     (λ own mode is. start_bounded mode (first_core configuration call.who.part) place (place + 1))
     (λ elsewhere.
     (let demands = subst (λ one. AllHold (call_demands one configuration number cores partition core call)) elsewhere hold in
-    each_has Fact foreign partition.table
-    (λ process x at. bounded_later place (foreign process x) (bounded_kept place x (foreign process x)
-    (woken_if_named_keeps place call (record { part = number; proc = process }) x
-    (λ named. foreign_ends call.request call.claim.chan number partition.table call.claim.woken demands.1.0 (record { part = number; proc = process }) refl named x at))
-    (all process x at)))))
+    woken_bounded place number (message_of call.request) call.claim.woken partition.table
+    (λ who here named x at. foreign_ends call.request call.claim.chan number partition.table call.claim.woken demands.1.0 who here named x at) all))
+bounded_after configuration number cores partition place core (Arrive crossing) sound most fits hold all =
+    woken_bounded place number crossing.message crossing.woken partition.table
+    (λ who here named x at. waiter_ends partition.table (channel_set crossing.chan Receivers) who.proc x
+    (named_wait (channel_set crossing.chan Receivers) number partition.table crossing.woken hold.0 who here named) at) all
+bounded_after configuration number cores partition place core (Depart crossing) sound most fits hold all =
+    woken_bounded place number [] crossing.woken partition.table
+    (λ who here named x at. waiter_ends partition.table (channel_set crossing.chan Senders) who.proc x
+    (named_wait (channel_set crossing.chan Senders) number partition.table crossing.woken hold.0 who here named) at) all
 
 -- the whole partition
 

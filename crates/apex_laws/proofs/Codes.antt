@@ -43,6 +43,13 @@ of_error Condition.LongerThanPort = refl
 of_error Condition.NotSource = refl
 of_error Condition.NotDestination = refl
 of_error Condition.NoSuchName = refl
+of_error Condition.TimeCapacityOutOfRange = refl
+of_error Condition.TimeCapacityAbovePeriod = refl
+of_error Condition.DelayNotBelowPeriod = refl
+of_error Condition.NoSuchProcess = refl
+of_error Condition.ProcessNotOwner = refl
+of_error Condition.LengthOutOfRange = refl
+of_error Condition.HandlerCreated = refl
 
 of_errors : (conditions : List Condition) (one : Code) → IsCodeOf conditions one → is_done (Out.Answer one) ≡ false
 of_errors [] one is = absurd is

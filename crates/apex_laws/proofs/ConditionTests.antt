@@ -1,19 +1,24 @@
 -- Which facts the tests of the error conditions decide.
 use Rattle.std.proofs.Common.{◌≡◌, ◌⊎◌, ℕ, zero, suc, ◌+◌, ◌*◌, ◌/◌, ◌%◌, ◌<◌, ◌≤◌, ℤ, pos, negsuc, List, [], ◌∷◌, Option, Some, None, Bool, true, false, not, ◌&&◌, ◌||◌, nat_eq, nat_lt, nat_le, is_none, is_some, refl, sym, ap, subst, ◌∙◌, inl, inr, arith, true≢false, length, IsFalse}
 use Rattle.std.proofs.Math.Nat.{mul-mod_left}
-use Rattle.std.proofs.lemmas.Bool.{eqb-true, eq-eqb, leb-true}
+use Rattle.std.proofs.lemmas.Bool.{and_from, and_parts, eqb-true, eq-eqb, leb-true}
 use Rattle.std.proofs.lemmas.List.Elements.{All-cons, All-contains, All-contains_itself, All-weaker}
 use Rattle.std.proofs.lemmas.Nat.{div-add-mod'}
 use Rattle.std.proofs.lemmas.Slice.Eq.{bytes_eq-Decides}
 use Rattle.std.specs.List.{list_any}
+use Rattle.std.specs.Option.{option_map_or}
 use Rattle.std.specs.Prelude.{◌≤ℤ◌, ◌<ℤ◌, Contains, T, IsTrue}
 use Rattle.std.specs.Str.{bytes_eq}
+use Rattle.apex_types.specs.declared.object_kind.NamedKind.TheVariants as named
 use Rattle.apex_types.specs.declared.object_kind.ObjectKind.TheVariants as kind
 use Rattle.apex_laws.proofs.Common.{Blackboard, Buffer, Configuration, Direction, Discipline, Event, GREATEST_PRIORITY, IsCalledByPeriodic, IsCoreOf, IsDirection, IsFrom, IsMultipleOf, IsObject, IsPeriodic, IsPriority, IsProcess}
-use Rattle.apex_laws.proofs.Common.{IsQueuingPort, IsSamplingPort, IsSuspended, KindIsFull, MayNotWait, Mode, Mutex, NamesNone, NamesNoProcess, ObjectKind, OneIsNamed, OneOfKindIsNamed, Owns, Partition, Process, SamplingPort, Semaphore}
+use Rattle.apex_laws.proofs.Common.{IsQueuingPort, IsSamplingPort, IsSuspended, KindIsFull, MayNotWait, Mode, Mutex, NamesNone, NamesNoProcess, ObjectKind, OneIsNamed, Owns, Partition, Process, SamplingPort, Semaphore}
 use Rattle.apex_laws.proofs.Common.{Table, TellsDiscipline, Wait, Who, created, direction_number, discipline_number, given_object, has_core, is_between, is_cold_start, is_core, is_full, is_length, is_longer, is_mode, is_negative, is_normal}
 use Rattle.apex_laws.proofs.Common.{is_normal_mode, is_number, is_over, is_owner, is_period, is_periodic, is_priority, is_queuing_port, is_sampling_port, is_source, is_suspended, is_suspension, is_taken, is_time_out, is_warm_start_mode}
 use Rattle.apex_laws.proofs.Common.{item_at, limits_of, may_not_wait, name_in, number_named, number_of, object_limit, objects_of, of_caller, owns_another, owns_mutex, queuing_port, sampling_port, suits_maximum, suits_period, suits_refresh}
+use Rattle.apex_laws.proofs.Common.{NamedKind, OneHasName}
+use Rattle.apex_laws.proofs.Common.{is_above_period, is_at_least, reaches_period}
+use Rattle.apex_laws.proofs.Common.{natural_of}
 use Rattle.apex_laws.proofs.Booleans.{either_way, first_holds, impossible, is_itself, later_holds, member_first, member_later, never_found, one_item, other_holds}
 
 -- a test decides a fact: it holds exactly if the fact does
@@ -147,6 +152,27 @@ no_period_tells (negsuc n) = (
       (λ same. let one : ◌≡◌ {A = ℤ} (negsuc n) (negsuc 0) = same in let zero : n ≡ 0 = cc in differs zero, record { le = tt }),
   λ fact. (tells_not (equal_tells n 0)).1 (λ none. fact.0 (ap negsuc none)),
 )
+
+-- a capacity above a period, which is above 0
+pub above_period_tells : (period capacity : ℤ) → Tells (is_above_period period capacity) ((pos 0 <ℤ period) × (period <ℤ capacity))
+above_period_tells (pos period) (pos capacity) = tells_both (below 0 period) (below period capacity)
+above_period_tells (pos period) (negsuc n) = (impossible, λ fact. absurd fact.1.lt)
+above_period_tells (negsuc n) capacity = (impossible, λ fact. absurd fact.0.lt)
+
+-- a number that is not below another
+at_least_tells : (least : ℕ) (given : ℤ) → Tells (is_at_least least given) (pos least ≤ℤ given)
+at_least_tells least (pos n) = at_most least n
+at_least_tells least (negsuc n) = (impossible, λ fact. absurd fact.le)
+
+-- a delay that is not below the period of a periodic process
+pub reaches_tells : (delay : ℤ) (process : Process) → Tells (reaches_period delay process) ((period : ℕ) × (process.period ≡ Some period) × (pos period ≤ℤ delay))
+reaches_tells delay process = by process.period
+  where
+    by : (found : Option ℕ) → Tells (option_map_or (λ period. is_at_least period delay) found false) ((period : ℕ) × (found ≡ Some period) × (pos period ≤ℤ delay))
+    by None = (impossible, λ fact. never_found fact.1)
+    by (Some period) =
+        let tells = at_least_tells period delay in
+        (λ holds. (period, refl, tells.0 holds), λ fact. tells.1 (subst (λ one. pos one ≤ℤ delay) (sym (one_item fact.1)) fact.2))
 
 -- a multiple
 multiple_tells : (period n : ℕ) → Tells (nat_eq (n % period) 0) (IsMultipleOf period (pos n))
@@ -282,14 +308,31 @@ pub nothing_named_tells : {Object : Type 0} → (name_of : Object → List ℕ) 
 nothing_named_tells name_of name objects =
     rw (found_where_taken name_of name objects) (tells_not (named_tells name_of name objects))
 
-pub unnamed_tells : (partition : Partition) (asked : ObjectKind) (name : List ℕ) → Tells (is_none (number_of partition asked name)) (¬ OneOfKindIsNamed partition asked name)
-unnamed_tells partition asked name = nothing_named_tells (name_in asked) name (objects_of partition asked)
+pub unnamed_tells : (partition : Partition) (asked : NamedKind) (name : List ℕ) → Tells (is_none (number_of partition asked name)) (¬ OneHasName partition asked name)
+unnamed_tells partition named.Process name = nothing_named_tells (λ (process : Process). process.name) name partition.table
+unnamed_tells partition (named.Object kind) name = nothing_named_tells (name_in kind) name (objects_of partition kind)
 
 -- owners
 
 pub owner_tells : (owner : Option ℕ) (number : ℕ) → Tells (is_owner owner number) (owner ≡ Some number)
 owner_tells None number = (impossible, λ fact. never_found fact)
 owner_tells (Some owner) number = (λ holds. ap Some (eqb-true owner number holds), λ fact. eq-eqb owner number (one_item fact))
+
+-- a created process that does not own this mutex
+pub unowned_tells : (partition : Partition) (process : ℤ) (found : Mutex) → Tells (is_some (created partition.table process) && not (is_owner found.owner (natural_of process)))
+    ((named : Process) × (is : IsProcess partition process named) × (¬ (found.owner ≡ Some is.number)))
+unowned_tells partition process found = (
+  λ holds. (let parts = and_parts (is_some (created partition.table process)) (not (is_owner found.owner (natural_of process))) holds in
+      let named = is_there (created partition.table process) parts.0 in
+      let is = created_is partition process named.0 named.1 in
+      (named.0, is, λ owns. (tells_not (owner_tells found.owner (natural_of process))).0 parts.1 (owns ∙ ap Some (sym (ap natural_of is.is))))),
+  λ facts. and_from _ _ (ap (λ one. is_some one) (created_by partition process facts.0 facts.1))
+      ((tells_not (owner_tells found.owner (natural_of process))).1 (λ owns. facts.2 (owns ∙ ap Some (ap natural_of facts.1.is)))),
+)
+  where
+    is_there : (one : Option Process) → is_some one ≡ true → (named : Process) × (one ≡ Some named)
+    is_there None none = impossible none
+    is_there (Some named) some = (named, refl)
 
 pub owns_tells : (partition : Partition) (number : ℕ) → Tells (owns_mutex partition.mutexes number) ((held : ℕ) × Owns partition number held)
 owns_tells partition number =

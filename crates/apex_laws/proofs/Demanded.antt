@@ -9,6 +9,8 @@ use Rattle.apex_laws.proofs.Common.{WakesHere, Who, WindowsAreConfigured, Write,
 use Rattle.apex_laws.proofs.Common.{conditions_of, demands, due_of, first_waiter, has_channel, has_entry_in, has_partition, is_channel, is_configured, is_named, is_over, is_receiver, is_sender, item_at, module_demands, names_one_of, not_yet}
 use Rattle.apex_laws.proofs.Common.{occupant_of, outcome_demands, outcome_returned, own_call_demands, part, partition_demands, reading_of, received, receiving_discipline, refresh_of, sending_discipline, sent, suits_use, time_of, touched_by}
 use Rattle.apex_laws.proofs.Common.{touches, unmet, use_of, used, used_demands, waiting, waits_at, window_now}
+use Rattle.apex_laws.proofs.Common.{Arrive, Clear, Crossing, Demand, Depart, IsLawfulArrival, IsLawfulDeparture, arrival_demands, departure_demands, where_named}
+use Rattle.apex_laws.proofs.Wakes.{WaitsThere, arrival_wakes, departure_wakes}
 use Rattle.apex_laws.proofs.Booleans.{by_test, cannot_hold, first_holds, impossible, is_itself, later_holds, neither, never_found, one_item}
 use Rattle.apex_laws.proofs.Choices.{choice_from, choice_is, chosen_exists, idle_choice, IsChoice, joined_choice, not_idle, own_choice, ready_waits_not}
 use Rattle.apex_laws.proofs.Ends.{port_is_at_end, WaitsAtEnd}
@@ -117,6 +119,11 @@ channel_can configuration now number partition (Request.QueuingPort port (Queuin
         (first_waiter (sending_discipline configuration number) channel.senders) messages
         (done_can (Request.QueuingPort port (QueuingOperation.Receive time_out))) tt (λ later. later)
     by (Sampled last) = tt
+channel_can configuration now number partition (Request.QueuingPort port QueuingOperation.Clear) channel suited = by channel.content
+  where
+    by : (content : Content) → CanHave (Request.QueuingPort port QueuingOperation.Clear) (used configuration now number partition Clear channel content).answer.out
+    by (Queued messages) = tt
+    by (Sampled last) = tt
 channel_can configuration now number partition (Request.GetStatus kind.QueuingPort port) channel suited = by channel.content
   where
     by : (content : Content) → CanHave (Request.GetStatus kind.QueuingPort port) (used configuration now number partition Ask channel content).answer.out
@@ -191,7 +198,7 @@ lawful_call configuration state core call of_module own of_channel = record {
   prio = own.1.1.1.1.0;
   outcome = has_outcome (conditions_of configuration call.who (state.partitions call.who.part) call.request)
       (channel_of (state.partitions call.who.part) call.request) call.who.part call.request
-      (answer_of (time_of state.cores core) call.who (state.partitions call.who.part) call.request) _ _ call.claim own.1.1.1.1.1 of_channel;
+      (answer_of state.cores core call.who (state.partitions call.who.part) call.request) _ _ call.claim own.1.1.1.1.1 of_channel;
 }
 
 -- a return that the module and the returner's partition agree to
@@ -205,6 +212,19 @@ lawful_return configuration state core ret of_module own = record {
   choice = choice_from (window_now configuration state.cores core) state.partitions core ret.who own.0 own.1.0.1;
   due = returned_is_due (due_of (item_at (state.partitions ret.who.part).table ret.who.proc)) ret own.1.1.0 own.1.1.1.0 own.1.1.1.1.0 own.1.1.1.1.1.0;
 }
+
+-- what the channel that a record names finds of it
+named_demands : (number : ℕ) (of_channel : List {1} Demand) → AllHold (where_named (nat_eq number number) of_channel) → AllHold of_channel
+named_demands number of_channel hold = subst (λ one. AllHold (where_named one of_channel)) (is_itself number) hold
+
+-- an arrival or a departure that the module and the channel agree to
+lawful_arrival : (configuration : Configuration) (state : State) (core : ℕ) (crossing : Crossing) → AllHold (module_demands configuration state.cores core (Arrive crossing))
+    → AllHold (arrival_demands configuration (time_of state.cores core) crossing.chan (state.channels crossing.chan) crossing) → IsLawfulArrival configuration state core crossing
+lawful_arrival configuration state core crossing of_module of_channel = record { names = of_module.0; chan = of_channel.0; size = of_channel.1.0; woken = of_channel.1.1.0 }
+
+lawful_departure : (configuration : Configuration) (state : State) (core : ℕ) (crossing : Crossing) → AllHold (module_demands configuration state.cores core (Depart crossing))
+    → AllHold (departure_demands configuration (time_of state.cores core) crossing.chan (state.channels crossing.chan) crossing) → IsLawfulDeparture configuration state core crossing
+lawful_departure configuration state core crossing of_module of_channel = record { names = of_module.0; chan = of_channel.0; message = of_channel.1.0; woken = of_channel.1.1.0 }
 
 -- any record
 lawful_body : (configuration : Configuration) (state : State) (core : ℕ) (body : Body) → WindowsAreConfigured configuration
@@ -222,6 +242,10 @@ lawful_body configuration state core (Tick woken) windows of_module agree channe
 }
 lawful_body configuration state core (Ret ret) windows of_module agree channels =
     lawful_return configuration state core ret of_module (agree ret.who.part of_module.0 (is_itself ret.who.part))
+lawful_body configuration state core (Arrive crossing) windows of_module agree channels =
+    lawful_arrival configuration state core crossing of_module (named_demands crossing.chan _ (channels crossing.chan of_module.0.1 (is_itself crossing.chan)))
+lawful_body configuration state core (Depart crossing) windows of_module agree channels =
+    lawful_departure configuration state core crossing of_module (named_demands crossing.chan _ (channels crossing.chan of_module.0.1 (is_itself crossing.chan)))
 lawful_body configuration state core (Call call) windows of_module agree channels =
     let own = agree call.who.part of_module.0.0 (first_holds _ _ (is_itself call.who.part)) in
     lawful_call configuration state core call of_module
@@ -262,18 +286,19 @@ module_demanded configuration state core (Tick woken) law =
 module_demanded configuration state core (Call call) law =
     let chosen = choice_is (window_now configuration state.cores core) state.partitions core call.who law.choice in
     (law.names, (not_idle (window_now configuration state.cores core) state.partitions core call.who chosen, tt))
+module_demanded configuration state core (Arrive crossing) law = (law.names, tt)
+module_demanded configuration state core (Depart crossing) law = (law.names, tt)
 module_demanded configuration state core (Ret ret) law =
     let chosen = choice_is (window_now configuration state.cores core) state.partitions core ret.who law.choice in
     (law.names, (not_idle (window_now configuration state.cores core) state.partitions core ret.who chosen, tt))
 
 -- the processes that a call through a channel wakes
 
--- who is woken through a channel: a send those who wait to receive, a receive those who wait to send
+-- who is woken through a channel: by a send those who wait to receive, by a receive and when the channel is cleared those who wait to send
 abbrev pub WaitsAcross : Request → (ℕ → Partition) → Configuration → ℕ → Who → Type 0
-WaitsAcross (Request.QueuingPort port (QueuingOperation.Send length time_out message)) partitions configuration channel who =
-    IsTrue (is_receiver configuration channel who.part) × IsTrue (waits_at (channel_set channel Receivers) (found partitions who))
-WaitsAcross (Request.QueuingPort port (QueuingOperation.Receive time_out)) partitions configuration channel who =
-    IsTrue (is_sender configuration channel who.part) × IsTrue (waits_at (channel_set channel Senders) (found partitions who))
+WaitsAcross (Request.QueuingPort port (QueuingOperation.Send length time_out message)) partitions configuration channel who = WaitsThere partitions configuration channel Receivers who
+WaitsAcross (Request.QueuingPort port (QueuingOperation.Receive time_out)) partitions configuration channel who = WaitsThere partitions configuration channel Senders who
+WaitsAcross (Request.QueuingPort port QueuingOperation.Clear) partitions configuration channel who = WaitsThere partitions configuration channel Senders who
 WaitsAcross _ partitions configuration channel who = ⊥
 
 pub across : (configuration : Configuration) (state : State) (now channel partition : ℕ) (asked : Request) → AreTied configuration state → IsTrue (suits_use configuration channel partition (use_of asked) (state.channels channel))
@@ -284,6 +309,10 @@ across configuration state now channel partition (Request.QueuingPort port (Queu
     (all_weaker (IsTied (λ home. IsTrue (is_receiver configuration channel home)) (channel_set channel Receivers) state.partitions) _ (λ entry tied. tied) (state.channels channel).receivers (tied.receivers channel)) who named
 across configuration state now channel partition (Request.QueuingPort port (QueuingOperation.Receive time_out)) tied suited who named =
     use_wakes (WaitsAcross (Request.QueuingPort port (QueuingOperation.Receive time_out)) state.partitions configuration channel) configuration now channel partition (Receive time_out)
+    (state.channels channel) (state.channels channel).content
+    (all_weaker (IsTied (λ home. IsTrue (is_sender configuration channel home)) (channel_set channel Senders) state.partitions) _ (λ entry tied. tied) (state.channels channel).senders (tied.senders channel)) who named
+across configuration state now channel partition (Request.QueuingPort port QueuingOperation.Clear) tied suited who named =
+    use_wakes (WaitsAcross (Request.QueuingPort port QueuingOperation.Clear) state.partitions configuration channel) configuration now channel partition Clear
     (state.channels channel) (state.channels channel).content
     (all_weaker (IsTied (λ home. IsTrue (is_sender configuration channel home)) (channel_set channel Senders) state.partitions) _ (λ entry tied. tied) (state.channels channel).senders (tied.senders channel)) who named
 across configuration state now channel partition (Request.SamplingPort port (SamplingOperation.Write length message)) tied suited who named =
@@ -300,6 +329,8 @@ other_end : (configuration : Configuration) (partitions : ℕ → Partition) (ch
 other_end configuration partitions channel number (Request.QueuingPort port (QueuingOperation.Send length time_out message)) who ends is_member waits same =
     ends channel number is_member (subst (λ part. IsTrue (is_receiver configuration channel part)) same waits.0)
 other_end configuration partitions channel number (Request.QueuingPort port (QueuingOperation.Receive time_out)) who ends is_member waits same =
+    ends channel number (subst (λ part. IsTrue (is_sender configuration channel part)) same waits.0) is_member
+other_end configuration partitions channel number (Request.QueuingPort port QueuingOperation.Clear) who ends is_member waits same =
     ends channel number (subst (λ part. IsTrue (is_sender configuration channel part)) same waits.0) is_member
 other_end configuration partitions channel number _ who ends is_member waits same = waits
 
@@ -321,16 +352,16 @@ wakes_no_peer configuration state now who asked claim channel ends tied none of 
 peers : (configuration : Configuration) (state : State) (core : ℕ) (call : CallRecord) → EndsAreApart configuration → AreTied configuration state
     → (conditions : List Condition) → conditions_of configuration call.who (state.partitions call.who.part) call.request ≡ conditions
     → (channel : Option ℕ) → channel_of (state.partitions call.who.part) call.request ≡ channel
-    → ClaimsOutcome configuration state (time_of state.cores core) call.who call.request call.claim conditions channel
+    → ClaimsOutcome configuration state core call.who call.request call.claim conditions channel
     → AllHold (outcome_demands conditions channel call.who.part call.request
-    (answer_of (time_of state.cores core) call.who (state.partitions call.who.part) call.request) call.claim)
+    (answer_of state.cores core call.who (state.partitions call.who.part) call.request) call.claim)
 peers configuration state core call ends tied (condition ∷ conditions) is channel of has =
-    outcome_holds (condition ∷ conditions) channel call.who.part call.request (answer_of (time_of state.cores core) call.who (state.partitions call.who.part) call.request)
+    outcome_holds (condition ∷ conditions) channel call.who.part call.request (answer_of state.cores core call.who (state.partitions call.who.part) call.request)
     (λ number. suits_use configuration number call.who.part (use_of call.request) (state.channels number)) (channel_answer configuration (time_of state.cores core) call.who.part call.request state.channels) call.claim
     (λ other suited. channel_can configuration (time_of state.cores core) other call.who.part call.request (state.channels other) suited)
     (λ other some through. (let nobody : call.claim.woken ≡ [] = has.woken in ap (names_one_of call.who.part) nobody)) has
 peers configuration state core call ends tied [] is channel of has =
-    outcome_holds [] channel call.who.part call.request (answer_of (time_of state.cores core) call.who (state.partitions call.who.part) call.request)
+    outcome_holds [] channel call.who.part call.request (answer_of state.cores core call.who (state.partitions call.who.part) call.request)
     (λ number. suits_use configuration number call.who.part (use_of call.request) (state.channels number)) (channel_answer configuration (time_of state.cores core) call.who.part call.request state.channels) call.claim
     (λ other suited. channel_can configuration (time_of state.cores core) other call.who.part call.request (state.channels other) suited)
     (λ other some through. wakes_no_peer configuration state (time_of state.cores core) call.who call.request call.claim other ends tied is (of ∙ some) through) has
@@ -375,23 +406,25 @@ wakes_here partitions configuration (Request.QueuingPort port (QueuingOperation.
     all_wait partitions number (channel_set channel Receivers) others (λ who named. (wait who named).1)
 wakes_here partitions configuration (Request.QueuingPort port (QueuingOperation.Receive time_out)) channel number others names wait =
     all_wait partitions number (channel_set channel Senders) others (λ who named. (wait who named).1)
+wakes_here partitions configuration (Request.QueuingPort port QueuingOperation.Clear) channel number others names wait =
+    all_wait partitions number (channel_set channel Senders) others (λ who named. (wait who named).1)
 wakes_here partitions configuration _ channel number others names wait = let one = some_named number others names in absurd (wait one.0 one.1)
 
 -- a lawful call of another partition that names one of these processes goes through the channel at which it waits
-foreign_wakes : (configuration : Configuration) (state : State) (now : ℕ) (call : CallRecord) (number : ℕ) → AreTied configuration state
+foreign_wakes : (configuration : Configuration) (state : State) (core : ℕ) (call : CallRecord) (number : ℕ) → AreTied configuration state
     → nat_eq call.who.part number ≡ false → names_one_of number call.claim.woken ≡ true → (conditions : List Condition) (channel : Option ℕ)
-    → ClaimsOutcome configuration state now call.who call.request call.claim conditions channel
+    → ClaimsOutcome configuration state core call.who call.request call.claim conditions channel
     → WakesHere call.request call.claim.chan number (state.partitions number).table call.claim.woken
-foreign_wakes configuration state now call number tied foreign names (condition ∷ conditions) channel has =
+foreign_wakes configuration state core call number tied foreign names (condition ∷ conditions) channel has =
     absurd (true≢false (sym names ∙ ap (names_one_of number) has.woken))
-foreign_wakes configuration state now call number tied foreign names [] None has =
+foreign_wakes configuration state core call number tied foreign names [] None has =
     let one = some_named number call.claim.woken names in
-    let by = woken configuration state now call.who call.request call.claim tied [] None has one.0 one.1 in
+    let by = woken configuration state core call.who call.request call.claim tied [] None has one.0 one.1 in
     absurd (true≢false (sym (eq-eqb call.who.part number (sym (by.own has.chan) ∙ one.2)) ∙ foreign))
-foreign_wakes configuration state now call number tied foreign names [] (Some channel) has =
+foreign_wakes configuration state core call number tied foreign names [] (Some channel) has =
     subst (λ chan. WakesHere call.request chan number (state.partitions number).table call.claim.woken) (sym has.chan)
     (wakes_here state.partitions configuration call.request channel number call.claim.woken names
-    (λ who named. across configuration state now channel call.who.part call.request tied has.kind who (sym (has.woken who) ∙ named)))
+    (λ who named. across configuration state (time_of state.cores core) channel call.who.part call.request tied has.kind who (sym (has.woken who) ∙ named)))
 
 -- in the windows of the caller's partition the window is no other's
 foreign_window : (window : Option ℕ) (partitions : ℕ → Partition) (core : ℕ) (who : Who) (number : ℕ) (Demanded : Type 0) → IsChoice window partitions core who
@@ -414,7 +447,7 @@ call_demanded configuration state core call ends tied law number false is touche
       (IsRunning number state.cores (state.partitions number).table core call.who)
       (choice_is (window_now configuration state.cores core) state.partitions core call.who law.choice) is,
   (
-    foreign_wakes configuration state (time_of state.cores core) call number tied is touched
+    foreign_wakes configuration state core call number tied is touched
         (conditions_of configuration call.who (state.partitions call.who.part) call.request)
         (channel_of (state.partitions call.who.part) call.request) law.outcome,
     tt,
@@ -454,6 +487,10 @@ partition_demanded configuration state core (Tick woken) ends tied law number is
     (own_choice (window_now configuration state.cores core) state.partitions core (occupant_of state.cores core) number law.choice, (law.due number is, tt))
 partition_demanded configuration state core (Call call) ends tied law number is touched =
     call_demanded configuration state core call ends tied law number (nat_eq call.who.part number) refl touched
+partition_demanded configuration state core (Arrive crossing) ends tied law number is touched =
+    (all_wait state.partitions number (channel_set crossing.chan Receivers) crossing.woken (λ who named. (arrival_wakes configuration state core crossing tied law who named).1), tt)
+partition_demanded configuration state core (Depart crossing) ends tied law number is touched =
+    (all_wait state.partitions number (channel_set crossing.chan Senders) crossing.woken (λ who named. (departure_wakes configuration state core crossing tied law who named).1), tt)
 partition_demanded configuration state core (Ret ret) ends tied law number is touched =
     subst (λ of. AllHold (partition_demands configuration of state.cores (state.partitions of) core (Ret ret)))
     (eqb-true ret.who.part number touched) (return_demanded configuration state core ret law)
@@ -487,11 +524,23 @@ used_demanded configuration state core call tied law number true is =
       (through.kind, (through.out, (through.values, (through.bytes, (through.woken, tt))))),
     )
 
+-- the channel that a record names, and another
+named_demanded : (of : ℕ → List {1} Demand) (chan number : ℕ) → AllHold (of chan) → AllHold (where_named (nat_eq chan number) (of number))
+named_demanded of chan number hold = by (nat_eq chan number) refl
+  where
+    by : (here : Bool) → nat_eq chan number ≡ here → AllHold (where_named here (of number))
+    by true is = subst (λ one. AllHold (of one)) (eqb-true chan number is) hold
+    by false is = tt
+
 -- a lawful record meets the demands of each channel
 channel_demanded : (configuration : Configuration) (state : State) (core : ℕ) (body : Body) → AreTied configuration state
     → IsLawfulBody configuration state core body → (number : ℕ)
     → AllHold (channel_demands configuration (time_of state.cores core) number (state.channels number) body)
 channel_demanded configuration state core (Call call) tied law number = used_demanded configuration state core call tied law number (is_channel number call.claim.chan) refl
+channel_demanded configuration state core (Arrive crossing) tied law number =
+    named_demanded (λ one. arrival_demands configuration (time_of state.cores core) one (state.channels one) crossing) crossing.chan number (law.chan, (law.size, (law.woken, tt)))
+channel_demanded configuration state core (Depart crossing) tied law number =
+    named_demanded (λ one. departure_demands configuration (time_of state.cores core) one (state.channels one) crossing) crossing.chan number (law.chan, (law.message, (law.woken, tt)))
 channel_demanded configuration state core (Disp who) tied law number = tt
 channel_demanded configuration state core _ tied law number = tt
 

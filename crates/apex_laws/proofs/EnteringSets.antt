@@ -3,6 +3,7 @@
 use Rattle.std.proofs.Common.{◌≡◌, ℕ, List, [], ◌∷◌, ◌++◌, true, false, cond, nat_eq, ℤ, Option, Some, None, is_some, refl, sym, ap, subst, ◌∙◌, true≢false, ◌&&◌, ◌||◌}
 use Rattle.apex_laws.proofs.Common.{AllHold, Answer, Call, Claim, Condition, LetsGoAsAnswered, OnlyDoneLetsGo, Out, Partition, RefusedLeavesObjects, Request, WaitingSet, Who, answer_of, channel_of, conditions_of, each_set, ends_wait, enters}
 use Rattle.apex_laws.proofs.Common.{entries_at, entry_of, is_done, is_named, is_no_error, is_target, is_the_set, is_waiting, names_one_of, objects_by, outcome_demands, set_after, set_of, stop_of, stops, time_of, without}
+use Rattle.apex_laws.proofs.Common.{CoreState}
 use Rattle.apex_laws.proofs.Booleans.{cannot_hold, impossible, never_found, not_first, or_false}
 use Rattle.apex_laws.proofs.Codes.{no_error_is_done}
 use Rattle.apex_laws.proofs.Objects.{Leaves, sets_stay}
@@ -16,14 +17,14 @@ use Rattle.apex_laws.proofs.Wakes.{answer_quiet}
 -- claims
 
 -- a claim that is not NO_ERROR names no process of the caller's partition
-names_nobody : (number now : ℕ) (partition : Partition) (caller : Who) (asked : Request) (claim : Claim) (conditions : List Condition) (channel : Option ℕ)
-    → AllHold (outcome_demands conditions channel number asked (answer_of now caller partition asked) claim) → is_no_error claim.out ≡ false
+names_nobody : (number : ℕ) (cores : List CoreState) (core : ℕ) (partition : Partition) (caller : Who) (asked : Request) (claim : Claim) (conditions : List Condition) (channel : Option ℕ)
+    → AllHold (outcome_demands conditions channel number asked (answer_of cores core caller partition asked) claim) → is_no_error claim.out ≡ false
     → (who : Who) → who.part ≡ number → is_named who claim.woken ≡ false
-names_nobody number now partition caller asked claim (condition ∷ conditions) channel hold not_done who here = ap (is_named who) hold.1.1.1.1.0
-names_nobody number now partition caller asked claim [] (Some channel) hold not_done who here =
+names_nobody number cores core partition caller asked claim (condition ∷ conditions) channel hold not_done who here = ap (is_named who) hold.1.1.1.1.0
+names_nobody number cores core partition caller asked claim [] (Some channel) hold not_done who here =
     not_named who claim.woken (subst (λ part. names_one_of part claim.woken ≡ false) (sym here) hold.1.1.0)
-names_nobody number now partition caller asked claim [] None hold not_done who here =
-    hold.1.1.1.1.0 who ∙ ap (is_named who) (answer_quiet now caller partition asked (ap is_no_error (sym hold.1.0) ∙ not_done))
+names_nobody number cores core partition caller asked claim [] None hold not_done who here =
+    hold.1.1.1.1.0 who ∙ ap (is_named who) (answer_quiet cores core caller partition asked (ap is_no_error (sym hold.1.0) ∙ not_done))
 
 -- a claim of a call through no channel names the processes that the service's answer names
 names_as_answered : (number : ℕ) (asked : Request) (answer : Answer) (claim : Claim) (conditions : List Condition) (channel : Option ℕ) → conditions ≡ [] → channel ≡ None
@@ -39,7 +40,7 @@ only_done_lets_go configuration number place core cores partition call is not_do
     let stays : without (ends_wait call) (entries_at partition wanted) ≡ entries_at partition wanted =
     none_leaves (WaitsInSet number wanted partition) (ends_wait call)
     (λ entry is_member. goes_on call entry.who (restarts_none call entry.who.part no_restart)
-    (names_nobody number (time_of cores core) partition call.who call.request call.claim (conditions_of configuration call.who partition call.request) (channel_of partition call.request)
+    (names_nobody number cores core partition call.who call.request call.claim (conditions_of configuration call.who partition call.request) (channel_of partition call.request)
     is.demands.1.1.1.1.1 not_done entry.who is_member.0)
     (not_first (is_no_error call.claim.out) (nat_eq entry.who.part call.who.part && is_target (stop_of call.request) entry.who.proc) not_done))
     (entries_at partition wanted) (is.sound.is_member wanted) in
@@ -53,7 +54,7 @@ not_waiting (Out.Answer code) is = refl
 
 pub lets_go_as_answered : LetsGoAsAnswered
 lets_go_as_answered configuration number place core cores partition call is no_error no_stop no_channel wanted =
-    let answer = answer_of (time_of cores core) call.who partition call.request in
+    let answer = answer_of cores core call.who partition call.request in
     let conditions = conditions_of configuration call.who partition call.request in
     let none : conditions ≡ [] = demands_none conditions (channel_of partition call.request) number call.request answer call.claim
     is.demands.1.1.1.1.1 (no_error_is_done call.claim.out no_error) in

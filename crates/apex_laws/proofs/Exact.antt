@@ -1,18 +1,19 @@
 -- Exactly the processes that wait in a set have an entry in it.
-use Rattle.std.proofs.Common.{◌≡◌, ◌⊎◌, ℕ, List, [], ◌++◌, Bool, true, false, cond, nat_eq, ℤ, pos, negsuc, Option, Some, None, option_map, refl, sym, ap, subst, ◌∙◌, inl, inr, true≢false, ◌&&◌, ◌∷◌, is_some}
+use Rattle.std.proofs.Common.{◌≡◌, ◌⊎◌, ℕ, zero, suc, List, [], ◌++◌, Bool, true, false, cond, nat_eq, ℤ, pos, negsuc, Option, Some, None, option_map, refl, sym, ap, subst, ◌∙◌, inl, inr, true≢false, ◌&&◌, ◌∷◌, is_some}
 use Rattle.std.proofs.lemmas.Bool.{and_from, and_parts, eqb-true, eq-eqb}
 use Rattle.apex_laws.proofs.Common.{AreTied, Body, Buffer, Call, CallRecord, Configuration, CoreState, Disp, End, Entry, IsLawfulBody, Mode, Ordered, Out, Partition, Process, Receivers, Request, Ret, Senders, State, Step, Table, Tick, Wait}
 use Rattle.apex_laws.proofs.Common.{WaitersHaveEntries, WaitingSet, WaitsIn, Who, WhoWaitsHasEntry, adjusted, after, called, caller_after, caller_with, change_at, channel_set, cold_state, conditions_of, created_by, each_item, each_set}
 use Rattle.apex_laws.proofs.Common.{ends_wait, enters, entries_at, entries_at_channel, entries_at_end, entries_in, entries_of, entry_of, entry_wait, first_core, given_object, has_entry_in, is_done, is_in, is_named, is_no_error, is_normal}
 use Rattle.apex_laws.proofs.Common.{is_of_channel, is_same, is_target, is_the_set, is_waiting, item_at, message_of, natural_of, new_process, numbered, object_conditions, objects_by, objects_of, partition_by, period_of, released, restart_of}
 use Rattle.apex_laws.proofs.Common.{returned, set_after, set_by, set_of, stop_of, stopped, stops, ticked, time_of, wait_of, waits_at, without, woken_by, woken_if_named}
+use Rattle.apex_laws.proofs.Common.{Arrive, Depart}
 use Rattle.apex_laws.proofs.Booleans.{by_test, differs_back, either_way, first_holds, impossible, is_itself, later_holds, never_found, not_first, not_second, other_holds}
 use Rattle.apex_laws.proofs.Choices.{ready_waits_not}
 use Rattle.apex_laws.proofs.Ends.{first_empty}
 use Rattle.apex_laws.proofs.Keeps.{begun_in, called_sets, calls_ready, CallsReady, found_changed, IsReadyCall, leaves, same_sets, set_case, used_sets}
 use Rattle.apex_laws.proofs.ObjectCalls.{message_there, mutex_there, object_there}
 use Rattle.apex_laws.proofs.Objects.{each_set_holds, is_created_at, none_there}
-use Rattle.apex_laws.proofs.Restarts.{call_case, goes_on, not_restarted, restarts_none, restarts_other, return_case, start_waits_not, waiting_goes_on, woken_if_named_table}
+use Rattle.apex_laws.proofs.Restarts.{call_case, goes_on, not_restarted, restarts_none, restarts_other, return_case, start_waits_not, waiting_goes_on, woken_table}
 use Rattle.apex_laws.proofs.SetNames.{channel_set_is, has_end}
 use Rattle.apex_laws.proofs.Stays.{run_keeps}
 use Rattle.apex_laws.proofs.Tables.{at_each}
@@ -28,20 +29,22 @@ use Rattle.apex_laws.proofs.WholeCalls.{found_after}
 abbrev WaitedBefore : WaitingSet → Process → Process → Type 0
 WaitedBefore wanted x y = waits_at wanted (Some y) ≡ true → waits_at wanted (Some x) ≡ true
 
-entry_not : (wanted : WaitingSet) (period now : ℕ) (own : Option ℕ) → is_in wanted (entry_wait period now own) ≡ true → ⊥
-entry_not wanted period now None is = true≢false (sym is)
-entry_not wanted period now (Some own) is = true≢false (sym is)
+entry_not : (wanted : WaitingSet) (period now delay : ℕ) (own : Option ℕ) → is_in wanted (entry_wait period now delay own) ≡ true → ⊥
+entry_not wanted period now zero None is = true≢false (sym is)
+entry_not wanted period now (suc delay) None is = true≢false (sym is)
+entry_not wanted period now delay (Some own) is = true≢false (sym is)
 
-start_not : (wanted : WaitingSet) (normal : Bool) (period now : ℕ) (own : Option ℕ) → is_in wanted (cond normal (entry_wait period now own) Wait.NormalMode) ≡ true → ⊥
-start_not wanted true period now own is = entry_not wanted period now own is
-start_not wanted false period now own is = true≢false (sym is)
+start_not : (wanted : WaitingSet) (normal : Bool) (period now : ℕ) (delay : ℤ) (own : Option ℕ)
+    → is_in wanted (cond normal (entry_wait period now (natural_of delay) own) (Wait.NormalMode delay)) ≡ true → ⊥
+start_not wanted true period now delay own is = entry_not wanted period now (natural_of delay) own is
+start_not wanted false period now delay own is = true≢false (sym is)
 
 set_back : (place period : ℕ) (cores : List CoreState) (partition : Partition) (caller : ℕ) (asked : Request) (number : ℕ) (x : Process) (wanted : WaitingSet)
     → WaitedBefore wanted x (set_by place period cores partition caller asked number x)
 set_back place period cores partition caller asked number x wanted =
     set_case (WaitedBefore wanted x) place period cores partition caller asked number x (λ affinity current retained position suspended waits. waits)
-    (λ now waits. absurd (start_not wanted (is_normal partition.mode) period now x.period waits))
-    (λ now waits. absurd (entry_not wanted period now x.period (and_parts x.alive (is_in wanted (entry_wait period now x.period)) waits).1))
+    (λ now delay waits. absurd (start_not wanted (is_normal partition.mode) period now delay x.period waits))
+    (λ now delay waits. absurd (entry_not wanted period now delay x.period (and_parts x.alive (is_in wanted (entry_wait period now delay x.period)) waits).1))
 
 adjusted_back : (place period : ℕ) (cores : List CoreState) (partition : Partition) (call : CallRecord) (number : ℕ) (x : Process) (wanted : WaitingSet)
     → WaitedBefore wanted x (adjusted place period cores partition call number x)
@@ -59,11 +62,10 @@ still_waits : (wanted : WaitingSet) (named : Bool) (ended x : Process) → (wait
 still_waits wanted true ended x not waits = absurd (not waits)
 still_waits wanted false ended x not waits = (refl, waits)
 
--- a process that a call may have woken, and still waits
-woken_if_named_back : (place : ℕ) (call : CallRecord) (who : Who) (x : Process) (wanted : WaitingSet) → waits_at wanted (Some (woken_if_named place call who x)) ≡ true
-    → (is_named who call.claim.woken ≡ false) × (waits_at wanted (Some x) ≡ true)
-woken_if_named_back place call who x wanted waits =
-    still_waits wanted (is_named who call.claim.woken) (woken_by place (message_of call.request) x) x (ended_not x.alive) waits
+-- a process that a record may have woken, and still waits
+woken_if_named_back : (place : ℕ) (message : List ℕ) (woken : List Who) (who : Who) (x : Process) (wanted : WaitingSet) → waits_at wanted (Some (woken_if_named place message woken who x)) ≡ true
+    → (is_named who woken ≡ false) × (waits_at wanted (Some x) ≡ true)
+woken_if_named_back place message woken who x wanted waits = still_waits wanted (is_named who woken) (woken_by place message x) x (ended_not x.alive) waits
 
 -- a process that a tick may have woken, and still waits
 ticked_back : (place part : ℕ) (woken : List Who) (number : ℕ) (x : Process) (wanted : WaitingSet) → waits_at wanted (Some (ticked place part woken number x)) ≡ true
@@ -89,24 +91,24 @@ called_back place now period cores partition call number x wanted none waits =
     let who : Who = record { part = call.who.part; proc = number } in
     let Fact : Type 0 = ((nat_eq number call.who.proc ≡ true) × (waits_at wanted (Some (caller_after place now call changed)) ≡ true))
     ⊎ ((ends_wait call who ≡ false) × (waits_at wanted (Some x) ≡ true)) in
-    by_test (λ y. waits_at wanted (Some y) ≡ true → Fact) (nat_eq number call.who.proc) (caller_after place now call changed) (cond (stops call who) (stopped changed) (woken_if_named place call who changed))
+    by_test (λ y. waits_at wanted (Some y) ≡ true → Fact) (nat_eq number call.who.proc) (caller_after place now call changed) (cond (stops call who) (stopped changed) (woken_if_named place (message_of call.request) call.claim.woken who changed))
     (λ own waits. inl (own, waits))
-    (λ other. by_test (λ y. waits_at wanted (Some y) ≡ true → Fact) (stops call who) (stopped changed) (woken_if_named place call who changed) (λ passed waits. impossible waits)
-    (λ stays waits. (let back = woken_if_named_back place call who changed wanted waits in
+    (λ other. by_test (λ y. waits_at wanted (Some y) ≡ true → Fact) (stops call who) (stopped changed) (woken_if_named place (message_of call.request) call.claim.woken who changed) (λ passed waits. impossible waits)
+    (λ stays waits. (let back = woken_if_named_back place (message_of call.request) call.claim.woken who changed wanted waits in
     inr (goes_on call who (restarts_none call call.who.part none) back.0 stays, adjusted_back place period cores partition call number x wanted back.1)))) waits
 
 -- a created process doesn't wait
-numbered_not : (claimed : Option ℤ) (core : ℕ) (name : List ℕ) (priority period : ℤ) (number : ℕ) (wanted : WaitingSet) → waits_at wanted (item_at (numbered claimed (new_process core name priority period)) number) ≡ true → ⊥
-numbered_not None core name priority period number wanted waits = true≢false (sym waits)
-numbered_not (Some (negsuc n)) core name priority period number wanted waits = true≢false (sym waits)
-numbered_not (Some (pos n)) core name priority period number wanted waits =
-    by_test (λ found. waits_at wanted found ≡ true → ⊥) (nat_eq number n) (Some (new_process core name priority period)) None
+numbered_not : (claimed : Option ℤ) (core : ℕ) (name : List ℕ) (priority period time_capacity : ℤ) (number : ℕ) (wanted : WaitingSet) → waits_at wanted (item_at (numbered claimed (new_process core name priority period time_capacity)) number) ≡ true → ⊥
+numbered_not None core name priority period time_capacity number wanted waits = true≢false (sym waits)
+numbered_not (Some (negsuc n)) core name priority period time_capacity number wanted waits = true≢false (sym waits)
+numbered_not (Some (pos n)) core name priority period time_capacity number wanted waits =
+    by_test (λ found. waits_at wanted found ≡ true → ⊥) (nat_eq number n) (Some (new_process core name priority period time_capacity)) None
     (λ here waits. true≢false (sym waits)) (λ elsewhere waits. true≢false (sym waits)) waits
 
 created_not : (core : ℕ) (call : CallRecord) (asked : Request) (number : ℕ) (wanted : WaitingSet) → waits_at wanted (item_at (created_by core call asked) number) ≡ true → ⊥
-created_not core call (Request.CreateProcess name priority period) number wanted waits =
-    by_test (λ more. waits_at wanted (item_at more number) ≡ true → ⊥) (is_done call.claim.out) (numbered call.claim.val (new_process core name priority period)) []
-    (λ done waits. numbered_not call.claim.val core name priority period number wanted waits) (λ not_done waits. true≢false (sym waits)) waits
+created_not core call (Request.CreateProcess name priority period time_capacity) number wanted waits =
+    by_test (λ more. waits_at wanted (item_at more number) ≡ true → ⊥) (is_done call.claim.out) (numbered call.claim.val (new_process core name priority period time_capacity)) []
+    (λ done waits. numbered_not call.claim.val core name priority period time_capacity number wanted waits) (λ not_done waits. true≢false (sym waits)) waits
 created_not core call _ number wanted waits = true≢false (sym waits)
 
 -- the tables
@@ -144,6 +146,15 @@ abbrev pub Entering : Body → Who → WaitingSet → Type 0
 Entering (Call call) who wanted = (who ≡ call.who) × (enters call wanted ≡ true)
 Entering _ who wanted = ⊥
 
+-- who waits after a record of others waited before, and is not named
+waits_after : (place : ℕ) (message : List ℕ) (woken : List Who) (table : Table) (who : Who) (wanted : WaitingSet)
+    → waits_at wanted (item_at (woken_table place who.part message woken table) who.proc) ≡ true
+    → ((is_named who woken ≡ false) × (waits_at wanted (item_at table who.proc) ≡ true)) ⊎ ⊥
+waits_after place message woken table who wanted waits =
+    each_back (((is_named who woken ≡ false) × (waits_at wanted (item_at table who.proc) ≡ true)) ⊎ ⊥)
+    (λ other process. woken_if_named place message woken (record { part = who.part; proc = other }) process) table who.proc wanted
+    (λ x at waits. (let back = woken_if_named_back place message woken who x wanted waits in inl (back.0, subst (λ one. waits_at wanted one ≡ true) (sym at) back.1))) waits
+
 -- who waits in a set after a record waited there and goes on, or enters, if the record's own calls are of ready callers
 pub who_waits : (configuration : Configuration) (cores : List CoreState) (place core : ℕ) (body : Body) (partition : Partition) (who : Who) (wanted : WaitingSet)
     → CallsReady configuration core who.part body partition
@@ -159,6 +170,9 @@ who_waits configuration cores place core (Ret ret) partition who wanted ready wa
     (λ waits. each_back Fact (returned ret.who.proc) partition.table who.proc wanted
     (λ x at waits. inl (refl, subst (λ one. waits_at wanted one ≡ true) (sym at) (by_test (WaitedBefore wanted x) (nat_eq who.proc ret.who.proc) (record x { due = None }) x (λ own waits. waits) (λ other waits. waits) waits))) waits)
     (λ waits. inl (refl, waits)) waits
+who_waits configuration cores place core (Arrive crossing) partition who wanted ready waits =
+    waits_after place crossing.message crossing.woken partition.table who wanted waits
+who_waits configuration cores place core (Depart crossing) partition who wanted ready waits = waits_after place [] crossing.woken partition.table who wanted waits
 who_waits configuration cores place core (Call call) partition who wanted ready waits =
     let Fact : Type 0 = ((ends_wait call who ≡ false) × (waits_at wanted (item_at partition.table who.proc) ≡ true)) ⊎ ((who ≡ call.who) × (enters call wanted ≡ true)) in
     let table = partition.table in
@@ -182,7 +196,7 @@ who_waits configuration cores place core (Call call) partition who wanted ready 
     (λ new. created_not (first_core configuration call.who.part) call call.request who.proc wanted new) in_table))
     (λ own mode is in_table. absurd (start_waits_not mode (first_core configuration call.who.part) place who.proc wanted in_table))
     (λ elsewhere in_table. each_back Fact _ table who.proc wanted
-    (λ x at waits. (let back = woken_if_named_back place call who x wanted waits in
+    (λ x at waits. (let back = woken_if_named_back place (message_of call.request) call.claim.woken who x wanted waits in
     let stays : stops call who ≡ false = not_stopped call who elsewhere in
     inl (goes_on call who (restarts_other call who.part (differs_back call.who.part who.part elsewhere)) back.0 stays, subst (λ one. waits_at wanted one ≡ true) (sym at) back.1))) in_table) waits
 
@@ -216,6 +230,8 @@ set_keeps : (place : ℕ) (body : Body) (who : Who) (wanted : WaitingSet) (entri
 set_keeps place (Disp one) who wanted entries stays is_member = is_member
 set_keeps place (Ret ret) who wanted entries stays is_member = is_member
 set_keeps place (Tick woken) who wanted entries stays is_member = has_entry_without (λ who. is_named who woken) who entries stays is_member
+set_keeps place (Arrive crossing) who wanted entries stays is_member = has_entry_without (λ who. is_named who crossing.woken) who entries stays is_member
+set_keeps place (Depart crossing) who wanted entries stays is_member = has_entry_without (λ who. is_named who crossing.woken) who entries stays is_member
 set_keeps place (Call call) who wanted entries stays is_member =
     let rest = has_entry_without (ends_wait call) who entries stays is_member in
     by_test (λ kept. has_entry_in who kept ≡ true) (enters call wanted) (without (ends_wait call) entries ++ entry_of place call ∷ []) (without (ends_wait call) entries)
@@ -324,6 +340,10 @@ object_has_entry configuration cores place core body partition who wanted ready 
     stays (Tick woken) goes has =
         subst (λ entries. has_entry_in who entries ≡ true) (sym (same_sets (each_set (set_after place (Tick woken)) partition) (each_item (ticked place who.part woken) partition.table) wanted))
         (each_has_entry who (set_after place (Tick woken)) partition wanted (waiting_there who partition wanted has) (set_keeps place (Tick woken) who wanted (entries_at partition wanted) goes has))
+    stays (Arrive crossing) goes has =
+        subst (λ entries. has_entry_in who entries ≡ true) (sym (same_sets partition (woken_table place who.part crossing.message crossing.woken partition.table) wanted)) has
+    stays (Depart crossing) goes has =
+        subst (λ entries. has_entry_in who entries ≡ true) (sym (same_sets partition (woken_table place who.part [] crossing.woken partition.table) wanted)) has
     stays (Call call) goes has =
         let objects : Partition = cond (is_done call.claim.out) (objects_by configuration call.who call.claim.val call.request partition) partition in
         let used = used_sets (λ entries. has_entry_in who entries ≡ true) configuration call partition wanted has in
@@ -331,7 +351,7 @@ object_has_entry configuration cores place core body partition who wanted ready 
         (λ own none. subst (λ entries. has_entry_in who entries ≡ true) (sym (called_sets configuration cores place core call partition wanted))
         (each_has_entry who (set_after place (Call call)) objects wanted (waiting_there who objects wanted used) (set_keeps place (Call call) who wanted (entries_at objects wanted) goes used)))
         (λ own mode is. never_found (sym (not_restarted call who (sym (eqb-true call.who.part who.part own)) goes) ∙ is))
-        (λ elsewhere. subst (λ entries. has_entry_in who entries ≡ true) (sym (same_sets partition (woken_if_named_table place call who.part partition.table) wanted)) has)
+        (λ elsewhere. subst (λ entries. has_entry_in who entries ≡ true) (sym (same_sets partition (woken_table place who.part (message_of call.request) call.claim.woken partition.table) wanted)) has)
 
     entered : (body : Body) → CallsReady configuration core who.part body partition → Entering body who wanted → Has (partition_by configuration cores place core who.part body partition)
     entered (Call call) ready entering =

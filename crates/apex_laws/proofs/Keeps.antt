@@ -9,12 +9,13 @@ use Rattle.apex_laws.proofs.Common.{Mutex, ObjectKind, Out, Partition, Process, 
 use Rattle.apex_laws.proofs.Common.{conditions_of, created, created_by, due_of_call, each_item, each_set, ends_wait, enters, entries_at, entries_at_end, entries_in, entry_of, entry_wait, first_core, given_object, is_done, is_free, is_in}
 use Rattle.apex_laws.proofs.Common.{is_named, is_new, is_number, is_owner, is_the_set, is_waiting, item_at, new_process, numbered, objects_by, objects_called, objects_of, on_ownership, partition_by, partition_called, period_of, returned}
 use Rattle.apex_laws.proofs.Common.{set_after, set_by, set_in, set_of, start_conditions, started, ticked, time_of, time_out_of, wait_in, wait_of, waits_at, waits_for_normal, window_now, without, woken_if_named}
+use Rattle.apex_laws.proofs.Common.{Arrive, Depart, StartCondition, delay_kept, message_of}
 use Rattle.apex_laws.proofs.Booleans.{by_test, cannot_hold, either_way, impossible, is_itself, never_found}
 use Rattle.apex_laws.proofs.Choices.{chosen_exists, FoundReady, ready_waits_not}
 use Rattle.apex_laws.proofs.Codes.{done_is_lawful}
-use Rattle.apex_laws.proofs.Ends.{no_condition}
+use Rattle.apex_laws.proofs.Ends.{first_empty, no_condition}
 use Rattle.apex_laws.proofs.Objects.{each_set_has, objects_have}
-use Rattle.apex_laws.proofs.Restarts.{call_case, done_case, not_named, not_restarted, not_stopped, return_case, start_distinct, start_set, waiting_goes_on, woken_if_named_table}
+use Rattle.apex_laws.proofs.Restarts.{call_case, done_case, not_named, not_restarted, not_stopped, return_case, start_distinct, start_set, waiting_goes_on, woken_table}
 use Rattle.apex_laws.proofs.Tables.{at_each, distinct_each, distinct_push, some_at_each, turns_each}
 use Rattle.apex_laws.proofs.Waiters.{all_push, all_weaker, all_without}
 use Rattle.apex_laws.proofs.WaitersOf.{same_who}
@@ -48,9 +49,10 @@ not_for_normal : (wanted : WaitingSet) (one : Wait) → is_in wanted one ≡ tru
 not_for_normal wanted (Wait.At set due) waits = refl
 not_for_normal wanted _ waits = impossible waits
 
--- START isn't asked for this process
+-- no start is asked for this process
 abbrev pub IsNotStarted : Request → ℕ → Type 0
 IsNotStarted (Request.Process process ProcessOperation.Start) number = is_number process number ≡ false
+IsNotStarted (Request.Process process (ProcessOperation.DelayedStart delay)) number = is_number process number ≡ false
 IsNotStarted _ number = Unit {0}
 
 -- a fact about a process with the priority of a mutex, given or taken back: it holds whatever priorities the process has
@@ -70,17 +72,19 @@ mutex_case Fact (Some mutex) change number x any = by (is_owner mutex.owner numb
 pub set_case : (Fact : Process → Type 0) (place period : ℕ) (cores : List CoreState) (partition : Partition) (caller : ℕ) (asked : Request) (number : ℕ) (x : Process)
     → ((affinity current retained position : ℕ) (suspended : Bool)
     → Fact (record x { affinity = affinity; current_priority = current; retained_priority = retained; ready_position = position; suspended = suspended }))
-    → ((now : ℕ) → Fact (started place period now partition.mode x)) → ((now : ℕ) → Fact (record x { wait = entry_wait period now x.period; ready_position = place }))
+    → ((now : ℕ) (delay : ℤ) → Fact (started place period now partition.mode delay x))
+    → ((now delay : ℕ) → Fact (record x { wait = entry_wait period now delay x.period; ready_position = place }))
     → Fact (set_by place period cores partition caller asked number x)
 set_case Fact place period cores partition caller (Request.Process process operation) number x set starts enters =
     by_test Fact (is_number process number) (set_in place period (time_of cores x.affinity) partition.mode operation x) x (λ own. by operation) (λ other. set _ _ _ _ _)
   where
     by : (one : ProcessOperation) → Fact (set_in place period (time_of cores x.affinity) partition.mode one x)
-    by ProcessOperation.Start = starts (time_of cores x.affinity)
+    by ProcessOperation.Start = starts (time_of cores x.affinity) (pos 0)
+    by (ProcessOperation.DelayedStart delay) = starts (time_of cores x.affinity) delay
     by _ = set _ _ _ _ _
 set_case Fact place period cores partition caller (Request.SetPartitionMode next) number x set starts enters =
-    by_test Fact (waits_for_normal x.wait) (record x { wait = entry_wait period (time_of cores x.affinity) x.period; ready_position = place }) x
-    (λ waits. enters (time_of cores x.affinity)) (λ stays. set _ _ _ _ _)
+    by_test Fact (waits_for_normal x.wait) (record x { wait = entry_wait period (time_of cores x.affinity) (delay_kept x.wait) x.period; ready_position = place }) x
+    (λ waits. enters (time_of cores x.affinity) (delay_kept x.wait)) (λ stays. set _ _ _ _ _)
 set_case Fact place period cores partition caller (Request.Object mutex (on.Mutex operation)) number x set starts enters =
     mutex_case Fact (given_object partition.mutexes mutex) _ number x (λ current retained. set _ current retained _ _)
 set_case Fact place period cores partition caller _ number x set starts enters = set _ _ _ _ _
@@ -88,11 +92,12 @@ set_case Fact place period cores partition caller _ number x set starts enters =
 set_by_alive : (place period : ℕ) (cores : List CoreState) (partition : Partition) (caller : ℕ) (asked : Request) (number : ℕ) (x : Process) → x.alive ≡ true
     → (set_by place period cores partition caller asked number x).alive ≡ true
 set_by_alive place period cores partition caller asked number x alive =
-    set_case (λ y. y.alive ≡ true) place period cores partition caller asked number x (λ affinity current retained position suspended. alive) (λ now. refl) (λ now. alive)
+    set_case (λ y. y.alive ≡ true) place period cores partition caller asked number x (λ affinity current retained position suspended. alive) (λ now delay. refl) (λ now delay. alive)
 
 pub set_by_wait : (place period : ℕ) (cores : List CoreState) (partition : Partition) (caller : ℕ) (asked : Request) (number : ℕ) (x : Process) → IsNotStarted asked number
     → waits_for_normal x.wait ≡ false → (set_by place period cores partition caller asked number x).wait ≡ x.wait
 set_by_wait place period cores partition caller (Request.Process process ProcessOperation.Start) number x starts normal = rw starts refl
+set_by_wait place period cores partition caller (Request.Process process (ProcessOperation.DelayedStart delay)) number x starts normal = rw starts refl
 set_by_wait place period cores partition caller (Request.Process process ProcessOperation.Stop) number x starts normal = by_test (λ (y : Process). y.wait ≡ x.wait) (is_number process number) x x (λ own. refl) (λ other. refl)
 set_by_wait place period cores partition caller (Request.Process process operation) number x starts normal =
     by_test (λ (y : Process). y.wait ≡ x.wait) (is_number process number) (set_in place period (time_of cores x.affinity) partition.mode operation x) x (λ own. refl) (λ other. refl)
@@ -101,7 +106,7 @@ set_by_wait place period cores partition caller (Request.Object mutex (on.Mutex 
     mutex_case (λ y. y.wait ≡ x.wait) (given_object partition.mutexes mutex) _ number x (λ current retained. refl)
 set_by_wait place period cores partition caller _ number x starts normal = refl
 
--- START starts no process that is alive
+-- a start starts no process that is alive
 
 -- a number that isn't a process's
 not_number : (table : Table) (process : ℤ) (number : ℕ) (x : Process) → item_at table number ≡ Some x → x.alive ≡ true → start_conditions (created table process) ≡ [] → is_number process number ≡ false
@@ -115,6 +120,8 @@ not_number table (pos (suc n)) number x at alive none =
 not_started : (configuration : Configuration) (who : Who) (partition : Partition) (asked : Request) (number : ℕ) (x : Process) → item_at partition.table number ≡ Some x → x.alive ≡ true
     → conditions_of configuration who partition asked ≡ [] → IsNotStarted asked number
 not_started configuration who partition (Request.Process process ProcessOperation.Start) number x at alive none = not_number partition.table process number x at alive none
+not_started configuration who partition (Request.Process process (ProcessOperation.DelayedStart delay)) number x at alive none =
+    not_number partition.table process number x at alive (first_empty _ _ (first_empty _ _ none))
 not_started configuration who partition _ number x at alive none = tt
 
 -- after a call
@@ -171,6 +178,8 @@ abbrev pub leaves : Body → Who → Bool
 leaves (Disp who) one = false
 leaves (Ret ret) one = false
 leaves (Tick woken) one = is_named one woken
+leaves (Arrive crossing) one = is_named one crossing.woken
+leaves (Depart crossing) one = is_named one crossing.woken
 leaves (Call call) one = ends_wait call one
 
 -- a process of the caller's partition that the call doesn't wake or stop, and that isn't the caller
@@ -183,6 +192,15 @@ called_waits configuration cores partition place now core call ready number x wa
     let named = not_named call (record { part = call.who.part; proc = number }) stays in
     let stopped = not_stopped call (record { part = call.who.part; proc = number }) stays in
     rw (other, stopped, named) (adjusted_waits configuration cores partition place (period_of configuration call.who.part) core call ready number x wanted at alive waits)
+
+-- a process that a record of others doesn't name
+woken_waits : (place : ℕ) (message : List ℕ) (woken : List Who) (table : Table) (who : Who) (wanted : WaitingSet) → is_named who woken ≡ false
+    → waits_at wanted (item_at table who.proc) ≡ true → waits_at wanted (item_at (woken_table place who.part message woken table) who.proc) ≡ true
+woken_waits place message woken table who wanted named waits =
+    let old = waits_exists wanted (item_at table who.proc) waits in
+    let change : ℕ → Process → Process = λ number process. woken_if_named place message woken (record { part = who.part; proc = number }) process in
+    goes_on wanted (item_at (each_item change table) who.proc) (change who.proc old.process) (turns_each change table who.proc old.process old.is_member)
+    (rw named old.alive) (rw named old.waits)
 
 -- a process goes on waiting at a record that doesn't end its wait
 pub keeps_waiting : (configuration : Configuration) (cores : List CoreState) (place core : ℕ) (body : Body) (partition : Partition) (who : Who) (wanted : WaitingSet)
@@ -215,10 +233,10 @@ keeps_waiting configuration cores place core (Call call) partition who wanted re
     let more = created_by (first_core configuration call.who.part) call call.request in
     rw (own, not_restarted call who (sym here) stays) (goes_on wanted (item_at (each_item change table ++ more) who.proc) (change who.proc old.process)
     (found_changed change table more who.proc old.process old.is_member) new.0 new.1)))
-    (λ foreign. (let change : ℕ → Process → Process = λ number process. woken_if_named place call (record { part = who.part; proc = number }) process in
-    let named : is_named who call.claim.woken ≡ false = not_named call who stays in
-    rw foreign (goes_on wanted (item_at (each_item change table) who.proc) (change who.proc old.process) (turns_each change table who.proc old.process old.is_member)
-    (rw named old.alive) (rw named old.waits))))
+    (λ foreign. rw foreign (woken_waits place (message_of call.request) call.claim.woken table who wanted (not_named call who stays) waits))
+keeps_waiting configuration cores place core (Arrive crossing) partition who wanted ready stays waits =
+    woken_waits place crossing.message crossing.woken partition.table who wanted stays waits
+keeps_waiting configuration cores place core (Depart crossing) partition who wanted ready stays waits = woken_waits place [] crossing.woken partition.table who wanted stays waits
 
 -- a caller that waits
 
@@ -273,6 +291,8 @@ pub each_entry : (Fact Then : Entry → Type 0) (place : ℕ) (body : Body) (wan
 each_entry Fact Then place (Disp who) wanted stays entering entries all = all_weaker Fact Then (λ entry is. stays entry refl is) entries all
 each_entry Fact Then place (Ret ret) wanted stays entering entries all = all_weaker Fact Then (λ entry is. stays entry refl is) entries all
 each_entry Fact Then place (Tick woken) wanted stays entering entries all = all_without Fact Then (λ who. is_named who woken) stays entries all
+each_entry Fact Then place (Arrive crossing) wanted stays entering entries all = all_without Fact Then (λ who. is_named who crossing.woken) stays entries all
+each_entry Fact Then place (Depart crossing) wanted stays entering entries all = all_without Fact Then (λ who. is_named who crossing.woken) stays entries all
 each_entry Fact Then place (Call call) wanted stays entering entries all =
     let rest : AllEntries Then (without (ends_wait call) entries) = all_without Fact Then (ends_wait call) stays entries all in
     by_test (AllEntries Then) (enters call wanted) (without (ends_wait call) entries ++ entry_of place call ∷ []) (without (ends_wait call) entries)
@@ -302,12 +322,14 @@ pub used_sets : (Holds : List Entry → Type 0) (configuration : Configuration) 
 used_sets Holds configuration call partition wanted has =
     done_case (λ next. Holds (entries_at next wanted)) configuration call partition (λ done. objects_have Holds configuration call.who call.claim.val call.request partition wanted has) has
 
--- a call of another partition
+-- a call of another partition, an arrival or a departure
 abbrev pub IsElsewhere : ℕ → Body → Type 0
 IsElsewhere number (Call call) = nat_eq call.who.part number ≡ false
+IsElsewhere number (Arrive crossing) = Unit {0}
+IsElsewhere number (Depart crossing) = Unit {0}
 IsElsewhere number _ = ⊥
 
--- a set of a partition after a record, by the set before it: a call of another partition leaves it
+-- a set of a partition after a record, by the set before it: a call of another partition leaves it, and so do an arrival and a departure
 pub one_set_after : (Before After : List Entry → Type 0) (configuration : Configuration) (cores : List CoreState) (place core number : ℕ) (body : Body) (partition : Partition) (wanted : WaitingSet)
     → After [] → ((IsElsewhere number body → ⊥) → (entries : List Entry) → Before entries → After (set_after place body wanted entries))
     → (IsElsewhere number body → Before (entries_at partition wanted) → After (entries_at partition wanted))
@@ -326,8 +348,12 @@ one_set_after Before After configuration cores place core number (Call call) par
     (λ own none. subst After (sym (called_sets configuration cores place core call partition wanted))
     (each_set_has After nobody (set_after place (Call call)) objects wanted
     (change (λ elsewhere. true≢false (sym own ∙ elsewhere)) (entries_at objects wanted) (used_sets Before configuration call partition wanted before))))
-    (λ own mode is. subst After (sym (start_set mode configuration call.who.part place wanted)) nobody)
-    (λ elsewhere. subst After (sym (same_sets partition (woken_if_named_table place call number partition.table) wanted)) (foreign elsewhere before))
+    (λ own mode is. subst After (sym (start_set StartCondition.PartitionRestart mode configuration call.who.part place wanted)) nobody)
+    (λ elsewhere. subst After (sym (same_sets partition (woken_table place number (message_of call.request) call.claim.woken partition.table) wanted)) (foreign elsewhere before))
+one_set_after Before After configuration cores place core number (Arrive crossing) partition wanted nobody change foreign before =
+    subst After (sym (same_sets partition (woken_table place number crossing.message crossing.woken partition.table) wanted)) (foreign tt before)
+one_set_after Before After configuration cores place core number (Depart crossing) partition wanted nobody change foreign before =
+    subst After (sym (same_sets partition (woken_table place number [] crossing.woken partition.table) wanted)) (foreign tt before)
 
 -- The numbers of each table stay distinct.
 
@@ -374,32 +400,34 @@ distinct_alone : (change : ℕ → Process → Process) (table : Table) → are_
 distinct_alone change table distinct = ap are_distinct (append-nil (each_item change table)) ∙ distinct_each change table ∙ distinct
 
 -- a call that is done and goes through no channel claims the value of its service
-abbrev pub ClaimsValue : Partition → ℕ → CallRecord → Request → Type 0
-ClaimsValue partition now call asked = is_done call.claim.out ≡ true → channel_of partition asked ≡ None → HasValue (answer_of now call.who partition asked).val call.claim.val
+abbrev pub ClaimsValue : Partition → List CoreState → ℕ → CallRecord → Request → Type 0
+ClaimsValue partition cores core call asked = is_done call.claim.out ≡ true → channel_of partition asked ≡ None → HasValue (answer_of cores core call.who partition asked).val call.claim.val
 
 -- the table of the caller's partition
-distinct_called : (partition : Partition) (now core : ℕ) (call : CallRecord) (asked : Request) (change : ℕ → Process → Process) → ClaimsValue partition now call asked
-    → are_distinct partition.table ≡ true → are_distinct (each_item change partition.table ++ created_by core call asked) ≡ true
-distinct_called partition now core call (Request.CreateProcess name priority period) change claims distinct =
-    by_test (λ more. are_distinct (each_item change partition.table ++ more) ≡ true) (is_done call.claim.out) (numbered call.claim.val (new_process core name priority period)) []
-    (λ done. distinct_numbered change partition.table call.claim.val (new_process core name priority period) distinct (claims done refl)) (λ not_done. distinct_alone change partition.table distinct)
-distinct_called partition now core call _ change claims distinct = distinct_alone change partition.table distinct
+distinct_called : (partition : Partition) (cores : List CoreState) (core first : ℕ) (call : CallRecord) (asked : Request) (change : ℕ → Process → Process) → ClaimsValue partition cores core call asked
+    → are_distinct partition.table ≡ true → are_distinct (each_item change partition.table ++ created_by first call asked) ≡ true
+distinct_called partition cores core first call (Request.CreateProcess name priority period time_capacity) change claims distinct =
+    by_test (λ more. are_distinct (each_item change partition.table ++ more) ≡ true) (is_done call.claim.out) (numbered call.claim.val (new_process first name priority period time_capacity)) []
+    (λ done. distinct_numbered change partition.table call.claim.val (new_process first name priority period time_capacity) distinct (claims done refl)) (λ not_done. distinct_alone change partition.table distinct)
+distinct_called partition cores core first call _ change claims distinct = distinct_alone change partition.table distinct
 
 -- a record's own calls claim their values
-abbrev pub CallsClaimValues : ℕ → ℕ → Body → Partition → Type 0
-CallsClaimValues number now (Call call) partition = nat_eq call.who.part number ≡ true → ClaimsValue partition now call call.request
-CallsClaimValues number now _ partition = Unit {0}
+abbrev pub CallsClaimValues : ℕ → List CoreState → ℕ → Body → Partition → Type 0
+CallsClaimValues number cores core (Call call) partition = nat_eq call.who.part number ≡ true → ClaimsValue partition cores core call call.request
+CallsClaimValues number cores core _ partition = Unit {0}
 
 -- the table of a partition after a record
-pub distinct_by : (configuration : Configuration) (cores : List CoreState) (place core number : ℕ) (body : Body) (partition : Partition) → CallsClaimValues number (time_of cores core) body partition
+pub distinct_by : (configuration : Configuration) (cores : List CoreState) (place core number : ℕ) (body : Body) (partition : Partition) → CallsClaimValues number cores core body partition
     → are_distinct partition.table ≡ true → are_distinct (partition_by configuration cores place core number body partition).table ≡ true
 distinct_by configuration cores place core number (Disp who) partition claims distinct = distinct
 distinct_by configuration cores place core number (Tick woken) partition claims distinct = distinct_each (ticked place number woken) partition.table ∙ distinct
 distinct_by configuration cores place core number (Ret ret) partition claims distinct =
     return_case (λ next. are_distinct next.table ≡ true) configuration cores place core number ret partition (distinct_each (returned ret.who.proc) partition.table ∙ distinct) distinct
+distinct_by configuration cores place core number (Arrive crossing) partition claims distinct = distinct_each _ partition.table ∙ distinct
+distinct_by configuration cores place core number (Depart crossing) partition claims distinct = distinct_each _ partition.table ∙ distinct
 distinct_by configuration cores place core number (Call call) partition claims distinct =
     call_case (λ next. are_distinct next.table ≡ true) configuration cores place core number call partition
-    (λ own none. distinct_called partition (time_of cores core) (first_core configuration call.who.part) call call.request
+    (λ own none. distinct_called partition cores core (first_core configuration call.who.part) call call.request
     (called place (time_of cores core) (period_of configuration call.who.part) cores partition call) (claims own) distinct)
     (λ own mode is. start_distinct mode (first_core configuration call.who.part) place)
     (λ elsewhere. distinct_each _ partition.table ∙ distinct)
@@ -413,13 +441,13 @@ answered (condition ∷ conditions) channel answer suited through claim none off
 
 -- a lawful call claims the value of its service
 lawful_value : (configuration : Configuration) (state : State) (core : ℕ) (call : CallRecord) → IsLawfulCall configuration state core call
-    → ClaimsValue (state.partitions call.who.part) (time_of state.cores core) call call.request
+    → ClaimsValue (state.partitions call.who.part) state.cores core call call.request
 lawful_value configuration state core call law done off =
     (answered _ _ _ _ _ call.claim (done_is_lawful _ _ _ _ _ call.claim law.outcome done) off law.outcome).values.val
 
 pub lawful_values : (configuration : Configuration) (state : State) (core : ℕ) (body : Body) → IsLawfulBody configuration state core body
-    → (number : ℕ) → CallsClaimValues number (time_of state.cores core) body (state.partitions number)
+    → (number : ℕ) → CallsClaimValues number state.cores core body (state.partitions number)
 lawful_values configuration state core (Call call) law number =
-    λ own. subst (λ part. ClaimsValue (state.partitions part) (time_of state.cores core) call call.request) (eqb-true call.who.part number own)
+    λ own. subst (λ part. ClaimsValue (state.partitions part) state.cores core call call.request) (eqb-true call.who.part number own)
     (lawful_value configuration state core call law)
 lawful_values configuration state core _ law number = tt

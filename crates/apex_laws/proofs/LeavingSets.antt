@@ -28,7 +28,7 @@ due_leave number place partition woken sound wanted none =
 -- other records
 
 pub foreign_calls_leave_sets : ForeignCallsLeaveSets
-foreign_calls_leave_sets configuration cores place core number partition = (called, given_back, λ who. refl)
+foreign_calls_leave_sets configuration cores place core number partition = (called, λ crossing. refl, λ crossing. refl, given_back, λ who. refl)
   where
     called : (call : CallRecord) → ¬ (call.who.part ≡ number) → OnlyProcessesChange partition (partition_by configuration cores place core number (Call call) partition)
     called call elsewhere =
@@ -99,7 +99,7 @@ stopped_leaves configuration number place core cores partition call is process a
     let who = peer call.who process in
     let at = created_is partition.table process target found in
     let own = subst (λ one. AllHold (outcome_demands (conditions_of configuration call.who partition one) (channel_of partition one) number one
-    (answer_of (time_of cores core) call.who partition one) call.claim)) asked is.demands.1.1.1.1.1 in
+    (answer_of cores core call.who partition one) call.claim)) asked is.demands.1.1.1.1.1 in
     let ends : (other : Who) → ends_wait call other ≡ is_same other who =
     λ other. stop_ends call process at.0 other at.1 asked no_error (stop_names (conditions_of configuration call.who partition (Request.Process process ProcessOperation.Stop)) number (Request.Process process ProcessOperation.Stop) call.claim own other) in
     let becomes : (wanted : WaitingSet) → change wanted (entries_at partition wanted) ≡ without_one who (entries_at partition wanted) =

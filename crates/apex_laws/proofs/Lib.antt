@@ -21,6 +21,8 @@ pub mod ObjectRules
 pub mod ProcessRules
 pub mod Records
 pub mod WholeCalls
+pub mod ChannelContents
+pub mod Crossings
 pub mod ObjectCalls
 pub mod Exact
 pub mod Joins

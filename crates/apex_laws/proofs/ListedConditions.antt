@@ -9,6 +9,8 @@ use Rattle.apex_laws.proofs.Common.{IsProcess, IsSetUp, LONGEST_MESSAGE, MayNotW
 use Rattle.apex_laws.proofs.Common.{QueuingOperation, Request, SamplingOperation, SemaphoreOperation, WaitsFor, Who, code_of, conditions_for, conditions_of, created, created_count, creation_conditions, destination_conditions, given_object}
 use Rattle.apex_laws.proofs.Common.{is_longer, is_normal, item_at, kind_of, may_not_wait, message_conditions, name_in, object_conditions, objects_of, of_caller, parameter_conditions, period_of, process_limit, source_conditions}
 use Rattle.apex_laws.proofs.Common.{start_conditions, time_out_conditions, waiting_conditions, when}
+use Rattle.apex_laws.proofs.Common.{LONGEST_REPORT, conditions_if}
+use Rattle.apex_laws.proofs.ConditionTests.{above_period_tells, reaches_tells, unowned_tells}
 use Rattle.apex_laws.proofs.Booleans.{impossible, member_first, member_later}
 use Rattle.apex_laws.proofs.ConditionTests.{at_most_tells, below_tells, between_tells, caller_tells, cold_start_tells, core_tells, created_by, created_is, destination_tells, equal_tells, fails_tells, full_tells, longer_tells}
 use Rattle.apex_laws.proofs.ConditionTests.{may_not_wait_tells, member_cases, member_nowhere, mode_tells, named_tells, negative_tells, no_length_tells, no_multiple_tells, no_object_by, no_object_is, no_period_tells, no_process_by, no_process_is}
@@ -52,6 +54,12 @@ each_created : {Object : Type 0} {Goal : Condition → Type 0} (found : Option O
 each_created None conditions nobody some = alone (nobody refl)
 each_created (Some object) conditions nobody some = some object refl
 
+-- the conditions of what is created alone
+each_if : {Object : Type 0} {Goal : Condition → Type 0} (found : Option Object) (conditions : Object → List Condition)
+    → ((object : Object) → found ≡ Some object → Each (conditions object) Goal) → Each (conditions_if found conditions) Goal
+each_if None conditions some = none
+each_if (Some object) conditions some = some object refl
+
 each_of_start : {Goal : Condition → Type 0} (found : Option Process) → (found ≡ None → Goal Condition.NotCreated)
     → ((process : Process) → found ≡ Some process → IsTrue process.alive → Goal Condition.AlreadyStarted) → Each (start_conditions found) Goal
 each_of_start None nobody alive = alone (nobody refl)
@@ -89,6 +97,10 @@ in_none found conditions nobody = subst (λ one. Among (conditions_for one condi
 in_some : {Object : Type 0} {one : Condition} (found : Option Object) (conditions : Object → List Condition) (object : Object) → found ≡ Some object
     → Among (conditions object) one → Among (conditions_for found conditions) one
 in_some {one = one} found conditions object at is = subst (λ some. Among (conditions_for some conditions) one) (sym at) is
+
+in_if : {Object : Type 0} {one : Condition} (found : Option Object) (conditions : Object → List Condition) (object : Object) → found ≡ Some object
+    → Among (conditions object) one → Among (conditions_if found conditions) one
+in_if {one = one} found conditions object at is = subst (λ some. Among (conditions_if some conditions) one) (sym at) is
 
 module _ (configuration : Configuration) (who : Who) (partition : Partition) where
   -- a caller of a current priority above a mutex's
@@ -188,18 +200,28 @@ module _ (configuration : Configuration) (who : Who) (partition : Partition) whe
 
   -- each condition that is listed for a call holds
   says : (asked : Request) → Each (conditions_of configuration who partition asked) (Holds asked)
-  says (Request.CreateProcess name priority period) =
-      both (both (both
+  says (Request.CreateProcess name priority period time_capacity) =
+      both (both (both (both (both
       (creation_says _ _ tt (named_tells (λ (process : Process). process.name) name partition.table).0 (at_most_tells (process_limit configuration who.part) (created_count partition.table)).0)
       (unless_fact _ (priority_tells priority) HasCondition.create_process_priority))
       (if_fact _ (no_period_tells period) (λ facts. HasCondition.create_process_period facts.0 facts.1)))
-      (if_fact _ (no_multiple_tells (period_of configuration who.part) period) (λ facts. HasCondition.create_process_multiple facts.0 facts.1))
+      (if_fact _ (no_multiple_tells (period_of configuration who.part) period) (λ facts. HasCondition.create_process_multiple facts.0 facts.1)))
+      (if_fact _ (no_period_tells time_capacity) (λ facts. HasCondition.create_process_capacity facts.0 facts.1)))
+      (if_fact _ (above_period_tells period time_capacity) (λ facts. HasCondition.create_process_above facts.0 facts.1))
   says (Request.Process process (ProcessOperation.InitializeCoreAffinity core)) =
       both (both (if_fact _ (none_tells (created partition.table process)) (λ nobody. HasCondition.names_nothing (no_process_is partition process nobody))) (normal_says tt))
       (unless_fact _ (core_tells configuration who.part core) HasCondition.affinity_core)
   says (Request.Process process ProcessOperation.Start) =
       each_of_start (created partition.table process) (λ nobody. HasCondition.names_nothing (no_process_is partition process nobody))
       (λ found at. HasCondition.start_alive found (created_is partition process found at))
+  says (Request.Process process (ProcessOperation.DelayedStart delay)) =
+      both (both (each_of_start (created partition.table process) (λ nobody. HasCondition.names_nothing (no_process_is partition process nobody))
+      (λ found at. HasCondition.delayed_start_alive found (created_is partition process found at)))
+      (if_fact _ (negative_tells delay) HasCondition.delayed_start_delay))
+      (each_if (created partition.table process) _
+      (λ found at. if_fact _ (reaches_tells delay found) (λ facts. HasCondition.delayed_start_period found facts.0 (created_is partition process found at) facts.1 facts.2)))
+  says (Request.Process process ProcessOperation.GetStatus) = process_says process _ (λ names. names) (λ found is. none)
+  says (Request.Process process ProcessOperation.GetMutexState) = process_says process _ (λ names. names) (λ found is. none)
   says (Request.Process process ProcessOperation.Stop) =
       both (process_says process _ (λ names. names) (λ found is. if_fact _ (fails_tells found.alive) (HasCondition.stop_dormant found is)))
       (if_fact _ (number_tells process who.proc) HasCondition.stop_itself)
@@ -226,6 +248,9 @@ module _ (configuration : Configuration) (who : Who) (partition : Partition) whe
   says (Request.Caller CallerOperation.PeriodicWait) =
       both (unless_fact _ (periodic_caller_tells who partition) HasCondition.periodic_wait_aperiodic) (if_fact _ (may_not_wait_tells who partition) HasCondition.periodic_wait_waits)
   says (Request.Caller CallerOperation.GetTime) = none
+  says (Request.Caller CallerOperation.GetPartitionStatus) = none
+  says (Request.ReportMessage length message) = unless_fact _ (between_tells 0 LONGEST_REPORT length) HasCondition.report_length
+  says Request.CreateErrorHandler = both (normal_says tt) (each_when partition.has_handler _ HasCondition.handler_created)
   says (Request.SetPartitionMode next) =
       both (both (unless_fact _ (mode_tells next) HasCondition.set_mode_none)
       (if_fact _ (tells_both (normal_mode_tells next) (normal_tells partition.mode)) (λ facts. HasCondition.set_mode_normal facts.0 facts.1)))
@@ -253,6 +278,11 @@ module _ (configuration : Configuration) (who : Who) (partition : Partition) whe
       (if_fact _ (second_tells partition mutex who.proc) (λ facts. HasCondition.acquire_second facts.0 facts.1 facts.2))
   says (Request.Object mutex (on.Mutex MutexOperation.Release)) =
       object_says partition.mutexes mutex _ (λ names. names) (λ found is. unless_fact _ (owner_tells found.owner who.proc) (HasCondition.release_not_owner found is))
+  says (Request.Object mutex (on.Mutex (MutexOperation.Reset process))) =
+      both (both (lone_says partition.mutexes mutex (λ names. names))
+      (if_fact _ (none_tells (created partition.table process)) (λ nobody. HasCondition.reset_no_process (no_process_is partition process nobody))))
+      (each_if (given_object partition.mutexes mutex) _
+      (λ found at. if_fact _ (unowned_tells partition process found) (λ facts. HasCondition.reset_not_owner found facts.0 facts.1 (object_is partition.mutexes mutex found at) facts.2)))
   says (Request.SamplingPort port (SamplingOperation.Write length message)) =
       source_says partition.sampling_ports port length (λ names. names) HasCondition.write_empty HasCondition.write_long HasCondition.write_no_source
   says (Request.SamplingPort port SamplingOperation.Read) = destination_says partition.sampling_ports port (λ names. names) HasCondition.read_no_destination
@@ -261,6 +291,7 @@ module _ (configuration : Configuration) (who : Who) (partition : Partition) whe
       (waiting_says time_out refl)
   says (Request.QueuingPort port (QueuingOperation.Receive time_out)) =
       both (both (destination_says partition.queuing_ports port (λ names. names) HasCondition.receive_no_destination) (time_out_says time_out refl)) (waiting_says time_out refl)
+  says (Request.QueuingPort port QueuingOperation.Clear) = destination_says partition.queuing_ports port (λ names. names) HasCondition.clear_no_destination
   says (Request.GetId of name) = if_fact _ (unnamed_tells partition of name) HasCondition.get_id_unnamed
   says (Request.GetStatus of object) = lone_says (objects_of partition of) object (λ names. names)
 
@@ -289,6 +320,10 @@ module _ (configuration : Configuration) (who : Who) (partition : Partition) whe
   nothing_met (Request.Process process (ProcessOperation.InitializeCoreAffinity core)) names =
       in_first _ (in_first _ (by_fact (none_tells (created partition.table process)) (no_process_by partition process names)))
   nothing_met (Request.Process process ProcessOperation.Start) names = rw (no_process_by partition process names) it_alone
+  nothing_met (Request.Process process (ProcessOperation.DelayedStart delay)) names =
+      in_first _ (in_first _ (subst (λ one. Among (start_conditions one) Condition.NotCreated) (sym (no_process_by partition process names)) it_alone))
+  nothing_met (Request.Process process ProcessOperation.GetStatus) names = no_process process _ names
+  nothing_met (Request.Process process ProcessOperation.GetMutexState) names = no_process process _ names
   nothing_met (Request.Process process ProcessOperation.Stop) names = in_first _ (no_process process _ names)
   nothing_met (Request.Process process ProcessOperation.Suspend) names = in_first _ (no_process process _ names)
   nothing_met (Request.Process process ProcessOperation.Resume) names = in_first _ (no_process process _ names)
@@ -306,10 +341,12 @@ module _ (configuration : Configuration) (who : Who) (partition : Partition) whe
   nothing_met (Request.Object event (on.Event (EventOperation.Wait time_out))) names = no_use partition.events event time_out names
   nothing_met (Request.Object mutex (on.Mutex (MutexOperation.Acquire time_out))) names = in_first _ (in_first _ (in_first _ (no_object partition.mutexes mutex _ names)))
   nothing_met (Request.Object mutex (on.Mutex MutexOperation.Release)) names = no_object partition.mutexes mutex _ names
+  nothing_met (Request.Object mutex (on.Mutex (MutexOperation.Reset process))) names = in_first _ (in_first _ (no_object partition.mutexes mutex _ names))
   nothing_met (Request.SamplingPort port (SamplingOperation.Write length message)) names = in_first _ (no_object partition.sampling_ports port _ names)
   nothing_met (Request.SamplingPort port SamplingOperation.Read) names = no_object partition.sampling_ports port _ names
   nothing_met (Request.QueuingPort port (QueuingOperation.Send length time_out message)) names = in_first _ (in_first _ (in_first _ (no_object partition.queuing_ports port _ names)))
   nothing_met (Request.QueuingPort port (QueuingOperation.Receive time_out)) names = in_first _ (in_first _ (no_object partition.queuing_ports port _ names))
+  nothing_met (Request.QueuingPort port QueuingOperation.Clear) names = no_object partition.queuing_ports port _ names
   nothing_met (Request.GetStatus of object) names = no_object (objects_of partition of) object _ names
   nothing_met _ names = absurd names
 
@@ -349,22 +386,24 @@ module _ (configuration : Configuration) (who : Who) (partition : Partition) whe
   -- creations
 
   normal_met : (asked : Request) → IsSetUp asked → partition.mode ≡ Mode.Normal → Has asked Condition.InNormal
-  normal_met (Request.CreateProcess name priority period) sets normal = in_first _ (in_first _ (in_first _ (in_first _ (in_first _ (by_fact (normal_tells partition.mode) normal)))))
+  normal_met (Request.CreateProcess name priority period time_capacity) sets normal =
+      in_first _ (in_first _ (in_first _ (in_first _ (in_first _ (in_first _ (in_first _ (by_fact (normal_tells partition.mode) normal)))))))
+  normal_met Request.CreateErrorHandler sets normal = in_first _ (by_fact (normal_tells partition.mode) normal)
   normal_met (Request.Process process (ProcessOperation.InitializeCoreAffinity core)) sets normal = in_first _ (in_later _ (by_fact (normal_tells partition.mode) normal))
   normal_met (Request.Create name object) sets normal = in_first _ (in_first _ (in_first _ (by_fact (normal_tells partition.mode) normal)))
   normal_met _ sets normal = absurd sets
 
   taken_met : (asked : Request) → NameIsTaken partition asked → Has asked Condition.NameTaken
-  taken_met (Request.CreateProcess name priority period) named =
-      in_first _ (in_first _ (in_first _ (in_first _ (in_later _ (by_fact (named_tells (λ (process : Process). process.name) name partition.table) named)))))
+  taken_met (Request.CreateProcess name priority period time_capacity) named =
+      in_first _ (in_first _ (in_first _ (in_first _ (in_first _ (in_first _ (in_later _ (by_fact (named_tells (λ (process : Process). process.name) name partition.table) named)))))))
   taken_met (Request.Create name object) named =
       let of = kind_of object in
       in_first _ (in_first _ (in_later _ (by_fact (named_tells (name_in of) name (objects_of partition of)) named)))
   taken_met _ named = absurd named
 
   all_met : (asked : Request) → AllAreCreated configuration who.part partition asked → Has asked Condition.AllCreated
-  all_met (Request.CreateProcess name priority period) all =
-      in_first _ (in_first _ (in_first _ (in_later _ (by_fact (at_most_tells (process_limit configuration who.part) (created_count partition.table)) all))))
+  all_met (Request.CreateProcess name priority period time_capacity) all =
+      in_first _ (in_first _ (in_first _ (in_first _ (in_first _ (in_later _ (by_fact (at_most_tells (process_limit configuration who.part) (created_count partition.table)) all))))))
   all_met (Request.Create name object) all = in_first _ (in_later _ (by_fact (full_tells configuration who.part partition (kind_of object)) all))
   all_met _ all = absurd all
 
@@ -403,11 +442,19 @@ module _ (configuration : Configuration) (who : Who) (partition : Partition) whe
   met (HasCondition.in_normal {asked = asked} sets normal) = normal_met asked sets normal
   met (HasCondition.name_taken {asked = asked} named) = taken_met asked named
   met (HasCondition.all_created {asked = asked} all) = all_met asked all
-  met (HasCondition.create_process_priority {priority = priority} other) = in_first _ (in_first _ (in_later _ (by_no_fact (priority_tells priority) other)))
-  met (HasCondition.create_process_period {period = period} other most) = in_first _ (in_later _ (by_fact (no_period_tells period) (other, most)))
-  met (HasCondition.create_process_multiple {period = period} above other) = in_later _ (by_fact (no_multiple_tells (period_of configuration who.part) period) (above, other))
+  met (HasCondition.create_process_priority {priority = priority} other) = in_first _ (in_first _ (in_first _ (in_first _ (in_later _ (by_no_fact (priority_tells priority) other)))))
+  met (HasCondition.create_process_period {period = period} other most) = in_first _ (in_first _ (in_first _ (in_later _ (by_fact (no_period_tells period) (other, most)))))
+  met (HasCondition.create_process_multiple {period = period} above other) =
+      in_first _ (in_first _ (in_later _ (by_fact (no_multiple_tells (period_of configuration who.part) period) (above, other))))
+  met (HasCondition.create_process_capacity {time_capacity = time_capacity} other most) = in_first _ (in_later _ (by_fact (no_period_tells time_capacity) (other, most)))
+  met (HasCondition.create_process_above {period = period} {time_capacity = time_capacity} above longer) = in_later _ (by_fact (above_period_tells period time_capacity) (above, longer))
   met (HasCondition.affinity_core {core = core} other) = in_later _ (by_no_fact (core_tells configuration who.part core) other)
   met (HasCondition.start_alive {process = process} found is alive) = rw (created_by partition process found is) (in_when found.alive alive)
+  met (HasCondition.delayed_start_alive {process = process} found is alive) =
+      in_first _ (in_first _ (subst (λ one. Among (start_conditions one) Condition.AlreadyStarted) (sym (created_by partition process found is)) (in_when found.alive alive)))
+  met (HasCondition.delayed_start_delay {delay = delay} under) = in_first _ (in_later _ (by_fact (negative_tells delay) under))
+  met (HasCondition.delayed_start_period {process = process} {delay = delay} found period is at reaches) =
+      in_later _ (in_if (created partition.table process) _ found (created_by partition process found is) (by_fact (reaches_tells delay found) (period, at, reaches)))
   met (HasCondition.stop_itself {process = process} same) = in_later _ (by_fact (number_tells process who.proc) same)
   met (HasCondition.stop_dormant {process = process} found is dormant) = in_first _ (process_met process _ found is (by_fact (fails_tells found.alive) dormant))
   met (HasCondition.suspend_itself {process = process} same) = in_later _ (by_fact (number_tells process who.proc) same)
@@ -450,6 +497,9 @@ module _ (configuration : Configuration) (who : Who) (partition : Partition) whe
   met (HasCondition.acquire_above {mutex = mutex} found process is calls above) =
       in_first _ (in_first _ (in_first _ (object_met partition.mutexes mutex _ found is (by_fact (above_tells found.priority) (process, calls, above)))))
   met (HasCondition.release_not_owner {mutex = mutex} found is other) = object_met partition.mutexes mutex _ found is (by_no_fact (owner_tells found.owner who.proc) other)
+  met (HasCondition.reset_no_process {process = process} names) = in_first _ (in_later _ (by_fact (none_tells (created partition.table process)) (no_process_by partition process names)))
+  met (HasCondition.reset_not_owner {mutex = mutex} {process = process} found named is there other) =
+      in_later _ (in_if (given_object partition.mutexes mutex) _ found (object_by partition.mutexes mutex found there) (by_fact (unowned_tells partition process found) (named, is, other)))
   met (HasCondition.create_sampling_port {name = name} {size = size} {way = way} {refresh = refresh} other) =
       in_later _ (by_no_fact (sampling_port_tells configuration who.part name size way refresh) other)
   met (HasCondition.create_queuing_port {name = name} {size = size} {capacity = capacity} {way = way} {order = order} other) =
@@ -462,6 +512,9 @@ module _ (configuration : Configuration) (who : Who) (partition : Partition) whe
   met (HasCondition.send_long {port = port} {length = length} found is long) = in_first _ (in_first _ (too_long_met partition.queuing_ports port length found is long))
   met (HasCondition.send_no_source {port = port} {length = length} found is other) = in_first _ (in_first _ (no_source_met partition.queuing_ports port length found is other))
   met (HasCondition.receive_no_destination {port = port} found is other) = in_first _ (in_first _ (no_destination_met partition.queuing_ports port found is other))
+  met (HasCondition.clear_no_destination {port = port} found is other) = no_destination_met partition.queuing_ports port found is other
+  met (HasCondition.report_length {length = length} other) = by_no_fact (between_tells 0 LONGEST_REPORT length) other
+  met (HasCondition.handler_created holds) = in_later _ (in_when partition.has_handler holds)
   met (HasCondition.get_id_unnamed {of = of} {name = name} other) = by_fact (unnamed_tells partition of name) other
 
 -- so a condition is among those of a call exactly if it holds

@@ -1,15 +1,15 @@
 -- Processes and objects by their numbers: what is found under a number, and which numbers are new.
-use Rattle.std.proofs.Common.{◌≡◌, ℕ, ◌<◌, ◌≤◌, ℤ, pos, negsuc, List, [], ◌∷◌, Option, Some, None, Bool, nat_eq, is_none, refl, sym, ap, subst, ◌∙◌, inl, inr, true≢false}
+use Rattle.std.proofs.Common.{◌≡◌, ℕ, ◌<◌, ◌≤◌, ℤ, pos, negsuc, List, [], ◌∷◌, Option, Some, None, Bool, true, false, nat_eq, is_none, refl, sym, ap, subst, ◌∙◌, inl, inr, true≢false}
 use Rattle.std.proofs.lemmas.Bool.{eqb-true}
 use Rattle.std.proofs.lemmas.List.Elements.{All-contains}
 use Rattle.std.proofs.lemmas.Slice.Eq.{bytes_eq-Decides}
 use Rattle.std.specs.Prelude.{Contains}
 use Rattle.std.specs.Str.{bytes_eq}
-use Rattle.apex_laws.specs.NumberLaws.{AreFound, AreFoundByName, AreNew, IsNewNumber, NamesAreFound, NewNumberIsTheSentence, ObjectsAreFound, ProcessesAreFound}
-use Rattle.apex_laws.proofs.Common.{Blackboard, Buffer, Event, GREATEST_NUMBER, Mutex, Port, Semaphore, is_free, is_new, item_at, number_named}
-use Rattle.apex_laws.proofs.Booleans.{either_way, impossible, is_itself, member_first, member_later, never_found, one_item}
+use Rattle.apex_laws.specs.NumberLaws.{AreFound, AreFoundByName, AreNew, IsNewNumber, NamesAreFound, NewNumberIsTheSentence, ObjectsAreFound, OwnedIsFound, ProcessesAreFound}
+use Rattle.apex_laws.proofs.Common.{Blackboard, Buffer, Event, GREATEST_NUMBER, Mutex, Port, Process, Semaphore, is_free, is_new, is_owner, item_at, mutex_owned, number_named}
+use Rattle.apex_laws.proofs.Booleans.{by_test, cannot_hold, either_way, impossible, is_itself, member_first, member_later, never_found, one_item}
 use Rattle.apex_laws.proofs.Choices.{at_its_number}
-use Rattle.apex_laws.proofs.ConditionTests.{at_most_tells, below_tells, member_cases, member_nowhere, nobody, none_tells, nothing_named_tells, Tells, tells_both}
+use Rattle.apex_laws.proofs.ConditionTests.{at_most_tells, below_tells, member_cases, member_nowhere, nobody, none_tells, nothing_named_tells, owner_tells, Tells, tells_both}
 
 -- what is found is in the list under its number
 found_object : {Object : Type 0} → (objects : List (ℕ × Object)) (number : ℕ) (object : Object) → item_at objects number ≡ Some object → Contains objects (number, object)
@@ -65,6 +65,7 @@ found_by_name name_of objects name = (
 
 pub names_are_found : NamesAreFound
 names_are_found = record {
+  processes = found_by_name (λ (process : Process). process.name);
   buffers = found_by_name (λ (buffer : Buffer). buffer.name);
   blackboards = found_by_name (λ (blackboard : Blackboard). blackboard.name);
   semaphores = found_by_name (λ (semaphore : Semaphore). semaphore.name);
@@ -117,3 +118,47 @@ new_number_is_the_sentence = record {
   mutexes = are_new Mutex;
   ports = are_new Port;
 }
+
+-- the mutex that a process owns
+
+owned_is : (process : ℕ) (mutexes : List (ℕ × Mutex)) (number : ℕ) → mutex_owned mutexes process ≡ pos number → (mutex : Mutex) × Contains mutexes (number, mutex) × (mutex.owner ≡ Some process)
+owned_is process [] number is = let no : ◌≡◌ {A = ℤ} (negsuc 1) (pos number) = is in cc
+owned_is process (entry ∷ entries) number is =
+    by_test (λ told. told ≡ pos number → (mutex : Mutex) × Contains (entry ∷ entries) (number, mutex) × (mutex.owner ≡ Some process))
+    (is_owner entry.1.owner process) (pos entry.0) (mutex_owned entries process)
+    (λ owns is. (let same : entry.0 ≡ number = (let one : ◌≡◌ {A = ℤ} (pos entry.0) (pos number) = is in cc) in
+    (entry.1, subst (λ one. Contains (entry ∷ entries) (one, entry.1)) same (member_first entry entries), (owner_tells entry.1.owner process).0 owns)))
+    (λ other is. (let later = owned_is process entries number is in (later.0, member_later entry (number, later.0) entries later.1, later.2))) is
+
+none_owned : (process : ℕ) (mutexes : List (ℕ × Mutex)) → ((number : ℕ) (mutex : Mutex) → Contains mutexes (number, mutex) → ¬ (mutex.owner ≡ Some process)) → mutex_owned mutexes process ≡ negsuc 1
+none_owned process [] none = refl
+none_owned process (entry ∷ entries) none =
+    let other : is_owner entry.1.owner process ≡ false =
+    cannot_hold (is_owner entry.1.owner process) (λ owns. none entry.0 entry.1 (member_first entry entries) ((owner_tells entry.1.owner process).0 owns)) in
+    rw other (none_owned process entries (λ number mutex is_member. none number mutex (member_later entry (number, mutex) entries is_member)))
+
+owned_not : (process : ℕ) (mutexes : List (ℕ × Mutex)) → mutex_owned mutexes process ≡ negsuc 1 → (number : ℕ) (mutex : Mutex) → Contains mutexes (number, mutex) → ¬ (mutex.owner ≡ Some process)
+owned_not process [] is number mutex is_member owner = absurd (member_nowhere (number, mutex) is_member)
+owned_not process (entry ∷ entries) is number mutex is_member owner =
+    by_test (λ told. told ≡ negsuc 1 → ⊥) (is_owner entry.1.owner process) (pos entry.0) (mutex_owned entries process)
+    (λ owns is. (let no : ◌≡◌ {A = ℤ} (pos entry.0) (negsuc 1) = is in cc))
+    (λ other is. elim (member_cases entry (number, mutex) entries is_member) [
+      | inl here ↦ true≢false (sym ((owner_tells entry.1.owner process).1 (ap (λ (one : ℕ × Mutex). one.1.owner) (sym here) ∙ owner)) ∙ other)
+      | inr there ↦ owned_not process entries is number mutex there owner
+    ]) is
+
+only_two : (process : ℕ) (mutexes : List (ℕ × Mutex)) (below : ℕ) → mutex_owned mutexes process ≡ negsuc below → below ≡ 1
+only_two process [] below is = let one : ◌≡◌ {A = ℤ} (negsuc 1) (negsuc below) = is in cc
+only_two process (entry ∷ entries) below is =
+    by_test (λ told. told ≡ negsuc below → below ≡ 1) (is_owner entry.1.owner process) (pos entry.0) (mutex_owned entries process)
+    (λ owns is. (let no : ◌≡◌ {A = ℤ} (pos entry.0) (negsuc below) = is in cc)) (λ other is. only_two process entries below is) is
+
+pub owned_is_found : OwnedIsFound
+owned_is_found partition process = (
+  λ number is. let found = owned_is process partition.mutexes number is in record { mutex = found.0; is_member = found.1; owner = found.2 },
+  (
+    λ is number owns. owned_not process partition.mutexes is number owns.mutex owns.is_member owns.owner,
+    λ none. none_owned process partition.mutexes (λ number mutex is_member owner. none number (record { mutex = mutex; is_member = is_member; owner = owner })),
+  ),
+  only_two process partition.mutexes,
+)

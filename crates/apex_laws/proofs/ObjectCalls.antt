@@ -9,6 +9,7 @@ use Rattle.apex_laws.proofs.Common.{ObjectCallIsTheSentence, Partition, Port, Qu
 use Rattle.apex_laws.proofs.Common.{buffer_received, buffer_sent, change_at, cleared, conditions_for, displayed, done_with, event_reset, event_set, event_waited, first_waiter, given_object, is_free, is_length, is_longer, is_owner}
 use Rattle.apex_laws.proofs.Common.{is_queuing_port, is_sampling_port, is_valid, item_at, message_conditions, mutex_released, natural_of, new_blackboard, new_buffer, new_event, new_mutex, new_queuing_port, new_sampling_port, new_semaphore}
 use Rattle.apex_laws.proofs.Common.{numbered, numbered_if, object_conditions, of_caller, owns_another, queuing_port, sampling_port, semaphore_waited, set_at, signalled, time_out_conditions, waiting_conditions, when}
+use Rattle.apex_laws.proofs.Common.{IsMutexReset, hand_on}
 use Rattle.apex_laws.proofs.Booleans.{cannot_hold, is_itself}
 use Rattle.apex_laws.proofs.Ends.{first_empty, is_created, second_empty}
 use Rattle.apex_laws.proofs.ObjectRules.{blackboard_is_the_sentence, event_is_the_sentence, mutex_is_the_sentence, queue_is_the_sentence, semaphore_is_the_sentence}
@@ -111,9 +112,9 @@ queuing_there None size capacity way order none = cc
 queuing_there (Some port) size capacity way order none = (port, refl)
 
 pub object_call_is_the_sentence : ObjectCallIsTheSentence
-object_call_is_the_sentence configuration now who claimed (Request.Create name (NewObject.Buffer size capacity discipline)) partition apart none =
+object_call_is_the_sentence configuration cores core who claimed (Request.Create name (NewObject.Buffer size capacity discipline)) partition apart none =
     (refl, creates partition.buffers claimed (new_buffer name size capacity discipline))
-object_call_is_the_sentence configuration now who claimed (Request.Object buffer (on.Buffer (BufferOperation.Send length time_out message))) partition apart none =
+object_call_is_the_sentence configuration cores core who claimed (Request.Object buffer (on.Buffer (BufferOperation.Send length time_out message))) partition apart none =
     let first = first_empty (message_conditions (option_map (λ (found : Buffer). found.size) (given_object partition.buffers buffer)) length) (time_out_conditions time_out)
     (first_empty (message_conditions (option_map (λ (found : Buffer). found.size) (given_object partition.buffers buffer)) length ++ time_out_conditions time_out) (waiting_conditions who partition time_out) none) in
     let there = message_there (λ (found : Buffer). found.size) (given_object partition.buffers buffer) length first in
@@ -123,7 +124,7 @@ object_call_is_the_sentence configuration now who claimed (Request.Object buffer
           ((queue_is_the_sentence.0 found.capacity message time_out found.discipline found.receivers found.messages (buffer_sent message time_out found)
           (given_entries AreApart (λ (one : Buffer). one.receivers) partition.buffers buffer found there.1 (apart (set_at kind.Buffer (natural_of buffer) Receivers)))).0 refl),
     )
-object_call_is_the_sentence configuration now who claimed (Request.Object buffer (on.Buffer (BufferOperation.Receive time_out))) partition apart none =
+object_call_is_the_sentence configuration cores core who claimed (Request.Object buffer (on.Buffer (BufferOperation.Receive time_out))) partition apart none =
     let there = object_there who partition (given_object partition.buffers buffer) time_out none in
     let found : Buffer = there.0 in (
       refl,
@@ -131,31 +132,31 @@ object_call_is_the_sentence configuration now who claimed (Request.Object buffer
           ((queue_is_the_sentence.1 time_out found.discipline found.senders found.messages (buffer_received time_out found)
           (given_entries AreApart (λ (one : Buffer). one.senders) partition.buffers buffer found there.1 (apart (set_at kind.Buffer (natural_of buffer) Senders)))).0 refl),
     )
-object_call_is_the_sentence configuration now who claimed (Request.Create name (NewObject.Blackboard size)) partition apart none =
+object_call_is_the_sentence configuration cores core who claimed (Request.Create name (NewObject.Blackboard size)) partition apart none =
     (refl, creates partition.blackboards claimed (new_blackboard name size))
-object_call_is_the_sentence configuration now who claimed (Request.Object blackboard (on.Blackboard (BlackboardOperation.Display length message))) partition apart none =
+object_call_is_the_sentence configuration cores core who claimed (Request.Object blackboard (on.Blackboard (BlackboardOperation.Display length message))) partition apart none =
     let there = message_there (λ (found : Blackboard). found.size) (given_object partition.blackboards blackboard) length none in
     (refl, operates partition.blackboards blackboard there.0 there.1 _ (λ one message. record one { message = message }) (λ found. displayed message found.readers) refl)
-object_call_is_the_sentence configuration now who claimed (Request.Object blackboard (on.Blackboard (BlackboardOperation.Read time_out))) partition apart none =
+object_call_is_the_sentence configuration cores core who claimed (Request.Object blackboard (on.Blackboard (BlackboardOperation.Read time_out))) partition apart none =
     let there = object_there who partition (given_object partition.blackboards blackboard) time_out none in
     let found : Blackboard = there.0 in (
       refl,
       operates partition.blackboards blackboard found there.1 _ (λ one message. record one { message = message }) (λ found. board_read time_out found.message)
           ((blackboard_is_the_sentence.1 time_out found.message (board_read time_out found.message)).0 refl),
     )
-object_call_is_the_sentence configuration now who claimed (Request.Object blackboard (on.Blackboard BlackboardOperation.Clear)) partition apart none =
+object_call_is_the_sentence configuration cores core who claimed (Request.Object blackboard (on.Blackboard BlackboardOperation.Clear)) partition apart none =
     let there = lone_there (given_object partition.blackboards blackboard) none in
     (refl, operates partition.blackboards blackboard there.0 there.1 (λ found effect. IsClearing effect) (λ one message. record one { message = message }) (λ found. cleared) refl)
-object_call_is_the_sentence configuration now who claimed (Request.Create name (NewObject.Semaphore value maximum discipline)) partition apart none =
+object_call_is_the_sentence configuration cores core who claimed (Request.Create name (NewObject.Semaphore value maximum discipline)) partition apart none =
     (refl, creates partition.semaphores claimed (new_semaphore name value maximum discipline))
-object_call_is_the_sentence configuration now who claimed (Request.Object semaphore (on.Semaphore (SemaphoreOperation.Wait time_out))) partition apart none =
+object_call_is_the_sentence configuration cores core who claimed (Request.Object semaphore (on.Semaphore (SemaphoreOperation.Wait time_out))) partition apart none =
     let there = object_there who partition (given_object partition.semaphores semaphore) time_out none in
     let found : Semaphore = there.0 in (
       refl,
       operates partition.semaphores semaphore found there.1 _ (λ one value. record one { value = value }) (λ found. semaphore_waited time_out found.value)
           ((semaphore_is_the_sentence.0 time_out found.value (semaphore_waited time_out found.value)).0 refl),
     )
-object_call_is_the_sentence configuration now who claimed (Request.Object semaphore (on.Semaphore SemaphoreOperation.Signal)) partition apart none =
+object_call_is_the_sentence configuration cores core who claimed (Request.Object semaphore (on.Semaphore SemaphoreOperation.Signal)) partition apart none =
     let there = lone_there (given_object partition.semaphores semaphore) none in
     let found : Semaphore = there.0 in (
       refl,
@@ -163,30 +164,30 @@ object_call_is_the_sentence configuration now who claimed (Request.Object semaph
           ((semaphore_is_the_sentence.1 found.maximum found.discipline found.waiters found.value (signalled found.maximum (first_waiter found.discipline found.waiters) found.value)
           (given_entries AreApart (λ (one : Semaphore). one.waiters) partition.semaphores semaphore found there.1 (apart (set_at kind.Semaphore (natural_of semaphore) Receivers)))).0 refl),
     )
-object_call_is_the_sentence configuration now who claimed (Request.Create name NewObject.Event) partition apart none = (refl, creates partition.events claimed (new_event name))
-object_call_is_the_sentence configuration now who claimed (Request.Object event (on.Event EventOperation.Set)) partition apart none =
+object_call_is_the_sentence configuration cores core who claimed (Request.Create name NewObject.Event) partition apart none = (refl, creates partition.events claimed (new_event name))
+object_call_is_the_sentence configuration cores core who claimed (Request.Object event (on.Event EventOperation.Set)) partition apart none =
     let there = lone_there (given_object partition.events event) none in
     (refl, operates partition.events event there.0 there.1 _ (λ one up. record one { up = up }) (λ found. event_set found.waiters) refl)
-object_call_is_the_sentence configuration now who claimed (Request.Object event (on.Event EventOperation.Reset)) partition apart none =
+object_call_is_the_sentence configuration cores core who claimed (Request.Object event (on.Event EventOperation.Reset)) partition apart none =
     let there = lone_there (given_object partition.events event) none in
     (refl, operates partition.events event there.0 there.1 (λ found effect. IsResetting effect) (λ one up. record one { up = up }) (λ found. event_reset) refl)
-object_call_is_the_sentence configuration now who claimed (Request.Object event (on.Event (EventOperation.Wait time_out))) partition apart none =
+object_call_is_the_sentence configuration cores core who claimed (Request.Object event (on.Event (EventOperation.Wait time_out))) partition apart none =
     let there = object_there who partition (given_object partition.events event) time_out none in
     let found : Event = there.0 in (
       refl,
       operates partition.events event found there.1 _ (λ one up. record one { up = up }) (λ found. event_waited time_out found.up)
           ((event_is_the_sentence.2 time_out found.up (event_waited time_out found.up)).0 refl),
     )
-object_call_is_the_sentence configuration now who claimed (Request.Create name (NewObject.Mutex priority discipline)) partition apart none =
+object_call_is_the_sentence configuration cores core who claimed (Request.Create name (NewObject.Mutex priority discipline)) partition apart none =
     (refl, creates partition.mutexes claimed (new_mutex name priority discipline))
-object_call_is_the_sentence configuration now who claimed (Request.Object mutex (on.Mutex (MutexOperation.Acquire time_out))) partition apart none =
+object_call_is_the_sentence configuration cores core who claimed (Request.Object mutex (on.Mutex (MutexOperation.Acquire time_out))) partition apart none =
     let there = mutex_there who partition mutex time_out none in
     let found : Mutex = there.0 in (
       refl,
       operates partition.mutexes mutex found there.1 _ (λ one changed. changed) (acquired who.proc time_out)
           ((mutex_is_the_sentence.0 who.proc time_out found (acquired who.proc time_out found)).0 refl),
     )
-object_call_is_the_sentence configuration now who claimed (Request.Object mutex (on.Mutex MutexOperation.Release)) partition apart none =
+object_call_is_the_sentence configuration cores core who claimed (Request.Object mutex (on.Mutex MutexOperation.Release)) partition apart none =
     let there = is_created (given_object partition.mutexes mutex) (λ found. when (not (is_owner found.owner who.proc)) Condition.NotOwner) none in
     let found : Mutex = there.0 in (
       refl,
@@ -194,7 +195,15 @@ object_call_is_the_sentence configuration now who claimed (Request.Object mutex 
           ((mutex_is_the_sentence.1 found (mutex_released (first_waiter found.discipline found.waiters) found)
           (given_entries AreApart (λ (one : Mutex). one.waiters) partition.mutexes mutex found there.1 (apart (set_at kind.Mutex (natural_of mutex) Receivers)))).0 refl),
     )
-object_call_is_the_sentence configuration now who claimed (Request.Create name (NewObject.SamplingPort size direction refresh)) partition apart none =
+object_call_is_the_sentence configuration cores core who claimed (Request.Object mutex (on.Mutex (MutexOperation.Reset process))) partition apart none =
+    let there = lone_there (given_object partition.mutexes mutex) (first_empty _ _ (first_empty _ _ none)) in
+    let found : Mutex = there.0 in (
+      refl,
+      operates partition.mutexes mutex found there.1 (λ found effect. IsMutexReset found effect) (λ one changed. changed) (λ found. hand_on (first_waiter found.discipline found.waiters) found)
+          ((mutex_is_the_sentence.2 found (hand_on (first_waiter found.discipline found.waiters) found)
+          (given_entries AreApart (λ (one : Mutex). one.waiters) partition.mutexes mutex found there.1 (apart (set_at kind.Mutex (natural_of mutex) Receivers)))).0 refl),
+    )
+object_call_is_the_sentence configuration cores core who claimed (Request.Create name (NewObject.SamplingPort size direction refresh)) partition apart none =
     let there = sampling_there (sampling_port configuration who.part name) size direction refresh (second_empty _ _ none) in
     let port : SamplingPort = there.0 in
     let new : Port = record { name = name; size = port.size; direction = port.direction; channel = port.channel; valid = false } in (
@@ -206,7 +215,7 @@ object_call_is_the_sentence configuration now who claimed (Request.Create name (
             (sym there.1) (creates partition.sampling_ports claimed new),
       ),
     )
-object_call_is_the_sentence configuration now who claimed (Request.Create name (NewObject.QueuingPort size capacity way order)) partition apart none =
+object_call_is_the_sentence configuration cores core who claimed (Request.Create name (NewObject.QueuingPort size capacity way order)) partition apart none =
     let there = queuing_there (queuing_port configuration who.part name) size capacity way order (second_empty _ _ none) in
     let port : QueuingPort = there.0 in
     let new : Port = record { name = name; size = port.size; direction = port.direction; channel = port.channel; valid = false } in (
@@ -218,10 +227,10 @@ object_call_is_the_sentence configuration now who claimed (Request.Create name (
             (sym there.1) (creates partition.queuing_ports claimed new),
       ),
     )
-object_call_is_the_sentence configuration now who claimed (Request.SamplingPort port SamplingOperation.Read) partition apart none =
+object_call_is_the_sentence configuration cores core who claimed (Request.SamplingPort port SamplingOperation.Read) partition apart none =
     let change : Port → Port = λ found. record found { valid = is_valid claimed } in (
       refl,
       λ number found names at. subst (λ given. OneBecomes partition.sampling_ports (change_at (natural_of given) change partition.sampling_ports) number (change found)) (sym names)
           (changes_one number change partition.sampling_ports found at),
     )
-object_call_is_the_sentence configuration now who claimed _ partition apart none = refl
+object_call_is_the_sentence configuration cores core who claimed _ partition apart none = refl

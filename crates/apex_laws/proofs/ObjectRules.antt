@@ -13,12 +13,14 @@ use Rattle.apex_laws.specs.ObjectSentences.IsSemaphoreWait.{none_left, takes_one
 use Rattle.apex_laws.specs.ObjectSentences.IsSending.{first_gets_it, no_room, room}
 use Rattle.apex_laws.specs.ObjectSentences.IsSignal.{adds_one, at_maximum as is_at_maximum, first_goes_on}
 use Rattle.apex_laws.specs.ObjectSentences.IsUnmet.{at_once, waits}
-use Rattle.apex_laws.specs.ObjectSentences.IsUse.{asks_destination, asks_source, receives, samples, sends, writes}
+use Rattle.apex_laws.specs.ObjectSentences.IsUse.{asks_destination, asks_source, clears, receives, samples, sends, writes}
 use Rattle.apex_laws.proofs.Common.{AllEntries, AreApart, Ask, BlackboardIsTheSentence, Channel, ChannelIsTheSentence, Code, Configuration, Content, Discipline, Effect, Entry, EventIsTheSentence, FirstIsTheSentence, IsAcquiring, IsEventWait}
 use Rattle.apex_laws.proofs.Common.{IsFirst, IsReading, IsReceiving, IsReleasing, IsSampling, IsSemaphoreWait, IsSending, IsSignal, IsUnmet, IsUse, Messages, Mutex, MutexIsTheSentence, Precedes, Queued, QueueIsTheSentence, Read, Receive}
 use Rattle.apex_laws.proofs.Common.{Sampled, SamplingIsTheSentence, SemaphoreIsTheSentence, Send, Stamped, Use, Write, acquired, acquired_again, acquired_from, answering, appended, at_maximum, board_read, capacity_of, effect_on}
 use Rattle.apex_laws.proofs.Common.{event_waited, first_waiter, hand_on, is_at_destination, is_at_source, is_over, mutex_released, no_error, not_acquired, not_yet, precedes, raised, reads, received, receiving_discipline, refresh_of}
 use Rattle.apex_laws.proofs.Common.{released_once, sampled, semaphore_waited, sending_discipline, sent, signalled, sooner_entry, suits, tells_channel, unmet, used, waiting, written}
+use Rattle.apex_laws.proofs.Common.{AreFirst, Clear, CrossingIsTheSentence, IsArriving, IsDeparting, IsEmptying, IsMutexReset, IsTaken, Out, Who, after_first, arrival_use, arrived, departed, emptied_queue, first_waiters, followed_by, is_same, without}
+use Rattle.apex_laws.proofs.Waiters.{all_without}
 use Rattle.apex_laws.proofs.Booleans.{by_test, cannot_hold, impossible, member_first, member_later, never_found, one_item}
 use Rattle.apex_laws.proofs.ConditionTests.{over_tells}
 
@@ -150,8 +152,43 @@ is_the_first which entries apart entry first = by (first_waiter which entries) r
 pub nobody_first : (which : Discipline) (entries : List Entry) → entries ≡ [] → first_waiter which entries ≡ None
 nobody_first which entries none = ap (first_waiter which) none
 
+-- entries that stay are apart
+apart_without : (leaves : Who → Bool) (entries : List Entry) → AreApart entries → AreApart (without leaves entries)
+apart_without leaves [] apart = tt
+apart_without leaves (entry ∷ entries) apart =
+    by_test AreApart (leaves entry.who) (without leaves entries) (entry ∷ without leaves entries)
+    (λ goes. apart_without leaves entries apart.1)
+    (λ stays. (all_without (λ other. ¬ (entry.place ≡ other.place)) (λ other. ¬ (entry.place ≡ other.place)) leaves (λ other stays fact. fact) entries apart.0, apart_without leaves entries apart.1))
+
+-- the first ones
+firsts_say : (which : Discipline) (count : ℕ) (entries : List Entry) → AreApart entries → AreFirst which count entries (first_waiters which count entries)
+firsts_say which zero entries apart = inl refl
+firsts_say which (suc count) entries apart =
+    by (first_waiter which entries) refl (λ leaves. firsts_say which count (without leaves entries) (apart_without leaves entries apart))
+  where
+    by : (found : Option Entry) → first_waiter which entries ≡ found → ((leaves : Who → Bool) → AreFirst which count (without leaves entries) (first_waiters which count (without leaves entries)))
+        → AreFirst which (suc count) entries (followed_by found (first_waiters which count (after_first found entries)))
+    by None none rest = inr (empty_set which entries none)
+    by (Some first) is rest = (count, refl, first_is which entries first is, rest (is_same first.who))
+
+none_first : (which : Discipline) (count : ℕ) → first_waiters which count [] ≡ []
+none_first which zero = refl
+none_first which (suc count) = refl
+
+firsts_by : (which : Discipline) (count : ℕ) (entries firsts : List Entry) → AreApart entries → AreFirst which count entries firsts → firsts ≡ first_waiters which count entries
+firsts_by which count entries [] apart (inl no_count) = sym (ap (λ one. first_waiters which one entries) no_count)
+firsts_by which count entries [] apart (inr nobody) = sym (ap (first_waiters which count) nobody ∙ none_first which count)
+firsts_by which count entries (first ∷ others) apart is =
+    sym (ap (λ one. first_waiters which one entries) is.1
+    ∙ ap (λ found. followed_by found (first_waiters which is.0 (after_first found entries))) (is_the_first which entries apart first is.2)
+    ∙ ap (λ rest. first ∷ rest) (sym (firsts_by which is.0 (without (is_same first.who) entries) others (apart_without (is_same first.who) entries apart) is.3)))
+
 pub first_is_the_sentence : FirstIsTheSentence
-first_is_the_sentence which entries apart = (λ entry. (first_is which entries entry, is_the_first which entries apart entry), (empty_set which entries, nobody_first which entries))
+first_is_the_sentence which entries apart = (
+  λ entry. (first_is which entries entry, is_the_first which entries apart entry),
+  (empty_set which entries, nobody_first which entries),
+  λ count firsts. (λ is. subst (AreFirst which count entries) (sym is) (firsts_say which count entries apart), firsts_by which count entries firsts apart),
+)
 
 -- What each rule of an object or a channel computes is exactly what its sentences say.
 
@@ -216,12 +253,21 @@ receiving_by time_out which senders messages effect apart (sender_wakes message 
 receiving_by time_out which senders messages effect apart (no_message none unmet_one) =
     unmet_at time_out messages [] effect none unmet_one ∙ sym (ap (received time_out (first_waiter which senders)) none)
 
+emptying_says : (capacity : ℕ) (which : Discipline) (senders : List Entry) (effect : Effect Messages) → AreApart senders
+    → effect ≡ emptied_queue (first_waiters which capacity senders) → IsEmptying capacity which senders effect
+emptying_says capacity which senders effect apart is = record { first = first_waiters which capacity senders; are_first = firsts_say which capacity senders apart; wakes = is }
+
+emptying_by : (capacity : ℕ) (which : Discipline) (senders : List Entry) (effect : Effect Messages) → AreApart senders
+    → IsEmptying capacity which senders effect → effect ≡ emptied_queue (first_waiters which capacity senders)
+emptying_by capacity which senders effect apart is = is.wakes ∙ ap emptied_queue (firsts_by which capacity senders is.first apart is.are_first)
+
 pub queue_is_the_sentence : QueueIsTheSentence
 queue_is_the_sentence = (
   λ capacity message time_out which receivers messages effect apart.
       (sending_says capacity message time_out which receivers messages effect apart (first_waiter which receivers) refl, sending_by capacity message time_out which receivers messages effect apart),
   λ time_out which senders messages effect apart.
       (receiving_says time_out which senders messages effect apart (first_waiter which senders) refl, receiving_by time_out which senders messages effect apart),
+  λ capacity which senders effect apart. (emptying_says capacity which senders effect apart, emptying_by capacity which senders effect apart),
 )
 
 -- blackboards
@@ -333,10 +379,20 @@ releasing_by mutex effect apart (freed last none is) =
     let first : first_waiter mutex.discipline mutex.waiters ≡ None = ap (first_waiter mutex.discipline) none in
     rw (test, first) is
 
+reset_says : (mutex : Mutex) (effect : Effect Mutex) → AreApart mutex.waiters → (first : Option Entry) → first_waiter mutex.discipline mutex.waiters ≡ first
+    → effect ≡ hand_on first mutex → IsMutexReset mutex effect
+reset_says mutex effect apart None none is = IsMutexReset.freed (no_first mutex.discipline mutex.waiters none apart) is
+reset_says mutex effect apart (Some waiter) first is = IsMutexReset.handed_on waiter (first_is mutex.discipline mutex.waiters waiter first) is
+
+reset_by : (mutex : Mutex) (effect : Effect Mutex) → AreApart mutex.waiters → IsMutexReset mutex effect → effect ≡ hand_on (first_waiter mutex.discipline mutex.waiters) mutex
+reset_by mutex effect apart (IsMutexReset.handed_on waiter first is) = is ∙ sym (ap (λ one. hand_on one mutex) (first_by mutex.discipline mutex.waiters waiter apart first))
+reset_by mutex effect apart (IsMutexReset.freed none is) = is ∙ sym (ap (λ one. hand_on (first_waiter mutex.discipline one) mutex) none)
+
 pub mutex_is_the_sentence : MutexIsTheSentence
 mutex_is_the_sentence = (
   λ caller time_out mutex effect. (acquiring_says caller time_out mutex effect mutex.owner refl, acquiring_by caller time_out mutex effect),
   λ mutex effect apart. (releasing_says mutex effect apart (first_waiter mutex.discipline mutex.waiters) refl, releasing_by mutex effect apart),
+  λ mutex effect apart. (reset_says mutex effect apart (first_waiter mutex.discipline mutex.waiters) refl, reset_by mutex effect apart),
 )
 
 -- sampling channels
@@ -380,6 +436,9 @@ use_says configuration now number partition channel (Send message time_out) (Que
     ((queue_is_the_sentence.0 (capacity_of configuration number) message time_out (receiving_discipline configuration number) channel.receivers messages _ receivers).0 refl) is
 use_says configuration now number partition channel (Receive time_out) (Queued messages) effect at senders receivers suited is =
     receives time_out messages _ refl at ((queue_is_the_sentence.1 time_out (sending_discipline configuration number) channel.senders messages _ senders).0 refl) is
+use_says configuration now number partition channel Clear (Queued messages) effect at senders receivers suited is =
+    clears messages _ refl at ((queue_is_the_sentence.2 (capacity_of configuration number) (sending_discipline configuration number) channel.senders _ senders).0 refl) is
+use_says configuration now number partition channel Clear (Sampled last) effect at senders receivers suited is = impossible suited
 use_says configuration now number partition channel (Write message) (Queued messages) effect at senders receivers suited is = impossible suited
 use_says configuration now number partition channel Read (Queued messages) effect at senders receivers suited is = impossible suited
 use_says configuration now number partition channel (Send message time_out) (Sampled last) effect at senders receivers suited is = impossible suited
@@ -401,6 +460,9 @@ use_by configuration now number partition channel how effect senders receivers (
 use_by configuration now number partition channel how effect senders receivers (receives time_out messages inner uses at received_so is) =
     is ∙ ap (effect_on Queued) (receiving_by time_out (sending_discipline configuration number) channel.senders messages inner senders received_so)
     ∙ sym (ap (λ one. used configuration now number partition one channel channel.content) uses ∙ ap (used configuration now number partition (Receive time_out) channel) at)
+use_by configuration now number partition channel how effect senders receivers (clears messages inner uses at cleared_so is) =
+    is ∙ ap (effect_on Queued) (emptying_by (capacity_of configuration number) (sending_discipline configuration number) channel.senders inner senders cleared_so)
+    ∙ sym (ap (λ one. used configuration now number partition one channel channel.content) uses ∙ ap (used configuration now number partition Clear channel) at)
 use_by configuration now number partition channel how effect senders receivers (asks_source messages uses at of is) =
     is ∙ ap (λ test. tells_channel messages (cond test channel.senders channel.receivers)) (sym of)
     ∙ sym (ap (λ one. used configuration now number partition one channel channel.content) uses ∙ ap (used configuration now number partition Ask channel) at)
@@ -411,3 +473,88 @@ use_by configuration now number partition channel how effect senders receivers (
 pub channel_is_the_sentence : ChannelIsTheSentence
 channel_is_the_sentence configuration now number partition channel how effect senders receivers suited =
     (use_says configuration now number partition channel how channel.content effect refl senders receivers suited, use_by configuration now number partition channel how effect senders receivers)
+
+-- messages that pass an end outside
+
+-- what becomes of the channel and whom it wakes, if the use has this effect
+turns_out : (woken : List Who) (next : Content) (one other : Effect Content) → one ≡ other → woken ≡ other.answer.woken → next ≡ other.next
+    → (woken ≡ one.answer.woken) × (next ≡ one.next)
+turns_out woken next one other same wakes leaves = (wakes ∙ sym (ap (λ effect. effect.answer.woken) same), leaves ∙ sym (ap (λ effect. effect.next) same))
+
+arriving_says : (configuration : Configuration) (now number : ℕ) (message : List ℕ) (channel : Channel) (woken : List Who) (next : Content) → AreApart channel.receivers
+    → (content : Content) → channel.content ≡ content → woken ≡ (used configuration now number 0 (arrival_use message content) channel content).answer.woken
+    → next ≡ (used configuration now number 0 (arrival_use message content) channel content).next → IsArriving configuration now number message channel woken next
+arriving_says configuration now number message channel woken next apart (Sampled last) at wakes leaves = IsArriving.is_written last at wakes leaves
+arriving_says configuration now number message channel woken next apart (Queued messages) at wakes leaves =
+    by (first_waiter (receiving_discipline configuration number) channel.receivers) refl wakes leaves
+  where
+    capacity : ℕ
+    capacity = capacity_of configuration number
+
+    by : (first : Option Entry) → first_waiter (receiving_discipline configuration number) channel.receivers ≡ first → woken ≡ (sent capacity message (pos 0) first messages).answer.woken
+        → next ≡ Queued (sent capacity message (pos 0) first messages).next → IsArriving configuration now number message channel woken next
+    by (Some receiver) first wakes leaves = IsArriving.first_gets_it messages receiver at (first_is (receiving_discipline configuration number) channel.receivers receiver first) wakes leaves
+    by None none wakes leaves =
+        let nobody = no_first (receiving_discipline configuration number) channel.receivers none apart in
+        by_test (λ (effect : Effect Messages). woken ≡ effect.answer.woken → next ≡ Queued effect.next → IsArriving configuration now number message channel woken next)
+        (nat_lt (length messages) capacity) (appended message messages) (not_yet (pos 0) messages)
+        (λ fits wakes leaves. IsArriving.room messages at nobody (ltb-true (length messages) capacity fits) wakes leaves)
+        (λ full wakes leaves. IsArriving.is_lost messages at nobody (grind arith) wakes leaves) wakes leaves
+
+arriving_by : (configuration : Configuration) (now number : ℕ) (message : List ℕ) (channel : Channel) (woken : List Who) (next : Content) → AreApart channel.receivers
+    → IsArriving configuration now number message channel woken next
+    → (woken ≡ (arrived configuration now number message channel).answer.woken) × (next ≡ (arrived configuration now number message channel).next)
+arriving_by configuration now number message channel woken next apart (IsArriving.is_written last at wakes leaves) =
+    turns_out woken next (arrived configuration now number message channel) (effect_on Sampled (written now message))
+    (ap (λ content. used configuration now number 0 (arrival_use message content) channel content) at) wakes leaves
+arriving_by configuration now number message channel woken next apart (IsArriving.first_gets_it messages receiver at first wakes leaves) =
+    turns_out woken next (arrived configuration now number message channel) (effect_on Queued (sent (capacity_of configuration number) message (pos 0) (Some receiver) messages))
+    (ap (λ content. used configuration now number 0 (arrival_use message content) channel content) at
+    ∙ ap (λ one. effect_on Queued (sent (capacity_of configuration number) message (pos 0) one messages)) (first_by (receiving_discipline configuration number) channel.receivers receiver apart first)) wakes leaves
+arriving_by configuration now number message channel woken next apart (IsArriving.room messages at none fits wakes leaves) =
+    let test : nat_lt (length messages) (capacity_of configuration number) ≡ true = grind arith in
+    turns_out woken next (arrived configuration now number message channel) (effect_on Queued (appended message messages))
+    (ap (λ content. used configuration now number 0 (arrival_use message content) channel content) at
+    ∙ ap (λ one. effect_on Queued (sent (capacity_of configuration number) message (pos 0) (first_waiter (receiving_discipline configuration number) one) messages)) none
+    ∙ ap (λ one. effect_on Queued (cond one (appended message messages) (not_yet (pos 0) messages))) test) wakes leaves
+arriving_by configuration now number message channel woken next apart (IsArriving.is_lost messages at none full wakes leaves) =
+    let test : nat_lt (length messages) (capacity_of configuration number) ≡ false = grind arith in
+    turns_out woken next (arrived configuration now number message channel) (effect_on Queued (not_yet (pos 0) messages))
+    (ap (λ content. used configuration now number 0 (arrival_use message content) channel content) at
+    ∙ ap (λ one. effect_on Queued (sent (capacity_of configuration number) message (pos 0) (first_waiter (receiving_discipline configuration number) one) messages)) none
+    ∙ ap (λ one. effect_on Queued (cond one (appended message messages) (not_yet (pos 0) messages))) test) wakes leaves
+
+-- what a departure takes and leaves, and whom it wakes
+abbrev Departs : List ℕ → List Who → Content → Effect Content → Type 0
+Departs message woken next effect = IsTaken effect.answer message × (woken ≡ effect.answer.woken) × (next ≡ effect.next)
+
+departing_says : (configuration : Configuration) (number : ℕ) (message : List ℕ) (channel : Channel) (woken : List Who) (next : Content) → AreApart channel.senders
+    → (messages : Messages) → channel.content ≡ Queued messages → (first : Option Entry) → first_waiter (sending_discipline configuration number) channel.senders ≡ first
+    → Departs message woken next (effect_on Queued (received (pos 0) first messages)) → IsDeparting configuration number message channel woken next
+departing_says configuration number message channel woken next apart [] at first is departs =
+    let no : Out.Answer Code.NotAvailable ≡ Out.Answer Code.NoError = departs.0.0 in cc
+departing_says configuration number message channel woken next apart (oldest ∷ others) at None none departs =
+    IsDeparting.oldest_leaves others (at ∙ ap (λ one. Queued (one ∷ others)) departs.0.1) (no_first (sending_discipline configuration number) channel.senders none apart) departs.1 departs.2
+departing_says configuration number message channel woken next apart (oldest ∷ others) at (Some sender) first departs =
+    IsDeparting.sender_wakes others sender (at ∙ ap (λ one. Queued (one ∷ others)) departs.0.1) (first_is (sending_discipline configuration number) channel.senders sender first) departs.1 departs.2
+
+departing_by : (configuration : Configuration) (now number : ℕ) (message : List ℕ) (channel : Channel) (woken : List Who) (next : Content) → AreApart channel.senders
+    → IsDeparting configuration number message channel woken next → Departs message woken next (departed configuration now number channel)
+departing_by configuration now number message channel woken next apart (IsDeparting.oldest_leaves others at none wakes leaves) =
+    subst (Departs message woken next)
+    (sym (ap (used configuration now number 0 (Receive (pos 0)) channel) at
+    ∙ ap (λ one. effect_on Queued (received (pos 0) (first_waiter (sending_discipline configuration number) one) (message ∷ others))) none)) ((refl, refl), wakes, leaves)
+departing_by configuration now number message channel woken next apart (IsDeparting.sender_wakes others sender at first wakes leaves) =
+    subst (Departs message woken next)
+    (sym (ap (used configuration now number 0 (Receive (pos 0)) channel) at
+    ∙ ap (λ one. effect_on Queued (received (pos 0) one (message ∷ others))) (first_by (sending_discipline configuration number) channel.senders sender apart first))) ((refl, refl), wakes, leaves)
+
+pub crossing_is_the_sentence : CrossingIsTheSentence
+crossing_is_the_sentence configuration now number message channel woken next senders receivers = (
+  (λ is. arriving_says configuration now number message channel woken next receivers channel.content refl is.0 is.1, arriving_by configuration now number message channel woken next receivers),
+  λ messages at. (
+    λ departs. departing_says configuration number message channel woken next senders messages at (first_waiter (sending_discipline configuration number) channel.senders) refl
+        (subst (Departs message woken next) (ap (used configuration now number 0 (Receive (pos 0)) channel) at) departs),
+    departing_by configuration now number message channel woken next senders,
+  ),
+)

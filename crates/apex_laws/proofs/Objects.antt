@@ -276,6 +276,7 @@ release_keeps first mutex =
 pub mutex_keeps : (caller : ℕ) (operation : MutexOperation) (mutex : Mutex) → (mutex_effect caller operation mutex).next.waiters ≡ mutex.waiters
 mutex_keeps caller (MutexOperation.Acquire time_out) mutex = acquire_keeps caller time_out mutex.owner mutex
 mutex_keeps caller MutexOperation.Release mutex = release_keeps (first_waiter mutex.discipline mutex.waiters) mutex
+mutex_keeps caller (MutexOperation.Reset process) mutex = hand_on_keeps (first_waiter mutex.discipline mutex.waiters) mutex
 
 -- the rules of all objects leave their entries
 pub effect_keeps : (caller : ℕ) (operation : ObjectOperation) (end : End) (found : ObjectOf (kind_used operation))

@@ -1,5 +1,5 @@
 -- What the rules compute of a process, and answer to its services, is exactly what the sentences say.
-use Rattle.std.proofs.Common.{◌≡◌, ℕ, ◌+◌, ◌*◌, ◌/◌, ◌%◌, ◌<◌, ◌≤◌, ℤ, pos, negsuc, List, [], Option, Some, None, Bool, true, false, cond, nat_eq, nat_le, IsTrue, refl, sym, ap, ◌∙◌, inl, inr, arith, true≢false, ◌&&◌, ◌∷◌}
+use Rattle.std.proofs.Common.{◌≡◌, ℕ, zero, suc, not, subst, ◌+◌, ◌*◌, ◌/◌, ◌%◌, ◌<◌, ◌≤◌, ℤ, pos, negsuc, List, [], Option, Some, None, Bool, true, false, cond, nat_eq, nat_le, IsTrue, refl, sym, ap, ◌∙◌, inl, inr, arith, true≢false, ◌&&◌, ◌∷◌}
 use Rattle.std.proofs.Math.Nat.{mul-le-mul_right}
 use Rattle.std.proofs.lemmas.Bool.{and_from, and_parts, eqb-true, eq-eqb, leb-true, cases_lt}
 use Rattle.apex_laws.specs.ProcessLaws.{AnswerIsTheSentence, CallerIsTheSentence, CreationIsTheSentence, DueIsTheSentence, ReleaseIsTheSentence, SettingIsTheSentence, StoppingIsTheSentence, WakingIsTheSentence}
@@ -9,6 +9,9 @@ use Rattle.apex_laws.proofs.Common.{IsStarted, IsWoken, Mode, Mutex, MutexOperat
 use Rattle.apex_laws.proofs.Common.{caller_with, code_when_due, created, done, due_by, due_of_call, entry_wait, first_release, first_waiter, given_object, is_normal, is_number, is_over, is_owner, is_released, is_suspension, is_waiting}
 use Rattle.apex_laws.proofs.Common.{item_at, mutex_released, natural_of, next_release, on_ownership, outcome_of, owed, peer, release_taken, released, renews, resuming, service_of_wait, set_of, started, stopped, taking, time_of, time_out_of}
 use Rattle.apex_laws.proofs.Common.{wait_ended, wait_in, wait_of, waiting, waits_for_normal, waking, woken_by}
+use Rattle.apex_laws.proofs.Common.{CoreState, IsModeNumber, IsPartitionStatus, IsProcessStatus, IsStartNumber, IsStateNumber, Partition, StartCondition, answer_by, delay_kept, delay_wait, handed_on, is_occupant, is_ready, mode_number, occupant_of, partition_status, process_status, reporting, start_number, state_number}
+use Rattle.apex_laws.proofs.WaitersOf.{same_is, same_itself}
+use Rattle.apex_laws.proofs.Choices.{is_ready_by, ready_is}
 use Rattle.apex_laws.proofs.Booleans.{by_test, cannot_hold, impossible, never_found, same_if}
 use Rattle.apex_laws.proofs.ConditionTests.{normal_tells, number_tells, over_tells, owner_tells, Tells}
 
@@ -70,48 +73,63 @@ one_release period now one other first second =
       ]
     ]
 
-entry_says : (period now : ℕ) (own : Option ℕ) → 0 < period → IsEntry period now own (entry_wait period now own)
-entry_says period now None above = IsEntry.aperiodic refl refl
-entry_says period now (Some own) above = IsEntry.periodic own (first_release period now) refl (first_release_is period now above) refl
+entry_says : (period now delay : ℕ) (own : Option ℕ) → 0 < period → IsEntry period now delay own (entry_wait period now delay own)
+entry_says period now zero None above = IsEntry.at_once refl refl refl
+entry_says period now (suc delay) None above = IsEntry.delayed refl (omega arith) refl
+entry_says period now delay (Some own) above = IsEntry.periodic own (first_release period now) refl (first_release_is period now above) refl
 
-entry_by : (period now : ℕ) (own : Option ℕ) (entry : Wait) → 0 < period → IsEntry period now own entry → entry ≡ entry_wait period now own
-entry_by period now own entry above (IsEntry.aperiodic none is) = is ∙ sym (ap (entry_wait period now) none)
-entry_by period now own entry above (IsEntry.periodic of time some first is) =
-    is ∙ ap Wait.FirstRelease (one_release period now time (first_release period now) first (first_release_is period now above)) ∙ sym (ap (entry_wait period now) some)
+-- a delay above 0
+delayed_wait : (now delay : ℕ) → 0 < delay → Wait.Delay (now + delay) ≡ delay_wait now delay
+delayed_wait now zero above = absurd (omega (arith, above))
+delayed_wait now (suc delay) above = refl
+
+entry_by : (period now delay : ℕ) (own : Option ℕ) (entry : Wait) → 0 < period → IsEntry period now delay own entry → entry ≡ entry_wait period now delay own
+entry_by period now delay own entry above (IsEntry.at_once none no_delay is) = is ∙ (λ i. entry_wait period now (sym no_delay i) (sym none i))
+entry_by period now delay own entry above (IsEntry.delayed none some is) = is ∙ delayed_wait now delay some ∙ sym (ap (entry_wait period now delay) none)
+entry_by period now delay own entry above (IsEntry.periodic of time some first is) =
+    is ∙ ap (λ one. Wait.FirstRelease (one + delay)) (one_release period now time (first_release period now) first (first_release_is period now above))
+    ∙ sym (ap (entry_wait period now delay) some)
 
 -- a process that is started
-started_says : (place period now : ℕ) (current : Mode) (old new : Process) → 0 < period → new ≡ started place period now current old → IsStarted place period now current old new
-started_says place period now current old new above is =
-    by_test (λ entry. new ≡ record old { current_priority = old.base_priority; alive = true; wait = entry; ready_position = place } → IsStarted place period now current old new) (is_normal current) (entry_wait period now old.period) Wait.NormalMode
-    (λ normal is. IsStarted.in_normal (entry_wait period now old.period) ((normal_tells current).0 normal) (entry_says period now old.period above) is)
+started_says : (place period now : ℕ) (current : Mode) (delay : ℤ) (old new : Process) → 0 < period → new ≡ started place period now current delay old → IsStarted place period now current delay old new
+started_says place period now current delay old new above is =
+    by_test (λ entry. new ≡ record old { current_priority = old.base_priority; alive = true; wait = entry; ready_position = place } → IsStarted place period now current delay old new)
+    (is_normal current) (entry_wait period now (natural_of delay) old.period) (Wait.NormalMode delay)
+    (λ normal is. IsStarted.in_normal (entry_wait period now (natural_of delay) old.period) ((normal_tells current).0 normal) (entry_says period now (natural_of delay) old.period above) is)
     (λ not_normal is. IsStarted.before_normal (λ normal. true≢false (sym (ap is_normal normal) ∙ not_normal)) is) is
 
-started_by : (place period now : ℕ) (current : Mode) (old new : Process) → 0 < period → IsStarted place period now current old new → new ≡ started place period now current old
-started_by place period now current old new above (IsStarted.in_normal entry normal enters is) =
+started_by : (place period now : ℕ) (current : Mode) (delay : ℤ) (old new : Process) → 0 < period → IsStarted place period now current delay old new → new ≡ started place period now current delay old
+started_by place period now current delay old new above (IsStarted.in_normal entry normal enters is) =
     is ∙ ap (λ one. record old { current_priority = old.base_priority; alive = true; wait = one; ready_position = place })
-    (entry_by period now old.period entry above enters ∙ sym (ap (λ test. cond test (entry_wait period now old.period) Wait.NormalMode) (ap is_normal normal)))
-started_by place period now current old new above (IsStarted.before_normal differs is) =
+    (entry_by period now (natural_of delay) old.period entry above enters
+    ∙ sym (ap (λ test. cond test (entry_wait period now (natural_of delay) old.period) (Wait.NormalMode delay)) (ap is_normal normal)))
+started_by place period now current delay old new above (IsStarted.before_normal differs is) =
     is ∙ ap (λ one. record old { current_priority = old.base_priority; alive = true; wait = one; ready_position = place })
-    (sym (ap (λ test. cond test (entry_wait period now old.period) Wait.NormalMode) (cannot_hold (is_normal current) (λ normal. differs ((normal_tells current).0 normal)))))
+    (sym (ap (λ test. cond test (entry_wait period now (natural_of delay) old.period) (Wait.NormalMode delay))
+    (cannot_hold (is_normal current) (λ normal. differs ((normal_tells current).0 normal)))))
 
 -- the wait for NORMAL
-for_normal_is : (one : Wait) → waits_for_normal one ≡ true → one ≡ Wait.NormalMode
-for_normal_is Wait.NormalMode is = refl
+for_normal_is : (one : Wait) → waits_for_normal one ≡ true → (delay : ℤ) × (one ≡ Wait.NormalMode delay)
+for_normal_is (Wait.NormalMode delay) is = (delay, refl)
 for_normal_is _ is = impossible is
 
 normal_says : (place period now : ℕ) (old new : Process) → 0 < period → new ≡ after_normal place period now old → IsNormalEntered place period now old new
 normal_says place period now old new above is =
-    by_test (λ one. new ≡ one → IsNormalEntered place period now old new) (waits_for_normal old.wait) (record old { wait = entry_wait period now old.period; ready_position = place }) old
-    (λ waits is. IsNormalEntered.waited (entry_wait period now old.period) (for_normal_is old.wait waits) (entry_says period now old.period above) is)
-    (λ not_waiting is. IsNormalEntered.else_stays (λ waits. true≢false (sym (ap waits_for_normal waits) ∙ not_waiting)) is) is
+    by_test (λ one. new ≡ one → IsNormalEntered place period now old new) (waits_for_normal old.wait)
+    (record old { wait = entry_wait period now (delay_kept old.wait) old.period; ready_position = place }) old
+    (λ waits is. (let at = for_normal_is old.wait waits in
+    IsNormalEntered.waited at.0 (entry_wait period now (delay_kept old.wait) old.period) at.1
+    (subst (λ one. IsEntry period now one old.period (entry_wait period now (delay_kept old.wait) old.period)) (ap delay_kept at.1) (entry_says period now (delay_kept old.wait) old.period above)) is))
+    (λ not_waiting is. IsNormalEntered.else_stays (λ delay waits. true≢false (sym (ap waits_for_normal waits) ∙ not_waiting)) is) is
 
 normal_by : (place period now : ℕ) (old new : Process) → 0 < period → IsNormalEntered place period now old new → new ≡ after_normal place period now old
-normal_by place period now old new above (IsNormalEntered.waited entry waits enters is) =
-    is ∙ ap (λ one. record old { wait = one; ready_position = place }) (entry_by period now old.period entry above enters)
-    ∙ sym (ap (λ test. cond test (record old { wait = entry_wait period now old.period; ready_position = place }) old) (ap waits_for_normal waits))
+normal_by place period now old new above (IsNormalEntered.waited delay entry waits enters is) =
+    is ∙ ap (λ one. record old { wait = one; ready_position = place })
+    (entry_by period now (natural_of delay) old.period entry above enters ∙ ap (λ one. entry_wait period now one old.period) (sym (ap delay_kept waits)))
+    ∙ sym (ap (λ test. cond test (record old { wait = entry_wait period now (delay_kept old.wait) old.period; ready_position = place }) old) (ap waits_for_normal waits))
 normal_by place period now old new above (IsNormalEntered.else_stays differs is) =
-    is ∙ sym (ap (λ test. cond test (record old { wait = entry_wait period now old.period; ready_position = place }) old)
-    (cannot_hold (waits_for_normal old.wait) (λ waits. differs (for_normal_is old.wait waits))))
+    is ∙ sym (ap (λ test. cond test (record old { wait = entry_wait period now (delay_kept old.wait) old.period; ready_position = place }) old)
+    (cannot_hold (waits_for_normal old.wait) (λ waits. let at = for_normal_is old.wait waits in differs at.0 at.1)))
 
 -- owners of mutexes
 
@@ -148,8 +166,11 @@ pub setting_is_the_sentence : SettingIsTheSentence
 setting_is_the_sentence place period cores partition caller (Request.Process process (ProcessOperation.InitializeCoreAffinity core)) number old new above =
     on_target process number (new ≡ record old { affinity = natural_of core }) (record old { affinity = natural_of core }) old new (λ is. is) (λ is. is)
 setting_is_the_sentence place period cores partition caller (Request.Process process ProcessOperation.Start) number old new above =
-    on_target process number (IsStarted place period (time_of cores old.affinity) partition.mode old new) (started place period (time_of cores old.affinity) partition.mode old) old new
-    (started_says place period (time_of cores old.affinity) partition.mode old new above) (started_by place period (time_of cores old.affinity) partition.mode old new above)
+    on_target process number (IsStarted place period (time_of cores old.affinity) partition.mode (pos 0) old new) (started place period (time_of cores old.affinity) partition.mode (pos 0) old) old new
+    (started_says place period (time_of cores old.affinity) partition.mode (pos 0) old new above) (started_by place period (time_of cores old.affinity) partition.mode (pos 0) old new above)
+setting_is_the_sentence place period cores partition caller (Request.Process process (ProcessOperation.DelayedStart delay)) number old new above =
+    on_target process number (IsStarted place period (time_of cores old.affinity) partition.mode delay old new) (started place period (time_of cores old.affinity) partition.mode delay old) old new
+    (started_says place period (time_of cores old.affinity) partition.mode delay old new above) (started_by place period (time_of cores old.affinity) partition.mode delay old new above)
 setting_is_the_sentence place period cores partition caller (Request.Process process ProcessOperation.Suspend) number old new above =
     on_target process number (new ≡ record old { suspended = true }) (record old { suspended = true }) old new (λ is. is) (λ is. is)
 setting_is_the_sentence place period cores partition caller (Request.Process process ProcessOperation.Resume) number old new above =
@@ -162,7 +183,13 @@ setting_is_the_sentence place period cores partition caller (Request.Object mute
     mutex_change (given_object partition.mutexes mutex) (λ found. (acquired caller time_out found).next) number old new
 setting_is_the_sentence place period cores partition caller (Request.Object mutex (on.Mutex MutexOperation.Release)) number old new above =
     mutex_change (given_object partition.mutexes mutex) (λ found. (mutex_released (first_waiter found.discipline found.waiters) found).next) number old new
+setting_is_the_sentence place period cores partition caller (Request.Object mutex (on.Mutex (MutexOperation.Reset process))) number old new above =
+    mutex_change (given_object partition.mutexes mutex) (λ found. (handed_on (first_waiter found.discipline found.waiters) found).next) number old new
 setting_is_the_sentence place period cores partition caller (Request.Process process ProcessOperation.Stop) number old new above =
+    (λ is. is ∙ same_if (is_number process number) old, λ is. is ∙ sym (same_if (is_number process number) old))
+setting_is_the_sentence place period cores partition caller (Request.Process process ProcessOperation.GetStatus) number old new above =
+    (λ is. is ∙ same_if (is_number process number) old, λ is. is ∙ sym (same_if (is_number process number) old))
+setting_is_the_sentence place period cores partition caller (Request.Process process ProcessOperation.GetMutexState) number old new above =
     (λ is. is ∙ same_if (is_number process number) old, λ is. is ∙ sym (same_if (is_number process number) old))
 setting_is_the_sentence place period cores partition caller _ number old new above = (λ is. is, λ is. is)
 
@@ -174,6 +201,7 @@ come_tells due now = (λ holds. (due, refl, leb-true due now holds), λ has. let
 
 due_tells : (one : Wait) (now : ℕ) → Tells (due_by now one) ((time : ℕ) × HasDueTime one time × (time ≤ now))
 due_tells (Wait.FirstRelease due) now = come_tells due now
+due_tells (Wait.Delay due) now = come_tells due now
 due_tells (Wait.Until due) now = come_tells due now
 due_tells (Wait.PeriodicRelease due) now = come_tells due now
 due_tells (Wait.Suspended (Some due)) now = come_tells due now
@@ -234,15 +262,17 @@ kept_so place now call old given =
 
 released_says : (place : ℕ) (old new : Process) (one : Wait) (time : ℕ) → old.wait ≡ one → HasDueTime one time → new ≡ released place old → IsReleased place old new
 released_says place old new (Wait.FirstRelease due) time at has is = IsReleased.first_release due at (is ∙ ended place old (Wait.FirstRelease due) at)
+released_says place old new (Wait.Delay due) time at has is = IsReleased.start_delay due at (is ∙ ended place old (Wait.Delay due) at)
 released_says place old new (Wait.Until due) time at has is = IsReleased.delay due at (is ∙ ended place old (Wait.Until due) at)
 released_says place old new (Wait.PeriodicRelease due) time at has is = IsReleased.release due at (is ∙ ended place old (Wait.PeriodicRelease due) at)
 released_says place old new (Wait.Suspended due) time at has is = IsReleased.suspension due at (is ∙ ended place old (Wait.Suspended due) at)
 released_says place old new (Wait.At set due) time at has is = IsReleased.object set due at (is ∙ ended place old (Wait.At set due) at)
 released_says place old new Wait.Nothing time at has is = absurd has
-released_says place old new Wait.NormalMode time at has is = absurd has
+released_says place old new (Wait.NormalMode delay) time at has is = absurd has
 
 released_by : (place : ℕ) (old new : Process) → IsReleased place old new → new ≡ released place old
 released_by place old new (IsReleased.first_release due at is) = is ∙ sym (ended place old (Wait.FirstRelease due) at)
+released_by place old new (IsReleased.start_delay due at is) = is ∙ sym (ended place old (Wait.Delay due) at)
 released_by place old new (IsReleased.delay due at is) = is ∙ sym (ended place old (Wait.Until due) at)
 released_by place old new (IsReleased.release due at is) = is ∙ sym (ended place old (Wait.PeriodicRelease due) at)
 released_by place old new (IsReleased.suspension due at is) = is ∙ sym (ended place old (Wait.Suspended due) at)
@@ -381,24 +411,111 @@ resuming_by target found answer (IsResuming.was_marked process at not_suspended 
     (cannot_hold (is_suspension process.wait) (λ is. let one = suspension_is process.wait is in not_suspended one.0 one.1)))
 resuming_by target found answer (IsResuming.nobody none gives) = gives ∙ sym (ap (resuming target) none)
 
+-- statuses
+
+mode_says : (one : Mode) → IsModeNumber one (mode_number one)
+mode_says Mode.Idle = refl
+mode_says Mode.ColdStart = refl
+mode_says Mode.WarmStart = refl
+mode_says Mode.Normal = refl
+
+mode_is : (one : Mode) (number : ℕ) → IsModeNumber one number → number ≡ mode_number one
+mode_is Mode.Idle number is = is
+mode_is Mode.ColdStart number is = is
+mode_is Mode.WarmStart number is = is
+mode_is Mode.Normal number is = is
+
+start_says : (one : StartCondition) → IsStartNumber one (start_number one)
+start_says StartCondition.NormalStart = refl
+start_says StartCondition.PartitionRestart = refl
+
+start_is : (one : StartCondition) (number : ℕ) → IsStartNumber one number → number ≡ start_number one
+start_is StartCondition.NormalStart number is = is
+start_is StartCondition.PartitionRestart number is = is
+
+partition_says : (partition : Partition) (answer : Answer) → answer ≡ partition_status partition → IsPartitionStatus partition answer
+partition_says partition answer gives = record {
+  mode = mode_number partition.mode;
+  is_mode = mode_says partition.mode;
+  start = start_number partition.start;
+  is_start = start_says partition.start;
+  reports = gives;
+}
+
+partition_by : (partition : Partition) (answer : Answer) → IsPartitionStatus partition answer → answer ≡ partition_status partition
+partition_by partition answer is =
+    let same_mode = mode_is partition.mode is.mode is.is_mode in
+    let same_start = start_is partition.start is.start is.is_start in
+    is.reports ∙ (λ i. reporting (pos (same_mode i)) (Some (pos 0)) (Some (pos (same_start i))))
+
+-- the occupant of a core
+occupant_is : (who : Who) (found : Option Who) → is_occupant who found ≡ true → found ≡ Some who
+occupant_is who None is = impossible is
+occupant_is who (Some one) is = ap Some (sym (same_is who one is))
+
+occupant_by : (who : Who) (found : Option Who) → found ≡ Some who → is_occupant who found ≡ true
+occupant_by who found is = ap (is_occupant who) is ∙ same_itself who
+
+-- the number of a state, by its three tests
+abbrev state_by : Bool → Bool → Bool → ℕ
+state_by alive ready occupies = cond (not alive) 0 (cond (not ready) 3 (cond occupies 2 1))
+
+state_says : (cores : List CoreState) (who : Who) (process : Process) → IsStateNumber cores who process (state_number cores who process)
+state_says cores who process = by process.alive refl (is_ready process.affinity process) refl (is_occupant who (occupant_of cores process.affinity)) refl
+  where
+    by : (alive : Bool) → process.alive ≡ alive → (ready : Bool) → is_ready process.affinity process ≡ ready → (occupies : Bool)
+        → is_occupant who (occupant_of cores process.affinity) ≡ occupies → IsStateNumber cores who process (state_by alive ready occupies)
+    by false dead ready readies occupies occupied = IsStateNumber.dormant dead refl
+    by true lives false off occupies occupied = IsStateNumber.waits lives (λ is. true≢false (sym (is_ready_by process.affinity process is) ∙ off)) refl
+    by true lives true readies true occupied = IsStateNumber.running (ready_is process.affinity process readies) (occupant_is who (occupant_of cores process.affinity) occupied) refl
+    by true lives true readies false other =
+        IsStateNumber.ready (ready_is process.affinity process readies) (λ is. true≢false (sym (occupant_by who (occupant_of cores process.affinity) is) ∙ other)) refl
+
+state_is : (cores : List CoreState) (who : Who) (process : Process) (number : ℕ) → IsStateNumber cores who process number → number ≡ state_number cores who process
+state_is cores who process number (IsStateNumber.dormant dead is) =
+    is ∙ sym (ap (λ alive. state_by alive (is_ready process.affinity process) (is_occupant who (occupant_of cores process.affinity))) dead)
+state_is cores who process number (IsStateNumber.waits lives not_ready is) =
+    is ∙ sym (λ i. state_by (lives i) (cannot_hold (is_ready process.affinity process) (λ readies. not_ready (ready_is process.affinity process readies)) i)
+    (is_occupant who (occupant_of cores process.affinity)))
+state_is cores who process number (IsStateNumber.running readies occupied is) =
+    is ∙ sym (λ i. state_by (readies.alive i) (is_ready_by process.affinity process readies i) (occupant_by who (occupant_of cores process.affinity) occupied i))
+state_is cores who process number (IsStateNumber.ready readies other is) =
+    is ∙ sym (λ i. state_by (readies.alive i) (is_ready_by process.affinity process readies i)
+    (cannot_hold (is_occupant who (occupant_of cores process.affinity)) (λ occupies. other (occupant_is who (occupant_of cores process.affinity) occupies)) i))
+
+process_says : (cores : List CoreState) (target : Who) (found : Option Process) (answer : Answer) → answer ≡ answer_by found (process_status cores target) → IsProcessStatus cores target found answer
+process_says cores target None answer gives = IsProcessStatus.nobody refl gives
+process_says cores target (Some process) answer gives = IsProcessStatus.of_process process (state_number cores target process) refl (state_says cores target process) gives
+
+process_by : (cores : List CoreState) (target : Who) (found : Option Process) (answer : Answer) → IsProcessStatus cores target found answer → answer ≡ answer_by found (process_status cores target)
+process_by cores target found answer (IsProcessStatus.of_process process number at state gives) =
+    gives ∙ ap (λ (one : ℕ). reporting (pos one) (Some (pos process.current_priority)) (Some (negsuc 0))) (state_is cores target process number state)
+    ∙ sym (ap (λ one. answer_by one (process_status cores target)) at)
+process_by cores target found answer (IsProcessStatus.nobody none gives) = gives ∙ sym (ap (λ one. answer_by one (process_status cores target)) none)
+
+-- every service
 pub answer_is_the_sentence : AnswerIsTheSentence
-answer_is_the_sentence now who partition (Request.Caller (CallerOperation.SuspendSelf time_out)) answer = over_or_waits (time_out ≡ pos 0) (is_over time_out) answer (over_tells time_out).0 (λ is. ap is_over is)
-answer_is_the_sentence now who partition (Request.Caller (CallerOperation.TimedWait ticks)) answer = over_or_waits (ticks ≡ pos 0) (is_over ticks) answer (over_tells ticks).0 (λ is. ap is_over is)
-answer_is_the_sentence now who partition (Request.Caller CallerOperation.PeriodicWait) answer =
-    over_or_waits (IsAtRelease now (item_at partition.table who.proc)) (is_released now (item_at partition.table who.proc)) answer
-    (release_is now (item_at partition.table who.proc)) (release_by now (item_at partition.table who.proc))
-answer_is_the_sentence now who partition (Request.Process process ProcessOperation.Resume) answer =
+answer_is_the_sentence cores core who partition (Request.Caller (CallerOperation.SuspendSelf time_out)) answer = over_or_waits (time_out ≡ pos 0) (is_over time_out) answer (over_tells time_out).0 (λ is. ap is_over is)
+answer_is_the_sentence cores core who partition (Request.Caller (CallerOperation.TimedWait ticks)) answer = over_or_waits (ticks ≡ pos 0) (is_over ticks) answer (over_tells ticks).0 (λ is. ap is_over is)
+answer_is_the_sentence cores core who partition (Request.Caller CallerOperation.PeriodicWait) answer =
+    over_or_waits (IsAtRelease (time_of cores core) (item_at partition.table who.proc)) (is_released (time_of cores core) (item_at partition.table who.proc)) answer
+    (release_is (time_of cores core) (item_at partition.table who.proc)) (release_by (time_of cores core) (item_at partition.table who.proc))
+answer_is_the_sentence cores core who partition (Request.Process process ProcessOperation.Resume) answer =
     (resuming_says (peer who process) (created partition.table process) answer, resuming_by (peer who process) (created partition.table process) answer)
-answer_is_the_sentence now who partition _ answer = (λ gives. gives, λ gives. gives)
+answer_is_the_sentence cores core who partition (Request.Process process ProcessOperation.GetStatus) answer =
+    (process_says cores (peer who process) (created partition.table process) answer, process_by cores (peer who process) (created partition.table process) answer)
+answer_is_the_sentence cores core who partition (Request.Caller CallerOperation.GetPartitionStatus) answer = (partition_says partition answer, partition_by partition answer)
+answer_is_the_sentence cores core who partition _ answer = (λ gives. gives, λ gives. gives)
 
 pub creation_is_the_sentence : CreationIsTheSentence
-creation_is_the_sentence core name priority period = record {
+creation_is_the_sentence core name priority period time_capacity = record {
   name = refl;
   base_priority = refl;
   current_priority = refl;
   retained_priority = refl;
   affinity = refl;
   period = refl;
+  time_capacity = refl;
   alive = refl;
   suspended = refl;
   wait = refl;

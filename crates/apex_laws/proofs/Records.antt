@@ -10,12 +10,13 @@ use Rattle.apex_laws.proofs.Common.{channel_effect, channel_of, channel_set, con
 use Rattle.apex_laws.proofs.Common.{has_partition, initialising_process, is_channel, is_done, is_named, is_no_error, is_same, is_waiting, item_at, mode_by, never, objects_by, objects_called, objects_of, occupant_of, outcome_of}
 use Rattle.apex_laws.proofs.Common.{outcome_returned, own_partition, partition_by, partition_called, period_of, process_in, release_taken, released, renews, restart_by, restart_given, restart_of, returned, service_of, set_after}
 use Rattle.apex_laws.proofs.Common.{started_partition, stops, ticked, time_of, use_of, with_sets, without, woken_if_named}
+use Rattle.apex_laws.proofs.Common.{StartCondition, has_handler_by, message_of}
 use Rattle.apex_laws.proofs.Booleans.{by_test, cannot_hold, either_way, impossible, is_itself, never_found, not_first, one_item, other_holds}
 use Rattle.apex_laws.proofs.Codes.{no_error_is_done, not_done}
 use Rattle.apex_laws.proofs.Keeps.{same_sets}
 use Rattle.apex_laws.proofs.Objects.{each_itself, each_set_each, each_set_holds, Leaves}
 use Rattle.apex_laws.proofs.ProcessRules.{due_is_the_sentence, release_is_the_sentence}
-use Rattle.apex_laws.proofs.Restarts.{goes_on, not_done_goes_on, restart_ends, restarts_none, restarts_other, return_case, woken_if_named_table}
+use Rattle.apex_laws.proofs.Restarts.{goes_on, not_done_goes_on, restart_ends, restarts_none, restarts_other, return_case, woken_table}
 use Rattle.apex_laws.proofs.SetNames.{ends_kept}
 use Rattle.apex_laws.proofs.Tables.{core_changes, core_stays, count_stays, gives_occupant, gives_time, stays_each, turns_each}
 use Rattle.apex_laws.proofs.Untouched.{each_stays, not_woken_if_named}
@@ -294,7 +295,7 @@ set_left place call not_so nobody wanted entries =
 
 -- no process is created
 none_created : (core : ℕ) (call : CallRecord) (asked : Request) → is_done call.claim.out ≡ false → created_by core call asked ≡ []
-none_created core call (Request.CreateProcess name priority period) not_so = rw not_so refl
+none_created core call (Request.CreateProcess name priority period time_capacity) not_so = rw not_so refl
 none_created core call _ not_so = refl
 
 -- the caller of a refused call
@@ -333,7 +334,8 @@ refused_rest configuration cores place core call partition not_so nobody =
     ap (λ test. each_set (set_after place (Call call)) (cond test (objects_by configuration call.who call.claim.val call.request partition) partition)) not_so
     ∙ sets_same (set_after place (Call call)) partition (set_left place call not_so nobody) in
     let same_mode : cond (is_done call.claim.out) (mode_by call.request partition.mode) partition.mode ≡ partition.mode = rw not_so refl in
-    λ i. record (objects i) { mode = same_mode i; table = (partition_called configuration cores place core call partition).table }
+    let same_handler : cond (is_done call.claim.out) (has_handler_by call.request partition.has_handler) partition.has_handler ≡ partition.has_handler = rw not_so refl in
+    λ i. record (objects i) { mode = same_mode i; has_handler = same_handler i; table = (partition_called configuration cores place core call partition).table }
 
 -- the caller among the processes of its partition
 caller_is : (place now period : ℕ) (cores : List CoreState) (partition : Partition) (call : CallRecord) (process : Process) → is_done call.claim.out ≡ false
@@ -344,22 +346,22 @@ caller_is place now period cores partition call process not_so = rw (is_itself c
 
 foreign_stays : (configuration : Configuration) (place core : ℕ) (call : CallRecord) → call.claim.woken ≡ [] → (state next : State) (other : Who)
     → next.partitions other.part ≡ cond (nat_eq call.who.part other.part) (own_partition (restart_of call) configuration state.cores place core call (state.partitions other.part))
-    (record (state.partitions other.part) { table = woken_if_named_table place call other.part (state.partitions other.part).table })
+    (record (state.partitions other.part) { table = woken_table place other.part (message_of call.request) call.claim.woken (state.partitions other.part).table })
     → nat_eq call.who.part other.part ≡ false → process_in next other ≡ process_in state other
 foreign_stays configuration place core call nobody state next other is elsewhere =
     let there = is ∙ ap (λ test. cond test (own_partition (restart_of call) configuration state.cores place core call (state.partitions other.part))
-    (record (state.partitions other.part) { table = woken_if_named_table place call other.part (state.partitions other.part).table })) elsewhere in
+    (record (state.partitions other.part) { table = woken_table place other.part (message_of call.request) call.claim.woken (state.partitions other.part).table })) elsewhere in
     ap (λ (found : Partition). item_at found.table other.proc) there
-    ∙ stays_each (λ number process. woken_if_named place call (record { part = other.part; proc = number }) process) (state.partitions other.part).table other.proc
+    ∙ stays_each (λ number process. woken_if_named place (message_of call.request) call.claim.woken (record { part = other.part; proc = number }) process) (state.partitions other.part).table other.proc
     (λ process at. (let named : is_named other call.claim.woken ≡ false = ap (is_named other) nobody in rw named refl))
 
 pub foreign_rest : (configuration : Configuration) (place core : ℕ) (call : CallRecord) (state next : State) (number : ℕ)
     → next.partitions number ≡ cond (nat_eq call.who.part number) (own_partition (restart_of call) configuration state.cores place core call (state.partitions number))
-    (record (state.partitions number) { table = woken_if_named_table place call number (state.partitions number).table })
+    (record (state.partitions number) { table = woken_table place number (message_of call.request) call.claim.woken (state.partitions number).table })
     → nat_eq call.who.part number ≡ false → next.partitions number ≡ record (state.partitions number) { table = (next.partitions number).table }
 foreign_rest configuration place core call state next number is elsewhere =
     let there = is ∙ ap (λ test. cond test (own_partition (restart_of call) configuration state.cores place core call (state.partitions number))
-    (record (state.partitions number) { table = woken_if_named_table place call number (state.partitions number).table })) elsewhere in
+    (record (state.partitions number) { table = woken_table place number (message_of call.request) call.claim.woken (state.partitions number).table })) elsewhere in
     there ∙ ap (λ (found : Partition). let back : Partition = record (state.partitions number) { table = found.table } in back) (sym there)
 
 pub refusal_is_the_sentence : RefusalIsTheSentence
@@ -381,7 +383,7 @@ refusal_is_the_sentence configuration state ordered call next step is some =
     let more = created_by (first_core configuration call.who.part) call call.request in
     let own : next.partitions call.who.part ≡ partition_called configuration state.cores place core call (state.partitions call.who.part) =
     partitions call.who.part ∙ ap (λ test. cond test (own_partition (restart_of call) configuration state.cores place core call (state.partitions call.who.part))
-    (record (state.partitions call.who.part) { table = each_item (λ other process. woken_if_named place call (record { part = call.who.part; proc = other }) process) table })) (is_itself call.who.part)
+    (record (state.partitions call.who.part) { table = each_item (λ other process. woken_if_named place (message_of call.request) call.claim.woken (record { part = call.who.part; proc = other }) process) table })) (is_itself call.who.part)
     ∙ ap (λ one. own_partition one configuration state.cores place core call (state.partitions call.who.part)) (not_done_goes_on call not_so) in
     let all : each_item change table ++ more ≡ each_item change table = ap (λ rest. each_item change table ++ rest) (none_created (first_core configuration call.who.part) call call.request not_so) ∙ append-nil (each_item change table) in
     record {
@@ -511,16 +513,18 @@ says configuration state ordered call mode next step is restarted =
     let partition = state.partitions part in
     let restart = restart_is call.request call.claim.out mode restarted in
     let law = lawful_body configuration state ordered next (Call call) step is in
-    let quiet = silent (conditions_of configuration call.who partition call.request) (channel_of partition call.request) (answer_of (time_of state.cores core) call.who partition call.request)
-    _ _ call.claim (ap (channel_of partition) restart.asks) (ap (answer_of (time_of state.cores core) call.who partition) restart.asks) restart.never law.outcome in
+    let quiet = silent (conditions_of configuration call.who partition call.request) (channel_of partition call.request) (answer_of state.cores core call.who partition call.request)
+    _ _ call.claim (ap (channel_of partition) restart.asks) (ap (answer_of state.cores core call.who partition) restart.asks) restart.never law.outcome in
     let partitions = next_partition configuration state ordered next (Call call) step is in
     let channels = next_channel configuration state ordered next (Call call) step is in
-    let own : next.partitions part ≡ started_partition mode configuration part place =
+    let own : next.partitions part ≡ started_partition StartCondition.PartitionRestart mode configuration part place =
     partitions part
-    ∙ ap (λ test. cond test (own_partition (restart_of call) configuration state.cores place core call partition) (record partition { table = woken_if_named_table place call part partition.table })) (is_itself part)
+    ∙ ap (λ test. cond test (own_partition (restart_of call) configuration state.cores place core call partition) (record partition { table = woken_table place part (message_of call.request) call.claim.woken partition.table })) (is_itself part)
     ∙ ap (λ one. own_partition one configuration state.cores place core call partition) restarted in
     record {
       mode = ap (λ (one : Partition). one.mode) own;
+      start = ap (λ (one : Partition). one.start) own;
+      handler = ap (λ (one : Partition). one.has_handler) own;
       processes = subst (IsStart mode (first_core configuration part) place) (sym (ap (λ (one : Partition). one.table) own)) (starts mode (first_core configuration part) place);
       buffers = ap (λ (one : Partition). one.buffers) own;
       blackboards = ap (λ (one : Partition). one.blackboards) own;
@@ -533,10 +537,10 @@ says configuration state ordered call mode next step is restarted =
           let foreign : nat_eq part number ≡ false = cannot_hold (nat_eq part number) (λ same. there (sym (eqb-true part number same))) in
           partitions number
           ∙ ap (λ test. cond test (own_partition (restart_of call) configuration state.cores place core call (state.partitions number))
-          (record (state.partitions number) { table = woken_if_named_table place call number (state.partitions number).table })) foreign
+          (record (state.partitions number) { table = woken_table place number (message_of call.request) call.claim.woken (state.partitions number).table })) foreign
           ∙ ap (λ (table : Table). let other : Partition = record (state.partitions number) { table = table } in other)
-          (each_stays (λ other process. woken_if_named place call (record { part = number; proc = other }) process) (state.partitions number).table
-          (λ other process. not_woken_if_named place call (record { part = number; proc = other }) process (quiet.nobody (record { part = number; proc = other }))));
+          (each_stays (λ other process. woken_if_named place (message_of call.request) call.claim.woken (record { part = number; proc = other }) process) (state.partitions number).table
+          (λ other process. not_woken_if_named place (message_of call.request) call.claim.woken (record { part = number; proc = other }) process (quiet.nobody (record { part = number; proc = other }))));
       contents = λ number. ap (λ (one : Channel). one.content) (channels number)
           ∙ ap (λ test. cond test (channel_effect configuration (time_of state.cores core) number call.who.part (use_of call.request) (state.channels number)).next (state.channels number).content)
           (ap (is_channel number) quiet.no_channel);

@@ -5,6 +5,8 @@ use Rattle.apex_types.specs.declared.object_kind.ObjectKind.TheVariants as kind
 use Rattle.apex_laws.proofs.Common.{Call, CallRecord, Configuration, CoreState, Mode, ObjectKind, Out, Partition, Request, Ret, Return, Table, WaitingSet, Who, are_distinct, each_item, ends_wait, entries_at, entries_at_end, entries_in}
 use Rattle.apex_laws.proofs.Common.{first_processes, initialising_process, is_done, is_named, is_no_error, is_waiting, item_at, objects_by, objects_of, own_partition, partition_by, partition_called, restart_by, restart_of, restarts}
 use Rattle.apex_laws.proofs.Common.{returned, started_partition, stops, waits_at, woken_if_named}
+use Rattle.apex_laws.proofs.Common.{StartCondition}
+use Rattle.apex_laws.proofs.Common.{message_of}
 use Rattle.apex_laws.proofs.Booleans.{by_test, neither, neither_first, neither_later, never_found, not_first, not_second}
 
 -- the caller's partition
@@ -12,7 +14,7 @@ use Rattle.apex_laws.proofs.Booleans.{by_test, neither, neither_first, neither_l
 -- what holds of the caller's partition after a call: by whether the call restarts it
 own_case : (Holds : Partition → Type 0) (configuration : Configuration) (cores : List CoreState) (place core : ℕ) (call : CallRecord) (partition : Partition)
     → (restart_of call ≡ None → Holds (partition_called configuration cores place core call partition))
-    → ((mode : Mode) → restart_of call ≡ Some mode → Holds (started_partition mode configuration call.who.part place))
+    → ((mode : Mode) → restart_of call ≡ Some mode → Holds (started_partition StartCondition.PartitionRestart mode configuration call.who.part place))
     → Holds (own_partition (restart_of call) configuration cores place core call partition)
 own_case Holds configuration cores place core call partition goes_on restarted = by (restart_of call) refl
   where
@@ -27,18 +29,18 @@ pub done_case : (Holds : Partition → Type 0) (configuration : Configuration) (
 done_case Holds configuration call partition used stays =
     by_test Holds (is_done call.claim.out) (objects_by configuration call.who call.claim.val call.request partition) partition used (λ not_done. stays)
 
--- the processes of another partition after a call, with those woken that the call names
-abbrev pub woken_if_named_table : ℕ → CallRecord → ℕ → Table → Table
-woken_if_named_table place call number table = each_item (λ other process. woken_if_named place call (record { part = number; proc = other }) process) table
+-- the processes of a partition after a record of others, with those woken that it names
+abbrev pub woken_table : ℕ → ℕ → List ℕ → List Who → Table → Table
+woken_table place number message woken table = each_item (λ other process. woken_if_named place message woken (record { part = number; proc = other }) process) table
 
 -- what holds of a partition after a call: by whether it is a call of one of its processes, and whether that restarts it
 pub call_case : (Holds : Partition → Type 0) (configuration : Configuration) (cores : List CoreState) (place core number : ℕ) (call : CallRecord) (partition : Partition)
     → (nat_eq call.who.part number ≡ true → restart_of call ≡ None → Holds (partition_called configuration cores place core call partition))
-    → (nat_eq call.who.part number ≡ true → (mode : Mode) → restart_of call ≡ Some mode → Holds (started_partition mode configuration call.who.part place))
-    → (nat_eq call.who.part number ≡ false → Holds (record partition { table = woken_if_named_table place call number partition.table }))
+    → (nat_eq call.who.part number ≡ true → (mode : Mode) → restart_of call ≡ Some mode → Holds (started_partition StartCondition.PartitionRestart mode configuration call.who.part place))
+    → (nat_eq call.who.part number ≡ false → Holds (record partition { table = woken_table place number (message_of call.request) call.claim.woken partition.table }))
     → Holds (partition_by configuration cores place core number (Call call) partition)
 call_case Holds configuration cores place core number call partition goes_on restarted foreign =
-    by_test Holds (nat_eq call.who.part number) (own_partition (restart_of call) configuration cores place core call partition) (record partition { table = woken_if_named_table place call number partition.table })
+    by_test Holds (nat_eq call.who.part number) (own_partition (restart_of call) configuration cores place core call partition) (record partition { table = woken_table place number (message_of call.request) call.claim.woken partition.table })
     (λ own. own_case Holds configuration cores place core call partition (goes_on own) (restarted own)) foreign
 
 -- what holds of a partition after a return
@@ -124,10 +126,10 @@ start_distinct Mode.Idle core place = refl
 start_distinct _ core place = refl
 
 -- its sets are empty
-pub start_set : (mode : Mode) (configuration : Configuration) (number place : ℕ) (wanted : WaitingSet) → entries_at (started_partition mode configuration number place) wanted ≡ []
-start_set mode configuration number place wanted = none_of wanted.kind
+pub start_set : (start : StartCondition) (mode : Mode) (configuration : Configuration) (number place : ℕ) (wanted : WaitingSet) → entries_at (started_partition start mode configuration number place) wanted ≡ []
+start_set start mode configuration number place wanted = none_of wanted.kind
   where
-    none_of : (one : ObjectKind) → entries_in (entries_at_end one wanted.end) (item_at (objects_of (started_partition mode configuration number place) one) wanted.number) ≡ []
+    none_of : (one : ObjectKind) → entries_in (entries_at_end one wanted.end) (item_at (objects_of (started_partition start mode configuration number place) one) wanted.number) ≡ []
     none_of kind.Buffer = refl
     none_of _ = refl
 

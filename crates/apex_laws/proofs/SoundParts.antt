@@ -1,5 +1,5 @@
 -- A partition stays sound, by its own demands.
-use Rattle.std.proofs.Common.{◌≡◌, ℕ, suc, ◌+◌, ◌<◌, ◌≤◌, List, [], ◌∷◌, ◌++◌, true, false, cond, nat_eq, ℤ, Option, Some, None, IsTrue, refl, sym, ap, subst, ◌∙◌, arith, true≢false}
+use Rattle.std.proofs.Common.{◌≡◌, ℕ, suc, ◌+◌, ◌<◌, ◌≤◌, List, [], ◌∷◌, ◌++◌, Bool, true, false, cond, nat_eq, ℤ, Option, Some, None, IsTrue, refl, sym, ap, subst, ◌∙◌, arith, true≢false}
 use Rattle.std.proofs.lemmas.Bool.{eqb-true}
 use Rattle.std.proofs.lemmas.List.{append-nil}
 use Rattle.apex_types.specs.declared.object_kind.ObjectKind.TheVariants as kind
@@ -8,13 +8,14 @@ use Rattle.apex_laws.proofs.Common.{PartStaysSound, QueuingOperation, Receivers,
 use Rattle.apex_laws.proofs.Common.{channel_set, cold_partition, conditions_of, each_item, each_set, ends_wait, entries_at, first_core, has_entry_in, is_done, is_free, is_named, is_new, is_of_channel, is_same, item_at, kind_of, kind_used}
 use Rattle.apex_laws.proofs.Common.{new_object, numbered_if, objects_by, objects_called, objects_of, outcome_demands, own_call_demands, partition_by, partition_called, partition_demands, returned, set_after, started_partition, ticked}
 use Rattle.apex_laws.proofs.Common.{time_of, waits_at}
+use Rattle.apex_laws.proofs.Common.{Arrive, Depart, StartCondition, message_of}
 use Rattle.apex_laws.proofs.Booleans.{cannot_hold, differs_back, either_way, holds_if, never_found, other_holds}
 use Rattle.apex_laws.proofs.Choices.{choice_exists, FoundReady, ready_waits_not}
 use Rattle.apex_laws.proofs.Codes.{not_done}
 use Rattle.apex_laws.proofs.Exact.{not_stopped, object_has_entry}
 use Rattle.apex_laws.proofs.Keeps.{CallsClaimValues, CallsReady, distinct_by, distinct_new, each_entry, entered_waits, EntersWith, IsElsewhere, IsReadyCall, keeps_waiting, leaves, one_set_after}
 use Rattle.apex_laws.proofs.Objects.{of_objects}
-use Rattle.apex_laws.proofs.Restarts.{call_case, done_case, goes_on, restarts_other, return_case, start_set, start_waits_not, woken_if_named_table}
+use Rattle.apex_laws.proofs.Restarts.{call_case, done_case, goes_on, restarts_other, return_case, start_set, start_waits_not, woken_table}
 use Rattle.apex_laws.proofs.SetNames.{off_channel, put_holds}
 use Rattle.apex_laws.proofs.Stays.{EntersNew, none_in_order, set_stays_in_order}
 use Rattle.apex_laws.proofs.Tables.{distinct_each}
@@ -42,16 +43,16 @@ pub own_ready : (configuration : Configuration) (number core : ℕ) (cores : Lis
 own_ready configuration number core cores partition call distinct hold = record {
   ready = choice_exists number core partition.table call.who distinct hold.1.0.1;
   none = λ done. demands_none (conditions_of configuration call.who partition call.request) (channel_of partition call.request) number call.request
-      (answer_of (time_of cores core) call.who partition call.request) call.claim hold.1.1.1.1.1 done;
+      (answer_of cores core call.who partition call.request) call.claim hold.1.1.1.1.1 done;
 }
 
 -- and the value is the service's
 own_value : (configuration : Configuration) (number core : ℕ) (cores : List CoreState) (partition : Partition) (call : CallRecord)
     → AllHold (own_call_demands configuration number cores partition core call) → is_done call.claim.out ≡ true → channel_of partition call.request ≡ None
-    → HasValue (answer_of (time_of cores core) call.who partition call.request).val call.claim.val
+    → HasValue (answer_of cores core call.who partition call.request).val call.claim.val
 own_value configuration number core cores partition call hold done off =
     let conditions = conditions_of configuration call.who partition call.request in
-    let answer = answer_of (time_of cores core) call.who partition call.request in
+    let answer = answer_of cores core call.who partition call.request in
     demands_value conditions (channel_of partition call.request) number call.request answer call.claim
     (demands_none conditions (channel_of partition call.request) number call.request answer call.claim hold.1.1.1.1.1 done)
     off hold.1.1.1.1.1
@@ -87,6 +88,8 @@ named_across (Request.QueuingPort port (QueuingOperation.Send length time_out me
     (channel_set channel Receivers, refl, named_wait (channel_set channel Receivers) number table others wakes who here named)
 named_across (Request.QueuingPort port (QueuingOperation.Receive time_out)) (Some channel) number table others wakes who here named =
     (channel_set channel Senders, refl, named_wait (channel_set channel Senders) number table others wakes who here named)
+named_across (Request.QueuingPort port QueuingOperation.Clear) (Some channel) number table others wakes who here named =
+    (channel_set channel Senders, refl, named_wait (channel_set channel Senders) number table others wakes who here named)
 named_across _ chan number table others wakes who here named = absurd wakes
 
 -- so a call of another partition ends none of their waits
@@ -104,10 +107,11 @@ foreign_stays configuration number core cores partition call elsewhere hold want
 
 -- numbers
 
--- a partition with other processes or another mode
-with_table : (partition : Partition) (mode : Mode) (table : Table) → HasDistinctObjects partition → HasDistinctObjects (record partition { mode = mode; table = table })
-with_table partition mode table has kind.Buffer = has kind.Buffer
-with_table partition mode table has other = has other
+-- a partition with other processes, another mode, or an error handler
+with_table : (partition : Partition) (mode : Mode) (handler : Bool) (table : Table) → HasDistinctObjects partition
+    → HasDistinctObjects (record partition { mode = mode; has_handler = handler; table = table })
+with_table partition mode handler table has kind.Buffer = has kind.Buffer
+with_table partition mode handler table has other = has other
 
 -- what is created has a new number
 new_distinct : {Object : Type 0} (objects : List (ℕ × Object)) (claimed : Option ℤ) (made : Option Object) → are_distinct objects ≡ true → is_new (is_free objects) claimed ≡ true
@@ -116,18 +120,18 @@ new_distinct objects claimed None distinct fresh = ap are_distinct (append-nil o
 new_distinct objects claimed (Some new) distinct fresh = distinct_new objects claimed new distinct fresh
 
 -- so it is with the objects of all kinds, and what is used keeps its number
-used_distinct : (configuration : Configuration) (now : ℕ) (who : Who) (claimed : Option ℤ) (asked : Request) (partition : Partition) → HasDistinctObjects partition
-    → (channel_of partition asked ≡ None → HasValue (answer_of now who partition asked).val claimed) → HasDistinctObjects (objects_by configuration who claimed asked partition)
-used_distinct configuration now who claimed (Request.Create name object) partition has value other =
+used_distinct : (configuration : Configuration) (cores : List CoreState) (core : ℕ) (who : Who) (claimed : Option ℤ) (asked : Request) (partition : Partition) → HasDistinctObjects partition
+    → (channel_of partition asked ≡ None → HasValue (answer_of cores core who partition asked).val claimed) → HasDistinctObjects (objects_by configuration who claimed asked partition)
+used_distinct configuration cores core who claimed (Request.Create name object) partition has value other =
     put_holds (kind_of object) _ partition other (λ kind objects. are_distinct objects ≡ true)
     (λ same. new_distinct (objects_of partition (kind_of object)) claimed (new_object configuration who.part name object) (has (kind_of object)) (value refl)) (λ differs. has other)
-used_distinct configuration now who claimed (Request.Object number operation) partition has value other =
+used_distinct configuration cores core who claimed (Request.Object number operation) partition has value other =
     put_holds (kind_used operation) _ partition other (λ kind objects. are_distinct objects ≡ true)
     (λ same. distinct_each _ (objects_of partition (kind_used operation)) ∙ has (kind_used operation)) (λ differs. has other)
-used_distinct configuration now who claimed (Request.SamplingPort port SamplingOperation.Read) partition has value other =
+used_distinct configuration cores core who claimed (Request.SamplingPort port SamplingOperation.Read) partition has value other =
     put_holds kind.SamplingPort _ partition other (λ kind objects. are_distinct objects ≡ true)
     (λ same. distinct_each _ partition.sampling_ports ∙ has kind.SamplingPort) (λ differs. has other)
-used_distinct configuration now who claimed _ partition has value other = has other
+used_distinct configuration cores core who claimed _ partition has value other = has other
 
 -- a change of each set leaves the numbers
 pub sets_distinct : (change : WaitingSet → List Entry → List Entry) (partition : Partition) → HasDistinctObjects partition → HasDistinctObjects (each_set change partition)
@@ -136,26 +140,30 @@ sets_distinct change partition has kind.QueuingPort = has kind.QueuingPort
 sets_distinct change partition has other = distinct_each _ (objects_of partition other) ∙ has other
 
 -- the objects of a partition as it starts: none
-start_has_distinct : (entered : Mode) (configuration : Configuration) (number place : ℕ) → HasDistinctObjects (started_partition entered configuration number place)
-start_has_distinct entered configuration number place kind.Buffer = refl
-start_has_distinct entered configuration number place _ = refl
+start_has_distinct : (start : StartCondition) (entered : Mode) (configuration : Configuration) (number place : ℕ) → HasDistinctObjects (started_partition start entered configuration number place)
+start_has_distinct start entered configuration number place kind.Buffer = refl
+start_has_distinct start entered configuration number place _ = refl
 
 -- the objects of a partition after a record
 objects_distinct : (configuration : Configuration) (cores : List CoreState) (place core number : ℕ) (body : Body) (partition : Partition)
-    → CallsClaimValues number (time_of cores core) body partition → HasDistinctObjects partition → HasDistinctObjects (partition_by configuration cores place core number body partition)
+    → CallsClaimValues number cores core body partition → HasDistinctObjects partition → HasDistinctObjects (partition_by configuration cores place core number body partition)
 objects_distinct configuration cores place core number (Disp who) partition claims has = has
 objects_distinct configuration cores place core number (Tick woken) partition claims has =
-    with_table (each_set (set_after place (Tick woken)) partition) partition.mode (each_item (ticked place number woken) partition.table) (sets_distinct (set_after place (Tick woken)) partition has)
+    with_table (each_set (set_after place (Tick woken)) partition) partition.mode partition.has_handler (each_item (ticked place number woken) partition.table) (sets_distinct (set_after place (Tick woken)) partition has)
 objects_distinct configuration cores place core number (Ret ret) partition claims has =
-    return_case HasDistinctObjects configuration cores place core number ret partition (with_table partition partition.mode (each_item (returned ret.who.proc) partition.table) has) has
+    return_case HasDistinctObjects configuration cores place core number ret partition (with_table partition partition.mode partition.has_handler (each_item (returned ret.who.proc) partition.table) has) has
 objects_distinct configuration cores place core number (Call call) partition claims has =
     let after : Partition = partition_called configuration cores place core call partition in
     call_case HasDistinctObjects configuration cores place core number call partition
-    (λ own none. with_table (objects_called configuration place call partition) after.mode after.table (sets_distinct (set_after place (Call call))
+    (λ own none. with_table (objects_called configuration place call partition) after.mode after.has_handler after.table (sets_distinct (set_after place (Call call))
     (cond (is_done call.claim.out) (objects_by configuration call.who call.claim.val call.request partition) partition)
-    (done_case HasDistinctObjects configuration call partition (λ done. used_distinct configuration (time_of cores core) call.who call.claim.val call.request partition has (claims own done)) has)))
-    (λ own mode is. start_has_distinct mode configuration call.who.part place)
-    (λ elsewhere. with_table partition partition.mode (woken_if_named_table place call number partition.table) has)
+    (done_case HasDistinctObjects configuration call partition (λ done. used_distinct configuration cores core call.who call.claim.val call.request partition has (claims own done)) has)))
+    (λ own mode is. start_has_distinct StartCondition.PartitionRestart mode configuration call.who.part place)
+    (λ elsewhere. with_table partition partition.mode partition.has_handler (woken_table place number (message_of call.request) call.claim.woken partition.table) has)
+objects_distinct configuration cores place core number (Arrive crossing) partition claims has =
+    with_table partition partition.mode partition.has_handler (woken_table place number crossing.message crossing.woken partition.table) has
+objects_distinct configuration cores place core number (Depart crossing) partition claims has =
+    with_table partition partition.mode partition.has_handler (woken_table place number [] crossing.woken partition.table) has
 
 -- the sets
 
@@ -186,7 +194,20 @@ enters_waiting configuration cores place core number (Call call) partition wante
     )
 enters_waiting configuration cores place core number _ partition wanted ready own = tt
 
--- an entry at a call of another partition
+-- an entry at a record that ends waits in a channel's set alone
+crossed_waiting : (configuration : Configuration) (cores : List CoreState) (place core number : ℕ) (body : Body) (partition : Partition) (wanted : WaitingSet)
+    → CallsReady configuration core number body partition → (channel : WaitingSet) → is_of_channel channel ≡ true
+    → ((who : Who) → who.part ≡ number → leaves body who ≡ true → waits_at channel (item_at partition.table who.proc) ≡ true)
+    → AllEntries (WaitsInSet number wanted partition) (entries_at partition wanted)
+    → AllEntries (WaitsInSet number wanted (partition_by configuration cores place core number body partition)) (entries_at partition wanted)
+crossed_waiting configuration cores place core number body partition wanted ready channel is_channels waits all =
+    let Then : Entry → Type 0 = WaitsInSet number wanted (partition_by configuration cores place core number body partition) in
+    of_objects Then partition wanted (λ off. all_weaker (WaitsInSet number wanted partition) Then
+    (λ entry is. stays_waiting configuration cores place core number body partition wanted ready entry
+    (cannot_hold (leaves body entry.who) (λ named.
+    true≢false (sym is_channels ∙ off_channel wanted channel (item_at partition.table entry.who.proc) off is.1 (waits entry.who is.0 named)))) is) (entries_at partition wanted) all)
+
+-- an entry at a call of another partition, at an arrival or at a departure
 foreign_waiting : (configuration : Configuration) (cores : List CoreState) (place core number : ℕ) (body : Body) (partition : Partition) (wanted : WaitingSet)
     → CallsReady configuration core number body partition → AllHold (partition_demands configuration number cores partition core body) → IsElsewhere number body
     → AllEntries (WaitsInSet number wanted partition) (entries_at partition wanted)
@@ -196,6 +217,12 @@ foreign_waiting configuration cores place core number (Call call) partition want
     of_objects Then partition wanted (λ off. all_weaker (WaitsInSet number wanted partition) Then
     (λ entry is. stays_waiting configuration cores place core number (Call call) partition wanted ready entry
     (foreign_stays configuration number core cores partition call elsewhere hold wanted off entry.who is.0 is.1) is) (entries_at partition wanted) all)
+foreign_waiting configuration cores place core number (Arrive crossing) partition wanted ready hold elsewhere all =
+    crossed_waiting configuration cores place core number (Arrive crossing) partition wanted ready (channel_set crossing.chan Receivers) refl
+    (λ who here named. named_wait (channel_set crossing.chan Receivers) number partition.table crossing.woken hold.0 who here named) all
+foreign_waiting configuration cores place core number (Depart crossing) partition wanted ready hold elsewhere all =
+    crossed_waiting configuration cores place core number (Depart crossing) partition wanted ready (channel_set crossing.chan Senders) refl
+    (λ who here named. named_wait (channel_set crossing.chan Senders) number partition.table crossing.woken hold.0 who here named) all
 foreign_waiting configuration cores place core number _ partition wanted ready hold elsewhere all = absurd elsewhere
 
 -- a process that is ready has an entry in no set
@@ -215,7 +242,7 @@ own_caller_new configuration number place core _ partition sound ready wanted ow
 
 -- a record's own calls claim their values
 calls_claim : (configuration : Configuration) (number core : ℕ) (cores : List CoreState) (partition : Partition) (body : Body)
-    → AllHold (partition_demands configuration number cores partition core body) → CallsClaimValues number (time_of cores core) body partition
+    → AllHold (partition_demands configuration number cores partition core body) → CallsClaimValues number cores core body partition
 calls_claim configuration number core cores partition (Call call) hold =
     λ own done off. own_value configuration number core cores partition call (own_holds configuration number core cores partition call own hold) done off
 calls_claim configuration number core cores partition _ hold = tt
@@ -263,9 +290,9 @@ sound_later number place later partition most sound = record {
 
 cold_sound : (configuration : Configuration) (number place : ℕ) → IsSoundPart number place (cold_partition configuration number)
 cold_sound configuration number place =
-    let empty : (wanted : WaitingSet) → entries_at (cold_partition configuration number) wanted ≡ [] = start_set Mode.ColdStart configuration number 0 in record {
+    let empty : (wanted : WaitingSet) → entries_at (cold_partition configuration number) wanted ≡ [] = start_set StartCondition.NormalStart Mode.ColdStart configuration number 0 in record {
       distinct = refl;
-      objects = start_has_distinct Mode.ColdStart configuration number 0;
+      objects = start_has_distinct StartCondition.NormalStart Mode.ColdStart configuration number 0;
       is_member = λ wanted. subst (AllEntries (WaitsInSet number wanted (cold_partition configuration number))) (sym (empty wanted)) tt;
       order = λ wanted. subst (IsInOrder place) (sym (empty wanted)) (none_in_order place);
       waiters = λ wanted process off waits. absurd (start_waits_not Mode.ColdStart (first_core configuration number) 0 process wanted waits);

@@ -1,11 +1,13 @@
 -- A run's states stay tied, and their waiting sets in order.
-use Rattle.std.proofs.Common.{◌≡◌, ℕ, List, [], ◌∷◌, true, false, nat_eq, Option, Some, None, IsTrue, refl, sym, subst, ◌∙◌, true≢false, ◌&&◌, suc, ◌<◌, ◌++◌, Bool, arith}
+use Rattle.std.proofs.Common.{◌≡◌, ℕ, List, [], ◌∷◌, true, false, nat_eq, Option, Some, None, IsTrue, refl, sym, ap, subst, ◌∙◌, true≢false, ◌&&◌, suc, ◌<◌, ◌++◌, Bool, arith}
 use Rattle.std.proofs.lemmas.Bool.{eqb-true, eq-eqb}
 use Rattle.apex_types.specs.declared.object_kind.ObjectKind.TheVariants as kind
 use Rattle.apex_laws.proofs.Common.{AllEntries, AllPairs, AllPorts, AreApart, AreTied, Body, Call, CallRecord, Condition, Configuration, CoreState, Disp, End, Entry, IsAtEnd, IsEarlier, IsInOrder, IsLawfulBody, IsLawfulCall, IsTied, Mode}
 use Rattle.apex_laws.proofs.Common.{ObjectKind, Ordered, OrderIsApart, Partition, QueuingOperation, Receivers, Request, Ret, Run, Senders, SetsAreInOrder, State, StaysInOrder, StaysTied, Step, Tick, WaitingSet, WaitsIn, Who, channel_of}
 use Rattle.apex_laws.proofs.Common.{channel_set, cold_state, conditions_of, ends_wait, enters, entries_at, entry_of, has_entry_in, is_named, is_no_error, is_of_channel, is_receiver, is_same, is_sender, is_target, objects_by, partition_by}
 use Rattle.apex_laws.proofs.Common.{partition_called, set_after, stop_of, time_of, waits_at, without}
+use Rattle.apex_laws.proofs.Common.{Arrive, Depart, End, StartCondition}
+use Rattle.apex_laws.proofs.Wakes.{WaitsThere, arrival_wakes, departure_wakes, waits_nowhere_else}
 use Rattle.apex_laws.proofs.Booleans.{by_test, cannot_hold, holds_if, neither_first, neither_later, never_found, not_first, not_second}
 use Rattle.apex_laws.proofs.Demanded.{across, caller_in_no_set, WaitsAcross}
 use Rattle.apex_laws.proofs.Ends.{port_is_at_end, ports_after, WaitsAtEnd}
@@ -66,19 +68,21 @@ not_across (Request.QueuingPort port (QueuingOperation.Send length time_out mess
     true≢false (off_channel wanted (channel_set channel Receivers) (found partitions who) off waits across.1)
 not_across (Request.QueuingPort port (QueuingOperation.Receive time_out)) partitions configuration channel wanted who off waits across =
     true≢false (off_channel wanted (channel_set channel Senders) (found partitions who) off waits across.1)
+not_across (Request.QueuingPort port QueuingOperation.Clear) partitions configuration channel wanted who off waits across =
+    true≢false (off_channel wanted (channel_set channel Senders) (found partitions who) off waits across.1)
 not_across _ partitions configuration channel wanted who off waits across = across
 
 -- so who waits in a set of this partition isn't named
-not_named_here : (configuration : Configuration) (state : State) (now : ℕ) (call : CallRecord) (number : ℕ) → AreTied configuration state → nat_eq call.who.part number ≡ false
-    → (conditions : List Condition) (channel : Option ℕ) → ClaimsOutcome configuration state now call.who call.request call.claim conditions channel
+not_named_here : (configuration : Configuration) (state : State) (core : ℕ) (call : CallRecord) (number : ℕ) → AreTied configuration state → nat_eq call.who.part number ≡ false
+    → (conditions : List Condition) (channel : Option ℕ) → ClaimsOutcome configuration state core call.who call.request call.claim conditions channel
     → (wanted : WaitingSet) → is_of_channel wanted ≡ false → (who : Who) → who.part ≡ number → waits_at wanted (found state.partitions who) ≡ true → is_named who call.claim.woken ≡ true → ⊥
-not_named_here configuration state now call number tied elsewhere (condition ∷ conditions) channel has wanted off who here waits named = nobody who call.claim.woken has.woken named
-not_named_here configuration state now call number tied elsewhere [] None has wanted off who here waits named =
-    let by = woken configuration state now call.who call.request call.claim tied [] None has who named in
+not_named_here configuration state core call number tied elsewhere (condition ∷ conditions) channel has wanted off who here waits named = nobody who call.claim.woken has.woken named
+not_named_here configuration state core call number tied elsewhere [] None has wanted off who here waits named =
+    let by = woken configuration state core call.who call.request call.claim tied [] None has who named in
     true≢false (sym (eq-eqb call.who.part number (sym (by.own has.chan) ∙ here)) ∙ elsewhere)
-not_named_here configuration state now call number tied elsewhere [] (Some channel) has wanted off who here waits named =
+not_named_here configuration state core call number tied elsewhere [] (Some channel) has wanted off who here waits named =
     not_across call.request state.partitions configuration channel wanted who off waits
-    (across configuration state now channel call.who.part call.request tied has.kind who (sym (has.woken who) ∙ named))
+    (across configuration state (time_of state.cores core) channel call.who.part call.request tied has.kind who (sym (has.woken who) ∙ named))
 
 -- an entry of a set of this partition stays
 stays_here : (configuration : Configuration) (state : State) (core : ℕ) (call : CallRecord) → AreTied configuration state
@@ -90,11 +94,25 @@ stays_here configuration state core call tied law number elsewhere wanted off en
     true≢false (sym (eq-eqb call.who.part number (sym (eqb-true entry.who.part call.who.part same) ∙ is.0)) ∙ elsewhere)) in
     goes_on call entry.who (restarts_other call entry.who.part there)
     (cannot_hold (is_named entry.who call.claim.woken) (λ named.
-    not_named_here configuration state (time_of state.cores core) call number tied elsewhere
+    not_named_here configuration state core call number tied elsewhere
     (conditions_of configuration call.who (state.partitions call.who.part) call.request) (channel_of (state.partitions call.who.part) call.request) law.outcome
     wanted off entry.who is.0 is.1 named))
     (not_second (is_no_error call.claim.out) (nat_eq entry.who.part call.who.part && is_target (stop_of call.request) entry.who.proc)
     (not_first (nat_eq entry.who.part call.who.part) (is_target (stop_of call.request) entry.who.proc) there))
+
+-- a record that ends waits at a channel alone ends none in a set of a partition
+crossed_set : (configuration : Configuration) (state : State) (place core : ℕ) (body : Body) → AreTied configuration state
+    → IsLawfulBody configuration state core body → (number : ℕ) (wanted : WaitingSet) (end : End) (channel : ℕ)
+    → ((who : Who) → leaves body who ≡ true → WaitsThere state.partitions configuration channel end who)
+    → AllEntries (IsTied (λ home. home ≡ number) wanted state.partitions) (entries_at (state.partitions number) wanted)
+    → AllEntries (IsTied (λ home. home ≡ number) wanted (Next configuration state place core body)) (entries_at (state.partitions number) wanted)
+crossed_set configuration state place core body tied law number wanted end channel waits all =
+    of_objects (IsTied (λ home. home ≡ number) wanted (Next configuration state place core body)) (state.partitions number) wanted (λ off.
+    all_weaker (IsTied (λ home. home ≡ number) wanted state.partitions) (IsTied (λ home. home ≡ number) wanted (Next configuration state place core body))
+    (λ entry is. tied_after configuration state place core body tied law (λ home. home ≡ number) wanted entry
+    (cannot_hold (leaves body entry.who) (λ named.
+    true≢false (sym (ap is_of_channel (waits_nowhere_else state.partitions configuration channel end wanted entry.who (waits entry.who named) is.1)) ∙ off))) is)
+    (entries_at (state.partitions number) wanted) all)
 
 foreign_set : (configuration : Configuration) (state : State) (place core : ℕ) (body : Body) → AreTied configuration state
     → IsLawfulBody configuration state core body → (number : ℕ) → IsElsewhere number body → (wanted : WaitingSet)
@@ -106,6 +124,10 @@ foreign_set configuration state place core (Call call) tied law number elsewhere
     all_weaker (IsTied (λ home. home ≡ number) wanted state.partitions) Then
     (λ entry is. tied_after configuration state place core (Call call) tied law (λ home. home ≡ number) wanted entry
     (stays_here configuration state core call tied law number elsewhere wanted off entry is) is) (entries_at (state.partitions number) wanted) all)
+foreign_set configuration state place core (Arrive crossing) tied law number elsewhere wanted all =
+    crossed_set configuration state place core (Arrive crossing) tied law number wanted Receivers crossing.chan (arrival_wakes configuration state core crossing tied law) all
+foreign_set configuration state place core (Depart crossing) tied law number elsewhere wanted all =
+    crossed_set configuration state place core (Depart crossing) tied law number wanted Senders crossing.chan (departure_wakes configuration state core crossing tied law) all
 foreign_set configuration state place core _ tied law number elsewhere wanted all = absurd elsewhere
 
 -- a caller that enters a set of its partition is at home there
@@ -133,7 +155,7 @@ home_of configuration state core call tied law channel is =
   where
     by : (conditions : List Condition) → conditions_of configuration call.who (state.partitions call.who.part) call.request ≡ conditions
         → (of : Option ℕ) → channel_of (state.partitions call.who.part) call.request ≡ of
-        → ClaimsOutcome configuration state (time_of state.cores core) call.who call.request call.claim conditions of
+        → ClaimsOutcome configuration state core call.who call.request call.claim conditions of
         → WaitsAtEnd call.request configuration channel call.who.part
     by (condition ∷ conditions) none of at has = never_found (sym has.chan ∙ is)
     by [] none None at has = never_found (sym has.chan ∙ is)
@@ -181,6 +203,8 @@ ports_by configuration state place core (Disp who) number all = all
 ports_by configuration state place core (Tick woken) number all = all
 ports_by configuration state place core (Ret ret) number all =
     return_case (λ next. AllPorts (λ port. IsAtEnd configuration number port.direction port.channel) next.queuing_ports) configuration state.cores place core number ret (state.partitions number) all all
+ports_by configuration state place core (Arrive crossing) number all = all
+ports_by configuration state place core (Depart crossing) number all = all
 ports_by configuration state place core (Call call) number all =
     call_case (λ next. AllPorts (λ port. IsAtEnd configuration number port.direction port.channel) next.queuing_ports) configuration state.cores place core number call (state.partitions number)
     (λ own none. called_ports configuration state place core call number (eqb-true call.who.part number own) all) (λ own mode is. tt) (λ elsewhere. all)
@@ -222,7 +246,7 @@ run_keeps Fact step configuration (ordered ∷ others) state final tied fact run
 
 -- no entry is in a set of a cold partition
 cold_sets : (configuration : Configuration) (number : ℕ) (wanted : WaitingSet) (Fact : Entry → Type 0) → AllEntries Fact (entries_at ((cold_state configuration).partitions number) wanted)
-cold_sets configuration number wanted Fact = subst (AllEntries Fact) (sym (start_set Mode.ColdStart configuration number 0 wanted)) tt
+cold_sets configuration number wanted Fact = subst (AllEntries Fact) (sym (start_set StartCondition.NormalStart Mode.ColdStart configuration number 0 wanted)) tt
 
 -- the cold state is tied
 pub cold_tied : (configuration : Configuration) → AreTied configuration (cold_state configuration)
@@ -306,6 +330,10 @@ set_in_order count place (Disp who) wanted entries at new order = order_later co
 set_in_order count place (Ret ret) wanted entries at new order = order_later count entries order
 set_in_order count place (Tick woken) wanted entries at new order =
     order_later count (without (λ who. is_named who woken) entries) (order_without count (λ who. is_named who woken) entries order)
+set_in_order count place (Arrive crossing) wanted entries at new order =
+    order_later count (without (λ who. is_named who crossing.woken) entries) (order_without count (λ who. is_named who crossing.woken) entries order)
+set_in_order count place (Depart crossing) wanted entries at new order =
+    order_later count (without (λ who. is_named who crossing.woken) entries) (order_without count (λ who. is_named who crossing.woken) entries order)
 set_in_order count place (Call call) wanted entries at new order =
     let rest = order_without count (ends_wait call) entries order in
     by_test (IsInOrder (suc count)) (enters call wanted) (without (ends_wait call) entries ++ entry_of place call ∷ []) (without (ends_wait call) entries)
@@ -360,7 +388,7 @@ step_in_order configuration state ordered next tied order step =
     })
 
 cold_in_order : (configuration : Configuration) (number : ℕ) (wanted : WaitingSet) → IsInOrder 0 (entries_at ((cold_state configuration).partitions number) wanted)
-cold_in_order configuration number wanted = subst (IsInOrder 0) (sym (start_set Mode.ColdStart configuration number 0 wanted)) (none_in_order 0)
+cold_in_order configuration number wanted = subst (IsInOrder 0) (sym (start_set StartCondition.NormalStart Mode.ColdStart configuration number 0 wanted)) (none_in_order 0)
 
 pub stays_in_order : StaysInOrder
 stays_in_order = (

@@ -1,11 +1,13 @@
 -- A piece that a lawful record doesn't touch keeps its part.
 use Rattle.std.proofs.Common.{◌≡◌, ℕ, List, [], ◌∷◌, Bool, true, false, nat_eq, ℤ, Option, Some, None, is_some, IsTrue, IsFalse, refl, sym, ap, subst, ◌∙◌, true≢false, ◌||◌, ◌&&◌}
-use Rattle.std.proofs.lemmas.Bool.{eqb-true}
+use Rattle.std.proofs.lemmas.Bool.{eq-eqb, eqb-true}
 use Rattle.apex_types.specs.declared.object_kind.ObjectKind.TheVariants as kind
 use Rattle.apex_laws.proofs.Common.{AllEntries, AreTied, Body, Call, CallRecord, ChannelPart, Configuration, CoreState, Disp, Entry, IsLawful, IsLawfulBody, IsLawfulCall, IsTied, Module, ObjectKind, OfChannel, OfPartition, Ordered}
 use Rattle.apex_laws.proofs.Common.{Partition, PartitionPart, Piece, Process, Receivers, Request, Ret, Senders, State, Table, Tick, WaitingSet, WaitsIn, Who, after, channel_of, channel_set, conditions_of, content_by, cores_by, each_item}
 use Rattle.apex_laws.proofs.Common.{ends_wait, enters, is_at_end, is_channel, is_named, is_no_error, is_receiver, is_sender, is_target, part, partition_by, restart_of, samples, set_after, stop_of, stops_at_end, time_of, times_of, touched_by}
 use Rattle.apex_laws.proofs.Common.{touches, woken_if_named}
+use Rattle.apex_laws.proofs.Common.{Arrive, Depart, End, message_of, names_one_of, partition_woken, without}
+use Rattle.apex_laws.proofs.Wakes.{WaitsThere, arrival_wakes, departure_wakes, waits_nowhere_else}
 use Rattle.apex_laws.proofs.Booleans.{cannot_hold, is_itself, neither_first, neither_later, not_second}
 use Rattle.apex_laws.proofs.Restarts.{goes_on}
 use Rattle.apex_laws.proofs.Tables.{times_after}
@@ -20,9 +22,15 @@ pub each_stays : (change : ℕ → Process → Process) (table : Table) → ((nu
 each_stays change [] stays = refl
 each_stays change (entry ∷ entries) stays = λ i. (entry.0, stays entry.0 entry.1 i) ∷ each_stays change entries stays i
 
--- a process that a call doesn't name stays
-pub not_woken_if_named : (place : ℕ) (call : CallRecord) (who : Who) (process : Process) → is_named who call.claim.woken ≡ false → woken_if_named place call who process ≡ process
-not_woken_if_named place call who process not_named = rw not_named refl
+-- a process that a record doesn't name stays
+pub not_woken_if_named : (place : ℕ) (message : List ℕ) (woken : List Who) (who : Who) (process : Process) → is_named who woken ≡ false → woken_if_named place message woken who process ≡ process
+not_woken_if_named place message woken who process not_named = rw not_named refl
+
+-- so does a partition of whose processes it names none
+none_woken : (place number : ℕ) (message : List ℕ) (woken : List Who) (partition : Partition) → names_one_of number woken ≡ false → partition_woken place number message woken partition ≡ partition
+none_woken place number message woken partition none =
+    ap (λ (table : Table). record partition { table = table }) (each_stays (λ other process. woken_if_named place message woken (record { part = number; proc = other }) process) partition.table
+    (λ other process. not_woken_if_named place message woken (record { part = number; proc = other }) process (not_named (record { part = number; proc = other }) woken none)))
 
 -- a record that doesn't touch a partition leaves it and the cores as they are
 partition_untouched : (configuration : Configuration) (cores : List CoreState) (place core number : ℕ) (body : Body) (partition : Partition)
@@ -33,9 +41,9 @@ partition_untouched configuration cores place core number (Tick woken) partition
 partition_untouched configuration cores place core number (Ret ret) partition off = (refl, rw off refl)
 partition_untouched configuration cores place core number (Call call) partition off =
     let elsewhere : nat_eq call.who.part number ≡ false = neither_first _ _ off in
-    let stays = each_stays (λ other process. woken_if_named place call (record { part = number; proc = other }) process) partition.table
-    (λ other process. not_woken_if_named place call (record { part = number; proc = other }) process (not_named (record { part = number; proc = other }) call.claim.woken (neither_later _ _ off))) in
-    (refl, rw elsewhere (ap (λ (table : Table). record partition { table = table }) stays))
+    (refl, rw elsewhere (none_woken place number (message_of call.request) call.claim.woken partition (neither_later _ _ off)))
+partition_untouched configuration cores place core number (Arrive crossing) partition off = (refl, none_woken place number crossing.message crossing.woken partition off)
+partition_untouched configuration cores place core number (Depart crossing) partition off = (refl, none_woken place number [] crossing.woken partition off)
 
 -- channels
 
@@ -99,7 +107,7 @@ not_woken : (configuration : Configuration) (state : State) (core : ℕ) (call :
     → (IsWokenBy state.partitions call.who.part call.claim.chan who → call.claim.chan ≡ Some number) → is_named who call.claim.woken ≡ false
 not_woken configuration state core call tied law number off who through =
     cannot_hold (is_named who call.claim.woken) (λ named.
-    (let by = woken configuration state (time_of state.cores core) call.who call.request call.claim tied
+    (let by = woken configuration state core call.who call.request call.claim tied
     (conditions_of configuration call.who (state.partitions call.who.part) call.request) (channel_of (state.partitions call.who.part) call.request) law.outcome who named in
     true≢false (sym (ap (is_channel number) (through by) ∙ is_itself number) ∙ off)))
 
@@ -130,6 +138,16 @@ channel_untouched configuration state place core call tied law number off =
           (not_woken configuration state core call tied law number away entry.who (λ by. by.receiving number there.1))),
     )
 
+-- an arrival at another channel, or a departure from one, ends no wait at this one
+stays_at : (configuration : Configuration) (state : State) (chan number : ℕ) (end own : End) (woken : List Who) (Home : ℕ → Type 0) → nat_eq chan number ≡ false
+    → ((who : Who) → is_named who woken ≡ true → WaitsThere state.partitions configuration chan end who)
+    → (entries : List Entry) → AllEntries (IsTied Home (channel_set number own) state.partitions) entries → without (λ who. is_named who woken) entries ≡ entries
+stays_at configuration state chan number end own woken Home off waits entries all =
+    none_leaves (IsTied Home (channel_set number own) state.partitions) (λ who. is_named who woken)
+    (λ entry tied. cannot_hold (is_named entry.who woken) (λ named.
+    (let same : number ≡ chan = ap (λ one. one.number) (waits_nowhere_else state.partitions configuration chan end (channel_set number own) entry.who (waits entry.who named) tied.1) in
+    true≢false (sym (eq-eqb chan number (sym same)) ∙ off)))) entries all
+
 -- the channel's part after a record that doesn't touch it
 channel_part : (configuration : Configuration) (state : State) (place core : ℕ) (body : Body) → AreTied configuration state
     → IsLawfulBody configuration state core body → (number : ℕ) → IsFalse (touched_by configuration body (OfChannel number))
@@ -140,6 +158,20 @@ channel_part : (configuration : Configuration) (state : State) (place core : ℕ
 channel_part configuration state place core (Disp who) tied law number off = (times_after core (Disp who) state.cores, refl, refl, refl)
 channel_part configuration state place core (Ret ret) tied law number off = (refl, refl, refl, refl)
 channel_part configuration state place core (Tick woken) tied law number off = absurd (true≢false off)
+channel_part configuration state place core (Arrive crossing) tied law number off =
+    let waits = arrival_wakes configuration state core crossing tied law in (
+      refl,
+      rw off refl,
+      stays_at configuration state crossing.chan number Receivers Senders crossing.woken _ off waits (state.channels number).senders (tied.senders number),
+      stays_at configuration state crossing.chan number Receivers Receivers crossing.woken _ off waits (state.channels number).receivers (tied.receivers number),
+    )
+channel_part configuration state place core (Depart crossing) tied law number off =
+    let waits = departure_wakes configuration state core crossing tied law in (
+      refl,
+      rw off refl,
+      stays_at configuration state crossing.chan number Senders Senders crossing.woken _ off waits (state.channels number).senders (tied.senders number),
+      stays_at configuration state crossing.chan number Senders Receivers crossing.woken _ off waits (state.channels number).receivers (tied.receivers number),
+    )
 channel_part configuration state place core (Call call) tied law number off =
     let stays = channel_untouched configuration state place core call tied law number off in
     (refl, stays.0, stays.1, stays.2)

@@ -1,6 +1,7 @@
 -- The entries of a waiting set: a fact about each of them, and the one that goes on first.
-use Rattle.std.proofs.Common.{◌≡◌, List, [], ◌∷◌, ◌++◌, Bool, true, false, cond, Some, None, refl, sym, ap, subst, ◌∙◌, true≢false}
+use Rattle.std.proofs.Common.{◌≡◌, ℕ, zero, suc, List, [], ◌∷◌, ◌++◌, Bool, true, false, cond, Option, Some, None, refl, sym, ap, subst, ◌∙◌, true≢false}
 use Rattle.apex_laws.proofs.Common.{AllEntries, Discipline, Entry, Who, first_waiter, has_entry_in, is_named, is_same, precedes, sooner_entry, waiters_of, without}
+use Rattle.apex_laws.proofs.Common.{after_first, first_waiters, followed_by, is_same}
 use Rattle.apex_laws.proofs.Booleans.{by_test, either_way, other_holds}
 use Rattle.apex_laws.proofs.WaitersOf.{same_is}
 
@@ -48,6 +49,19 @@ first_has Fact discipline (other ∷ entries) entry all first =
       | Some next ↦ λ is some. by_test (λ first. first ≡ Some entry → Fact entry) (precedes discipline next other) (Some next) (Some other)
           (λ before some. first_has Fact discipline entries entry all.1 (is ∙ some)) (λ after some. here some) some
     ] refl first
+
+-- so have the first entries of a set
+pub firsts_have : (Fact : Entry → Type 0) (discipline : Discipline) (count : ℕ) (entries : List Entry) → AllEntries Fact entries
+    → AllEntries Fact (first_waiters discipline count entries)
+firsts_have Fact discipline zero entries all = tt
+firsts_have Fact discipline (suc count) entries all =
+    by (first_waiter discipline entries) refl
+    (λ leaves. firsts_have Fact discipline count (without leaves entries) (all_without Fact Fact leaves (λ entry stays fact. fact) entries all))
+  where
+    by : (first : Option Entry) → first_waiter discipline entries ≡ first → ((leaves : Who → Bool) → AllEntries Fact (first_waiters discipline count (without leaves entries)))
+        → AllEntries Fact (followed_by first (first_waiters discipline count (after_first first entries)))
+    by None is rest = tt
+    by (Some first) is rest = (first_has Fact discipline entries first all is, rest (is_same first.who))
 
 -- a list that names one process
 pub only_named : (Fact : Who → Type 0) (one who : Who) → Fact one → is_named who (one ∷ []) ≡ true → Fact who

@@ -10,6 +10,8 @@ use Rattle.apex_laws.proofs.Common.{created, done, due_by, due_of_call, due_time
 use Rattle.apex_laws.proofs.Common.{is_receiver, is_released, is_sender, is_set_used, is_suspension, is_the_set, is_waiting, item_at, kind_used, mutex_released, natural_of, not_acquired, not_yet, object_effect, objects_of, owed, peer}
 use Rattle.apex_laws.proofs.Common.{raised, reading_of, received, receiving_discipline, refresh_of, released_once, resuming, semaphore_waited, sending_discipline, sent, service_at, service_of, service_of_wait, set_at, set_of, signalled}
 use Rattle.apex_laws.proofs.Common.{suits_use, time_out_of, unmet, use_of, used, wait_of, waiting, waits_at, waking}
+use Rattle.apex_laws.proofs.Common.{Clear, CoreState, Crossing, Discipline, IsLawfulArrival, IsLawfulDeparture, arrival_use, emptied_queue, first_waiters, process_status, time_of}
+use Rattle.apex_laws.proofs.Waiters.{firsts_have}
 use Rattle.apex_laws.proofs.Booleans.{by_test, impossible, is_itself, never_found, not_second, one_item}
 use Rattle.apex_laws.proofs.ConditionTests.{at_most_tells, equal_tells, Tells, tells_both}
 use Rattle.apex_laws.proofs.Objects.{of_objects}
@@ -53,6 +55,12 @@ received_wakes : (Fact : Who → Type 0) (time_out : ℤ) (first : Option Entry)
 received_wakes Fact time_out first [] has = wakes_none (unmet_wakes time_out)
 received_wakes Fact time_out None (message ∷ others) has = wakes_none refl
 received_wakes Fact time_out (Some entry) (message ∷ others) has = wakes_some refl (λ one. only_named Fact entry.who one (has entry refl))
+
+-- a queue that is emptied wakes the first of the senders
+emptied_wakes : (Fact : Who → Type 0) (discipline : Discipline) (capacity : ℕ) (senders : List Entry) → AllEntries (λ entry. Fact entry.who) senders
+    → Wakes Fact (emptied_queue (first_waiters discipline capacity senders)).answer
+emptied_wakes Fact discipline capacity senders all =
+    wakes_some refl (all_named Fact (first_waiters discipline capacity senders) (firsts_have (λ entry. Fact entry.who) discipline capacity senders all))
 
 -- the objects of a partition
 
@@ -134,27 +142,33 @@ operation_wakes Fact caller number (on.Mutex (MutexOperation.Acquire time_out)) 
 operation_wakes Fact caller number (on.Mutex MutexOperation.Release) found all =
     release_wakes Fact (first_waiter found.discipline found.waiters) found
     (λ entry. first_has (λ entry. Fact entry.who) found.discipline found.waiters entry (all Receivers (is_itself (natural_of number))))
+operation_wakes Fact caller number (on.Mutex (MutexOperation.Reset process)) found all =
+    hand_on_wakes Fact (first_waiter found.discipline found.waiters) found
+    (λ entry. first_has (λ entry. Fact entry.who) found.discipline found.waiters entry (all Receivers (is_itself (natural_of number))))
 
 -- a service that uses no channel wakes processes in a waiting set that it uses, or processes that suspended themselves
-pub answer_wakes : (Fact : Who → Type 0) (now : ℕ) (who : Who) (partition : Partition) (asked : Request)
+pub answer_wakes : (Fact : Who → Type 0) (cores : List CoreState) (core : ℕ) (who : Who) (partition : Partition) (asked : Request)
     → ((wanted : WaitingSet) → is_set_used asked wanted ≡ true → AllEntries (λ entry. Fact entry.who) (entries_at partition wanted))
     → ((process : ℤ) (target : Process) → created partition.table process ≡ Some target → is_suspension target.wait ≡ true → Fact (peer who process))
-    → Wakes Fact (answer_of now who partition asked)
-answer_wakes Fact now who partition (Request.Object number operation) all suspended =
+    → Wakes Fact (answer_of cores core who partition asked)
+answer_wakes Fact cores core who partition (Request.Object number operation) all suspended =
     let objects = objects_of partition (kind_used operation) in
     by_object Fact (given_object objects number) (λ found. (object_effect who.proc operation found).answer)
     (λ found is. operation_wakes Fact who.proc number operation found (λ end used. given_entries (AllEntries (λ entry. Fact entry.who)) (entries_at_end (kind_used operation) end) objects number found is
     (all (set_at (kind_used operation) (natural_of number) end) used)))
-answer_wakes Fact now who partition (Request.Process process ProcessOperation.Resume) all suspended =
+answer_wakes Fact cores core who partition (Request.Process process ProcessOperation.Resume) all suspended =
     resume_wakes Fact (peer who process) (created partition.table process) (suspended process)
-answer_wakes Fact now who partition (Request.Caller (CallerOperation.SuspendSelf time_out)) all suspended = wakes_none (done_or_waiting (is_over time_out))
-answer_wakes Fact now who partition (Request.Caller (CallerOperation.TimedWait delay)) all suspended = wakes_none (done_or_waiting (is_over delay))
-answer_wakes Fact now who partition (Request.Caller CallerOperation.PeriodicWait) all suspended = wakes_none (done_or_waiting (is_released now (item_at partition.table who.proc)))
-answer_wakes Fact now who partition _ all suspended = wakes_none refl
+answer_wakes Fact cores core who partition (Request.Process process ProcessOperation.GetStatus) all suspended =
+    by_object Fact (created partition.table process) (process_status cores (peer who process)) (λ target is. wakes_none refl)
+answer_wakes Fact cores core who partition (Request.Caller (CallerOperation.SuspendSelf time_out)) all suspended = wakes_none (done_or_waiting (is_over time_out))
+answer_wakes Fact cores core who partition (Request.Caller (CallerOperation.TimedWait delay)) all suspended = wakes_none (done_or_waiting (is_over delay))
+answer_wakes Fact cores core who partition (Request.Caller CallerOperation.PeriodicWait) all suspended = wakes_none (done_or_waiting (is_released (time_of cores core) (item_at partition.table who.proc)))
+answer_wakes Fact cores core who partition _ all suspended = wakes_none refl
 
 -- so an answer that is not NO_ERROR names no process
-pub answer_quiet : (now : ℕ) (who : Who) (partition : Partition) (asked : Request) → is_no_error (answer_of now who partition asked).out ≡ false → (answer_of now who partition asked).woken ≡ []
-answer_quiet now who partition asked = (answer_wakes (λ one. Unit {0}) now who partition asked (λ wanted used. any (entries_at partition wanted)) (λ process target is suspends. tt)).quiet
+pub answer_quiet : (cores : List CoreState) (core : ℕ) (who : Who) (partition : Partition) (asked : Request) → is_no_error (answer_of cores core who partition asked).out ≡ false
+    → (answer_of cores core who partition asked).woken ≡ []
+answer_quiet cores core who partition asked = (answer_wakes (λ one. Unit {0}) cores core who partition asked (λ wanted used. any (entries_at partition wanted)) (λ process target is suspends. tt)).quiet
   where
     any : (entries : List Entry) → AllEntries (λ entry. Unit {0}) entries
     any [] = tt
@@ -167,10 +181,12 @@ read_wakes : (now refresh : ℕ) (last : Option Stamped) → (reading_of now ref
 read_wakes now refresh None = refl
 read_wakes now refresh (Some last) = refl
 
--- the waiting set of a channel whose first a use can wake: a send the first of those who receive, a receive of those who send
+-- the waiting set of a channel whose first a use can wake: a send the first of those who receive, a receive of those who send, and so the
+-- first ones when the channel is cleared
 abbrev pub woken_from : Use → Channel → List Entry
 woken_from (Send message time_out) channel = channel.receivers
 woken_from (Receive time_out) channel = channel.senders
+woken_from Clear channel = channel.senders
 woken_from _ channel = []
 
 -- what each use of a channel wakes
@@ -185,6 +201,8 @@ use_wakes Fact configuration now number partition (Send message time_out) channe
 use_wakes Fact configuration now number partition (Receive time_out) channel (Queued messages) all one named =
     (received_wakes Fact time_out (first_waiter (sending_discipline configuration number) channel.senders) messages
     (λ entry. first_has (λ entry. Fact entry.who) (sending_discipline configuration number) channel.senders entry all)).has one named
+use_wakes Fact configuration now number partition Clear channel (Queued messages) all one named =
+    (emptied_wakes Fact (sending_discipline configuration number) (capacity_of configuration number) channel.senders all).has one named
 use_wakes Fact configuration now number partition (Write message) channel (Sampled last) all one named = nobody one [] refl named
 use_wakes Fact configuration now number partition Ask channel (Queued messages) all one named = nobody one [] refl named
 use_wakes Fact configuration now number partition _ channel _ all one named = nobody one [] refl named
@@ -200,6 +218,7 @@ channel_wakes Fact configuration now number partition (Some how) channel receive
     by : (how : Use) → AllEntries (λ entry. Fact entry.who) (woken_from how channel)
     by (Send message time_out) = receivers
     by (Receive time_out) = senders
+    by Clear = senders
     by _ = tt
 
 -- Whom a lawful call wakes, in a tied state: through a channel those who wait there, else processes of its own partition that
@@ -266,24 +285,62 @@ channel_waiter partitions Home wanted number channel chan is sending receiving e
       receiving = λ other also. is ∙ ap Some (sym (receiving other (one_set wanted (channel_set other Receivers) (found partitions entry.who) tied.1 also)));
     }) entries all
 
+-- arrivals and departures
+
+-- a process that waits at this end of a channel, of a partition at that end
+abbrev pub WaitsThere : (ℕ → Partition) → Configuration → ℕ → End → Who → Type 0
+WaitsThere partitions configuration channel Senders who =
+    IsTrue (is_sender configuration channel who.part) × IsTrue (waits_at (channel_set channel Senders) (found partitions who))
+WaitsThere partitions configuration channel Receivers who =
+    IsTrue (is_receiver configuration channel who.part) × IsTrue (waits_at (channel_set channel Receivers) (found partitions who))
+
+-- an arrival wakes a process that waits to receive
+pub arrival_wakes : (configuration : Configuration) (state : State) (core : ℕ) (crossing : Crossing) → AreTied configuration state
+    → IsLawfulArrival configuration state core crossing → (who : Who) → is_named who crossing.woken ≡ true → WaitsThere state.partitions configuration crossing.chan Receivers who
+arrival_wakes configuration state core crossing tied law who named =
+    use_wakes (WaitsThere state.partitions configuration crossing.chan Receivers) configuration (time_of state.cores core) crossing.chan 0
+    (arrival_use crossing.message (state.channels crossing.chan).content) (state.channels crossing.chan) (state.channels crossing.chan).content
+    (by (state.channels crossing.chan).content) who (sym (law.woken who) ∙ named)
+  where
+    by : (content : Content) → AllEntries (λ entry. WaitsThere state.partitions configuration crossing.chan Receivers entry.who) (woken_from (arrival_use crossing.message content) (state.channels crossing.chan))
+    by (Sampled last) = tt
+    by (Queued messages) =
+        all_weaker (IsTied (λ home. IsTrue (is_receiver configuration crossing.chan home)) (channel_set crossing.chan Receivers) state.partitions) _ (λ entry tied. tied)
+        (state.channels crossing.chan).receivers (tied.receivers crossing.chan)
+
+-- a departure wakes a process that waits to send
+pub departure_wakes : (configuration : Configuration) (state : State) (core : ℕ) (crossing : Crossing) → AreTied configuration state
+    → IsLawfulDeparture configuration state core crossing → (who : Who) → is_named who crossing.woken ≡ true → WaitsThere state.partitions configuration crossing.chan Senders who
+departure_wakes configuration state core crossing tied law who named =
+    use_wakes (WaitsThere state.partitions configuration crossing.chan Senders) configuration (time_of state.cores core) crossing.chan 0 (Receive (pos 0))
+    (state.channels crossing.chan) (state.channels crossing.chan).content
+    (all_weaker (IsTied (λ home. IsTrue (is_sender configuration crossing.chan home)) (channel_set crossing.chan Senders) state.partitions) _ (λ entry tied. tied)
+    (state.channels crossing.chan).senders (tied.senders crossing.chan)) who (sym (law.woken who) ∙ named)
+
+-- who waits at an end of a channel waits in no other set
+pub waits_nowhere_else : (partitions : ℕ → Partition) (configuration : Configuration) (channel : ℕ) (end : End) (wanted : WaitingSet) (who : Who)
+    → WaitsThere partitions configuration channel end who → waits_at wanted (found partitions who) ≡ true → wanted ≡ channel_set channel end
+waits_nowhere_else partitions configuration channel Senders wanted who there waits = one_set wanted (channel_set channel Senders) (found partitions who) waits there.1
+waits_nowhere_else partitions configuration channel Receivers wanted who there waits = one_set wanted (channel_set channel Receivers) (found partitions who) waits there.1
+
 -- what a lawful call claims of its outcome, if these error conditions hold and its service goes through this channel
 abbrev pub ClaimsOutcome : Configuration → State → ℕ → Who → Request → Claim → List Condition → Option ℕ → Type 0
-ClaimsOutcome configuration state now who asked claim conditions channel =
-    HasOutcome conditions channel (answer_of now who (state.partitions who.part) asked) (λ number. suits_use configuration number who.part (use_of asked) (state.channels number))
-    (channel_answer configuration now who.part asked state.channels) claim
+ClaimsOutcome configuration state core who asked claim conditions channel =
+    HasOutcome conditions channel (answer_of state.cores core who (state.partitions who.part) asked) (λ number. suits_use configuration number who.part (use_of asked) (state.channels number))
+    (channel_answer configuration (time_of state.cores core) who.part asked state.channels) claim
 
 -- the processes that a call with a lawful outcome names
-pub woken : (configuration : Configuration) (state : State) (now : ℕ) (who : Who) (asked : Request) (claim : Claim) → AreTied configuration state
-    → (conditions : List Condition) (channel : Option ℕ) → ClaimsOutcome configuration state now who asked claim conditions channel
+pub woken : (configuration : Configuration) (state : State) (core : ℕ) (who : Who) (asked : Request) (claim : Claim) → AreTied configuration state
+    → (conditions : List Condition) (channel : Option ℕ) → ClaimsOutcome configuration state core who asked claim conditions channel
     → (one : Who) → is_named one claim.woken ≡ true → IsWokenBy state.partitions who.part claim.chan one
-woken configuration state now who asked claim tied (condition ∷ conditions) channel has one named = nobody one claim.woken has.woken named
-woken configuration state now who asked claim tied [] None has one named =
-    (answer_wakes (IsWokenBy state.partitions who.part claim.chan) now who (state.partitions who.part) asked
+woken configuration state core who asked claim tied (condition ∷ conditions) channel has one named = nobody one claim.woken has.woken named
+woken configuration state core who asked claim tied [] None has one named =
+    (answer_wakes (IsWokenBy state.partitions who.part claim.chan) state.cores core who (state.partitions who.part) asked
     (λ wanted used. own_waiter state.partitions who.part wanted claim.chan (tied.objects who.part wanted))
     (λ process target is suspends. suspended_peer state.partitions who claim.chan process target is suspends)).has
     one (sym (has.woken one) ∙ named)
-woken configuration state now who asked claim tied [] (Some channel) has one named =
-    channel_wakes (IsWokenBy state.partitions who.part claim.chan) configuration now channel who.part (use_of asked) (state.channels channel)
+woken configuration state core who asked claim tied [] (Some channel) has one named =
+    channel_wakes (IsWokenBy state.partitions who.part claim.chan) configuration (time_of state.cores core) channel who.part (use_of asked) (state.channels channel)
     (channel_waiter state.partitions (λ home. IsTrue (is_receiver configuration channel home)) (channel_set channel Receivers) who.part channel claim.chan has.chan
     (λ other same. ap (λ one. one.number) (sym same)) (λ other same. ap (λ one. one.number) (sym same)) (state.channels channel).receivers (tied.receivers channel))
     (channel_waiter state.partitions (λ home. IsTrue (is_sender configuration channel home)) (channel_set channel Senders) who.part channel claim.chan has.chan
@@ -307,6 +364,7 @@ set_is (Request.Object event (on.Event (EventOperation.Wait time_out))) chan wan
 set_is (Request.Object mutex (on.Mutex (MutexOperation.Acquire time_out))) chan wanted is = subst (WaitsIn _ chan) (one_item is) WaitsIn.acquires_mutex
 set_is (Request.QueuingPort port (QueuingOperation.Send length time_out message)) (Some channel) wanted is = subst (WaitsIn _ (Some channel)) (one_item is) WaitsIn.sends_through
 set_is (Request.QueuingPort port (QueuingOperation.Receive time_out)) (Some channel) wanted is = subst (WaitsIn _ (Some channel)) (one_item is) WaitsIn.receives_through
+set_is (Request.QueuingPort port QueuingOperation.Clear) (Some channel) wanted is = never_found is
 set_is _ chan wanted is = never_found is
 
 -- a call that waits

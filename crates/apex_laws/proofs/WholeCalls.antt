@@ -11,13 +11,14 @@ use Rattle.apex_laws.proofs.Common.{called, caller_after, channel_effect, channe
 use Rattle.apex_laws.proofs.Common.{is_channel, is_done, is_in, is_named, is_receiver, is_sender, is_suspension, is_waiting, item_at, kind_used, message_of, mutex_released, natural_of, new_process, numbered, object_effect, objects_by}
 use Rattle.apex_laws.proofs.Common.{objects_called, objects_of, own_partition, partition_called, peer, period_of, process_in, raised, released_once, restart_of, resuming, set_after, set_at, set_by, signalled, stopped, stops, suits}
 use Rattle.apex_laws.proofs.Common.{suits_use, time_of, use_of, used, wait_of, waits_at, waits_for_normal, waking, woken_by, woken_if_named}
+use Rattle.apex_laws.proofs.Common.{process_status}
 use Rattle.apex_laws.proofs.Booleans.{by_test, cannot_hold, either_way, impossible, is_itself, never_found, one_item}
 use Rattle.apex_laws.proofs.Demanded.{channel_can, goes_to, through_claimed}
 use Rattle.apex_laws.proofs.Keeps.{found_changed, IsNotStarted, set_by_wait}
 use Rattle.apex_laws.proofs.ObjectRules.{channel_is_the_sentence}
 use Rattle.apex_laws.proofs.ProcessRules.{caller_is_the_sentence, creation_is_the_sentence, setting_is_the_sentence, waking_is_the_sentence}
 use Rattle.apex_laws.proofs.Records.{emptied_same, foreign_rest, lawful_body, next_channel, next_cores, next_partition, set_says}
-use Rattle.apex_laws.proofs.Restarts.{woken_if_named_table}
+use Rattle.apex_laws.proofs.Restarts.{woken_table}
 use Rattle.apex_laws.proofs.Stays.{order_is_apart}
 use Rattle.apex_laws.proofs.Tables.{at_each, stays_each, turns_each}
 use Rattle.apex_laws.proofs.Waiters.{all_weaker}
@@ -64,28 +65,32 @@ operation_begun now caller number (on.Event (EventOperation.Wait time_out)) proc
 operation_begun now caller number (on.Mutex (MutexOperation.Acquire time_out)) process found waits = IsBegun.object (set_at kind.Mutex (natural_of number) Receivers) refl refl
 operation_begun now caller number (on.Semaphore SemaphoreOperation.Signal) process found waits = absurd (signal_no_wait found.maximum (first_waiter found.discipline found.waiters) found.value waits)
 operation_begun now caller number (on.Mutex MutexOperation.Release) process found waits = absurd (release_no_wait (first_waiter found.discipline found.waiters) found waits)
+operation_begun now caller number (on.Mutex (MutexOperation.Reset named)) process found waits = absurd (hand_on_no_wait (first_waiter found.discipline found.waiters) found waits)
 operation_begun now caller number _ process found waits = no_wait waits
 
 -- a call that uses no channel and waits
-own_begun : (configuration : Configuration) (now : ℕ) (who : Who) (partition : Partition) (asked : Request) (process : Process) → conditions_of configuration who partition asked ≡ []
-    → (answer_of now who partition asked).out ≡ Out.Waits → IsBegun now asked None process (wait_of asked None now process)
-own_begun configuration now who partition (Request.Caller (CallerOperation.TimedWait (pos ticks))) process none waits = IsBegun.delay ticks refl refl
-own_begun configuration now who partition (Request.Caller (CallerOperation.TimedWait (negsuc n))) process none waits = cc
-own_begun configuration now who partition (Request.Caller CallerOperation.PeriodicWait) process none waits = IsBegun.release refl refl
-own_begun configuration now who partition (Request.Caller (CallerOperation.SuspendSelf time_out)) process none waits = IsBegun.suspension time_out refl refl
-own_begun configuration now who partition (Request.Object number operation) process none waits =
+own_begun : (configuration : Configuration) (cores : List CoreState) (core : ℕ) (who : Who) (partition : Partition) (asked : Request) (process : Process) → conditions_of configuration who partition asked ≡ []
+    → (answer_of cores core who partition asked).out ≡ Out.Waits → IsBegun (time_of cores core) asked None process (wait_of asked None (time_of cores core) process)
+own_begun configuration cores core who partition (Request.Caller (CallerOperation.TimedWait (pos ticks))) process none waits = IsBegun.delay ticks refl refl
+own_begun configuration cores core who partition (Request.Caller (CallerOperation.TimedWait (negsuc n))) process none waits = cc
+own_begun configuration cores core who partition (Request.Caller CallerOperation.PeriodicWait) process none waits = IsBegun.release refl refl
+own_begun configuration cores core who partition (Request.Caller (CallerOperation.SuspendSelf time_out)) process none waits = IsBegun.suspension time_out refl refl
+own_begun configuration cores core who partition (Request.Object number operation) process none waits =
     let there = object_waits (given_object (objects_of partition (kind_used operation)) number) (λ found. (object_effect who.proc operation found).answer) waits in
-    operation_begun now who.proc number operation process there.0 there.1
-own_begun configuration now who partition (Request.Process number ProcessOperation.Resume) process none waits = absurd (resume_no_wait (peer who number) (created partition.table number) waits)
-own_begun configuration now who partition (Request.Caller CallerOperation.StopSelf) process none waits = let no : Out.Never ≡ Out.Waits = waits in cc
-own_begun configuration now who partition (Request.SetPartitionMode mode) process none waits = let no : Out.Never ≡ Out.Waits = waits in cc
-own_begun configuration now who partition _ process none waits = no_wait waits
+    operation_begun (time_of cores core) who.proc number operation process there.0 there.1
+own_begun configuration cores core who partition (Request.Process number ProcessOperation.Resume) process none waits = absurd (resume_no_wait (peer who number) (created partition.table number) waits)
+own_begun configuration cores core who partition (Request.Process number ProcessOperation.GetStatus) process none waits =
+    let there = object_waits (created partition.table number) (process_status cores (peer who number)) waits in no_wait there.1
+own_begun configuration cores core who partition (Request.Caller CallerOperation.StopSelf) process none waits = let no : Out.Never ≡ Out.Waits = waits in cc
+own_begun configuration cores core who partition (Request.SetPartitionMode mode) process none waits = let no : Out.Never ≡ Out.Waits = waits in cc
+own_begun configuration cores core who partition _ process none waits = no_wait waits
 
 -- a call through a channel that waits
 through_begun : (configuration : Configuration) (now channel partition : ℕ) (asked : Request) (process : Process) (held : Channel) → IsTrue (suits_use configuration channel partition (use_of asked) held)
     → CanHave asked Out.Waits → IsBegun now asked (Some channel) process (wait_of asked (Some channel) now process)
 through_begun configuration now channel partition (Request.QueuingPort port (QueuingOperation.Send length time_out message)) process held suited can = IsBegun.object (channel_set channel Senders) refl refl
 through_begun configuration now channel partition (Request.QueuingPort port (QueuingOperation.Receive time_out)) process held suited can = IsBegun.object (channel_set channel Receivers) refl refl
+through_begun configuration now channel partition (Request.QueuingPort port QueuingOperation.Clear) process held suited can = absurd can
 through_begun configuration now channel partition (Request.SamplingPort port (SamplingOperation.Write length message)) process held suited can = absurd can
 through_begun configuration now channel partition (Request.SamplingPort port SamplingOperation.Read) process held suited can = absurd can
 through_begun configuration now channel partition (Request.GetStatus kind.QueuingPort port) process held suited can = absurd can
@@ -104,12 +109,12 @@ begun configuration state core call law process waits =
     is = (waiting_tells call.claim.out).0 waits
 
     by : (conditions : List Condition) → conditions_of configuration call.who (state.partitions call.who.part) call.request ≡ conditions → (channel : Option ℕ)
-        → ClaimsOutcome configuration state (time_of state.cores core) call.who call.request call.claim conditions channel → Begun call.claim.chan
+        → ClaimsOutcome configuration state core call.who call.request call.claim conditions channel → Begun call.claim.chan
     by (one ∷ conditions) at channel has = absurd (refused (one ∷ conditions) has.out)
       where
         refused : (conditions : List Condition) → HasCode conditions call.claim.out → ⊥
         refused conditions has = subst (HasCode conditions) is has
-    by [] at None has = subst Begun (sym has.chan) (own_begun configuration (time_of state.cores core) call.who (state.partitions call.who.part) call.request process at (sym has.out ∙ is))
+    by [] at None has = subst Begun (sym has.chan) (own_begun configuration state.cores core call.who (state.partitions call.who.part) call.request process at (sym has.out ∙ is))
     by [] at (Some channel) has =
         subst Begun (sym has.chan) (through_begun configuration (time_of state.cores core) channel call.who.part call.request process (state.channels channel) has.kind
         (subst (CanHave call.request) (sym has.out ∙ is) (channel_can configuration (time_of state.cores core) channel call.who.part call.request (state.channels channel) has.kind)))
@@ -117,7 +122,7 @@ begun configuration state core call law process waits =
 -- a process that a call names waits for another
 
 -- a wait in a set, or a suspension
-in_waits : (wanted : WaitingSet) (one : Wait) → is_in wanted one ≡ true → WaitsForOther one
+pub in_waits : (wanted : WaitingSet) (one : Wait) → is_in wanted one ≡ true → WaitsForOther one
 in_waits wanted (Wait.At set due) is = tt
 in_waits wanted _ is = impossible is
 
@@ -141,16 +146,16 @@ peer_waits partitions who process target is suspends old at =
     let number : peer who process ≡ record { part = who.part; proc = place.0 } = ap (peer who) place.1 in
     subst (λ one. WaitsForOther one.wait) (one_item (sym place.2 ∙ sym (ap (found partitions) number) ∙ at)) (suspension_waits target.wait suspends)
 
-named_waits : (configuration : Configuration) (state : State) (now : ℕ) (who : Who) (asked : Request) (claim : Claim) → AreTied configuration state → (conditions : List Condition) (channel : Option ℕ)
-    → ClaimsOutcome configuration state now who asked claim conditions channel → (one : Who) → is_named one claim.woken ≡ true → OtherAwaited state.partitions one
-named_waits configuration state now who asked claim tied (condition ∷ conditions) channel has one named = nobody one claim.woken has.woken named
-named_waits configuration state now who asked claim tied [] None has one named =
-    (answer_wakes (OtherAwaited state.partitions) now who (state.partitions who.part) asked
+named_waits : (configuration : Configuration) (state : State) (core : ℕ) (who : Who) (asked : Request) (claim : Claim) → AreTied configuration state → (conditions : List Condition) (channel : Option ℕ)
+    → ClaimsOutcome configuration state core who asked claim conditions channel → (one : Who) → is_named one claim.woken ≡ true → OtherAwaited state.partitions one
+named_waits configuration state core who asked claim tied (condition ∷ conditions) channel has one named = nobody one claim.woken has.woken named
+named_waits configuration state core who asked claim tied [] None has one named =
+    (answer_wakes (OtherAwaited state.partitions) state.cores core who (state.partitions who.part) asked
     (λ wanted used. tied_waits (λ home. home ≡ who.part) wanted state.partitions (entries_at (state.partitions who.part) wanted) (tied.objects who.part wanted))
     (peer_waits state.partitions who)).has
     one (sym (has.woken one) ∙ named)
-named_waits configuration state now who asked claim tied [] (Some channel) has one named =
-    channel_wakes (OtherAwaited state.partitions) configuration now channel who.part (use_of asked) (state.channels channel)
+named_waits configuration state core who asked claim tied [] (Some channel) has one named =
+    channel_wakes (OtherAwaited state.partitions) configuration (time_of state.cores core) channel who.part (use_of asked) (state.channels channel)
     (tied_waits (λ home. IsTrue (is_receiver configuration channel home)) (channel_set channel Receivers) state.partitions (state.channels channel).receivers (tied.receivers channel))
     (tied_waits (λ home. IsTrue (is_sender configuration channel home)) (channel_set channel Senders) state.partitions (state.channels channel).senders (tied.senders channel))
     one (sym (has.woken one) ∙ named)
@@ -173,17 +178,19 @@ not_for_normal (Wait.At set due) waits = refl
 not_for_normal Wait.Nothing waits = absurd waits
 not_for_normal _ waits = absurd waits
 
--- START names no process
+-- a start names no process
 start_names_nobody : (conditions : List Condition) (suited : ℕ → Bool) (through : ℕ → Answer) (claim : Claim) → HasOutcome conditions None done suited through claim → (one : Who) → is_named one claim.woken ≡ true → ⊥
 start_names_nobody [] suited through claim has one named = true≢false (sym named ∙ has.woken one)
 start_names_nobody (condition ∷ conditions) suited through claim has one named = nobody one claim.woken has.woken named
 
-not_started : (configuration : Configuration) (now : ℕ) (who : Who) (partition : Partition) (asked : Request) (suited : ℕ → Bool) (through : ℕ → Answer) (claim : Claim)
-    → HasOutcome (conditions_of configuration who partition asked) (channel_of partition asked) (answer_of now who partition asked) suited through claim
+not_started : (configuration : Configuration) (cores : List CoreState) (core : ℕ) (who : Who) (partition : Partition) (asked : Request) (suited : ℕ → Bool) (through : ℕ → Answer) (claim : Claim)
+    → HasOutcome (conditions_of configuration who partition asked) (channel_of partition asked) (answer_of cores core who partition asked) suited through claim
     → (one : Who) → is_named one claim.woken ≡ true → (number : ℕ) → IsNotStarted asked number
-not_started configuration now who partition (Request.Process process ProcessOperation.Start) suited through claim has one named number =
+not_started configuration cores core who partition (Request.Process process ProcessOperation.Start) suited through claim has one named number =
     absurd (start_names_nobody (conditions_of configuration who partition (Request.Process process ProcessOperation.Start)) suited through claim has one named)
-not_started configuration now who partition _ suited through claim has one named number = tt
+not_started configuration cores core who partition (Request.Process process (ProcessOperation.DelayedStart delay)) suited through claim has one named number =
+    absurd (start_names_nobody (conditions_of configuration who partition (Request.Process process (ProcessOperation.DelayedStart delay))) suited through claim has one named)
+not_started configuration cores core who partition _ suited through claim has one named number = tt
 
 -- what the call sets leaves the wait of a process that it names
 named_keeps : (configuration : Configuration) (state : State) (place core : ℕ) (call : CallRecord) → IsLawfulCall configuration state core call
@@ -191,7 +198,7 @@ named_keeps : (configuration : Configuration) (state : State) (place core : ℕ)
     → WaitsForOther (adjusted place (period_of configuration call.who.part) state.cores (state.partitions call.who.part) call number old).wait
 named_keeps configuration state place core call law one named number old waits =
     let set : Process = set_by place (period_of configuration call.who.part) state.cores (state.partitions call.who.part) call.who.proc call.request number old in
-    let starts = not_started configuration (time_of state.cores core) call.who (state.partitions call.who.part) call.request _ _ call.claim law.outcome one named number in
+    let starts = not_started configuration state.cores core call.who (state.partitions call.who.part) call.request _ _ call.claim law.outcome one named number in
     let same = set_by_wait place (period_of configuration call.who.part) state.cores (state.partitions call.who.part) call.who.proc call.request number old starts (not_for_normal old.wait waits) in
     by_test (λ (one : Process). WaitsForOther one.wait) (is_done call.claim.out) set old (λ done. subst WaitsForOther (sym same) waits) (λ not_done. waits)
 
@@ -203,7 +210,7 @@ objects_are : (configuration : Configuration) (cores : List CoreState) (place co
     → ObjectsAre (partition_called configuration cores place core call partition) objects
 objects_are configuration cores place core call partition objects is =
     let same : objects_called configuration place call partition ≡ each_set (set_after place (Call call)) objects = ap (each_set (set_after place (Call call))) is in
-    ap (λ (one : Partition). emptied (record one { mode = objects.mode })) same ∙ emptied_same (set_after place (Call call)) objects
+    ap (λ (one : Partition). emptied (record one { mode = objects.mode; has_handler = objects.has_handler })) same ∙ emptied_same (set_after place (Call call)) objects
 
 -- what a call adds
 
@@ -225,15 +232,15 @@ numbered_is (Some (pos n)) process number =
 -- a call adds a created process, or none
 adds : (configuration : Configuration) (call : CallRecord) (asked : Request) (number : ℕ) → call.request ≡ asked
     → IsAdded configuration call number (item_at (created_by (first_core configuration call.who.part) call asked) number)
-adds configuration call (Request.CreateProcess name priority period) number is =
-    let new : Process = new_process (first_core configuration call.who.part) name priority period in
+adds configuration call (Request.CreateProcess name priority period time_capacity) number is =
+    let new : Process = new_process (first_core configuration call.who.part) name priority period time_capacity in
     by_test (λ more. IsAdded configuration call number (item_at more number)) (is_done call.claim.out) (numbered call.claim.val new) []
     (λ done. elim (numbered_is call.claim.val new number) [
-      | inl here ↦ IsAdded.created name priority period new is done here.0 here.1 (creation_is_the_sentence (first_core configuration call.who.part) name priority period)
-      | inr none ↦ IsAdded.not_created (λ name priority period asks done. none.0) none.1
+      | inl here ↦ IsAdded.created name priority period time_capacity new is done here.0 here.1 (creation_is_the_sentence (first_core configuration call.who.part) name priority period time_capacity)
+      | inr none ↦ IsAdded.not_created (λ name priority period time_capacity asks done. none.0) none.1
     ])
-    (λ not_so. IsAdded.not_created (λ name priority period asks done claims. true≢false (sym done ∙ not_so)) refl)
-adds configuration call other number is = IsAdded.not_created (λ name priority period asks done claims. (let no : other ≡ Request.CreateProcess name priority period = sym is ∙ asks in cc)) refl
+    (λ not_so. IsAdded.not_created (λ name priority period time_capacity asks done claims. true≢false (sym done ∙ not_so)) refl)
+adds configuration call other number is = IsAdded.not_created (λ name priority period time_capacity asks done claims. (let no : other ≡ Request.CreateProcess name priority period time_capacity = sym is ∙ asks in cc)) refl
 
 -- through a channel
 
@@ -243,11 +250,12 @@ suited_use : (configuration : Configuration) (number partition : ℕ) (found : O
 suited_use configuration number partition None channel suited = impossible suited
 suited_use configuration number partition (Some how) channel suited = (how, refl, suited)
 
-goes_through : (configuration : Configuration) (state : State) (now : ℕ) (call : CallRecord) (conditions : List Condition) (channel : Option ℕ) (number : ℕ) (next : Channel) → SetsAreInOrder state
-    → ClaimsOutcome configuration state now call.who call.request call.claim conditions channel
-    → call.claim.chan ≡ Some number → next.content ≡ (channel_effect configuration now number call.who.part (use_of call.request) (state.channels number)).next
-    → GoesThrough configuration now number call (state.channels number) next
-goes_through configuration state now call conditions channel number next order has goes content =
+goes_through : (configuration : Configuration) (state : State) (core : ℕ) (call : CallRecord) (conditions : List Condition) (channel : Option ℕ) (number : ℕ) (next : Channel) → SetsAreInOrder state
+    → ClaimsOutcome configuration state core call.who call.request call.claim conditions channel
+    → call.claim.chan ≡ Some number → next.content ≡ (channel_effect configuration (time_of state.cores core) number call.who.part (use_of call.request) (state.channels number)).next
+    → GoesThrough configuration (time_of state.cores core) number call (state.channels number) next
+goes_through configuration state core call conditions channel number next order has goes content =
+    let now = time_of state.cores core in
     let through = through_claimed conditions channel _ _ _ call.claim number goes has in
     let how = suited_use configuration number call.who.part (use_of call.request) (state.channels number) through.kind in
     let effect : Effect Content = used configuration now number call.who.part how.0 (state.channels number) (state.channels number).content in
@@ -284,7 +292,7 @@ call_is_the_sentence configuration state ordered call next above tied order step
     let more = created_by (first_core configuration part) call call.request in
     let sets : ℕ → Process → Process = adjusted place period state.cores partition call in
     let own : next.partitions part ≡ partition_called configuration state.cores place core call partition =
-    partitions part ∙ ap (λ test. cond test (own_partition (restart_of call) configuration state.cores place core call partition) (record partition { table = woken_if_named_table place call part table })) (is_itself part)
+    partitions part ∙ ap (λ test. cond test (own_partition (restart_of call) configuration state.cores place core call partition) (record partition { table = woken_table place part (message_of call.request) call.claim.woken table })) (is_itself part)
     ∙ ap (λ one. own_partition one configuration state.cores place core call partition) no_restart in
     let arrives : (number : ℕ) (old : Process) → item_at table number ≡ Some old → item_at (next.partitions part).table number ≡ Some (change number old) = λ number old at.
     ap (λ (one : Partition). item_at one.table number) own ∙ found_changed change table more number old at in
@@ -293,16 +301,16 @@ call_is_the_sentence configuration state ordered call next above tied order step
     subst (λ one. item_at (state.partitions one).table who.proc ≡ Some old) here at in
     let apart : (who : Who) → who.part ≡ part → ¬ (who ≡ call.who) → nat_eq who.proc call.who.proc ≡ false = λ who here differs.
     cannot_hold (nat_eq who.proc call.who.proc) (λ same. differs (same_who who call.who here (eqb-true who.proc call.who.proc same))) in
-    let after_call : Who → Process → Process = λ who old. cond (stops call who) (stopped (sets who.proc old)) (woken_if_named place call who (sets who.proc old)) in
+    let after_call : Who → Process → Process = λ who old. cond (stops call who) (stopped (sets who.proc old)) (woken_if_named place (message_of call.request) call.claim.woken who (sets who.proc old)) in
     let becomes : (who : Who) (old new : Process) → who.part ≡ part → ¬ (who ≡ call.who) → process_in state who ≡ Some old → after_call who old ≡ new → process_in next who ≡ Some new =
     λ who old new here differs at is. subst (λ one. item_at (next.partitions one).table who.proc ≡ Some new) (sym here) (arrives who.proc old (old_at who old here at)
     ∙ (let other = apart who here differs in rw other (ap Some (subst (λ one. after_call one old ≡ new) (peer_at who here) is)))) in
     let foreign : (number : ℕ) → ¬ (number ≡ part) → nat_eq part number ≡ false = λ number there. cannot_hold (nat_eq part number) (λ same. there (sym (eqb-true part number same))) in
-    let wake_named : ℕ → ℕ → Process → Process = λ number other process. woken_if_named place call (record { part = number; proc = other }) process in
+    let wake_named : ℕ → ℕ → Process → Process = λ number other process. woken_if_named place (message_of call.request) call.claim.woken (record { part = number; proc = other }) process in
     let found_elsewhere : (who : Who) → ¬ (who.part ≡ part) → process_in next who ≡ item_at (each_item (wake_named who.part) (state.partitions who.part).table) who.proc = λ who there.
     ap (λ (one : Partition). item_at one.table who.proc) (partitions who.part)
     ∙ ap (λ test. item_at (cond test (own_partition (restart_of call) configuration state.cores place core call (state.partitions who.part))
-    (record (state.partitions who.part) { table = woken_if_named_table place call who.part (state.partitions who.part).table })).table who.proc) (foreign who.part there) in
+    (record (state.partitions who.part) { table = woken_table place who.part (message_of call.request) call.claim.woken (state.partitions who.part).table })).table who.proc) (foreign who.part there) in
     let caller = free_exists (process_in state call.who) law.due in
     record {
       caller = record {
@@ -311,7 +319,7 @@ call_is_the_sentence configuration state ordered call next above tied order step
         before = caller.1;
         after = arrives call.who.proc caller.0 caller.1
             ∙ ap (λ test. Some (cond test (caller_after place now call (sets call.who.proc caller.0))
-            (cond (stops call (record { part = part; proc = call.who.proc })) (stopped (sets call.who.proc caller.0)) (woken_if_named place call (record { part = part; proc = call.who.proc }) (sets call.who.proc caller.0))))) (is_itself call.who.proc);
+            (cond (stops call (record { part = part; proc = call.who.proc })) (stopped (sets call.who.proc caller.0)) (woken_if_named place (message_of call.request) call.claim.woken (record { part = part; proc = call.who.proc }) (sets call.who.proc caller.0))))) (is_itself call.who.proc);
         change = record {
           set = sets call.who.proc caller.0;
           first = set_first configuration state place call call.who.proc caller.0 (above part);
@@ -336,7 +344,7 @@ call_is_the_sentence configuration state ordered call next above tied order step
           first = set_first configuration state place call who.proc old (above part);
           second = (waking_is_the_sentence place (message_of call.request) (sets who.proc old) (woken_by place (message_of call.request) (sets who.proc old))
               (named_keeps configuration state place core call law who named who.proc old
-              (named_waits configuration state now call.who call.request call.claim tied _ _ law.outcome who named old at))).0 refl;
+              (named_waits configuration state core call.who call.request call.claim tied _ _ law.outcome who named old at))).0 refl;
         };
       };
       peers = λ who old here differs at not_stopping not_named. record {
@@ -353,7 +361,7 @@ call_is_the_sentence configuration state ordered call next above tied order step
         after = found_elsewhere who there ∙ turns_each (wake_named who.part) (state.partitions who.part).table who.proc old at
             ∙ ap (λ test. Some (cond test (woken_by place (message_of call.request) old) old)) named;
         change = (waking_is_the_sentence place (message_of call.request) old (woken_by place (message_of call.request) old)
-            (named_waits configuration state now call.who call.request call.claim tied _ _ law.outcome who named old at)).0 refl;
+            (named_waits configuration state core call.who call.request call.claim tied _ _ law.outcome who named old at)).0 refl;
       };
       added = λ number none.
           let is_added = adds configuration call call.request number refl in
@@ -362,6 +370,7 @@ call_is_the_sentence configuration state ordered call next above tied order step
       elsewhere = λ who there not_named. found_elsewhere who there
           ∙ stays_each (wake_named who.part) (state.partitions who.part).table who.proc (λ one at. ap (λ test. cond test (woken_by place (message_of call.request) one) one) not_named);
       mode = ap (λ (one : Partition). one.mode) own;
+      handler = ap (λ (one : Partition). one.has_handler) own;
       objects = (
         λ done. subst (λ one. ObjectsAre one (objects_by configuration call.who call.claim.val call.request partition)) (sym own)
             (objects_are configuration state.cores place core call partition (objects_by configuration call.who call.claim.val call.request partition) (rw done refl)),
@@ -370,7 +379,7 @@ call_is_the_sentence configuration state ordered call next above tied order step
       other_partitions = λ number there. foreign_rest configuration place core call state next number (partitions number) (foreign number there);
       senders = λ number. set_says place call (channel_set number Senders) (state.channels number).senders (next.channels number).senders (ap (λ one. one.senders) (channels number));
       receivers = λ number. set_says place call (channel_set number Receivers) (state.channels number).receivers (next.channels number).receivers (ap (λ one. one.receivers) (channels number));
-      through = λ number goes. goes_through configuration state now call _ _ number (next.channels number) order law.outcome goes
+      through = λ number goes. goes_through configuration state core call _ _ number (next.channels number) order law.outcome goes
           (ap (λ one. one.content) (channels number)
           ∙ ap (λ test. cond test (channel_effect configuration now number call.who.part (use_of call.request) (state.channels number)).next (state.channels number).content) (ap (is_channel number) goes ∙ is_itself number));
       contents = λ number differs. ap (λ one. one.content) (channels number)

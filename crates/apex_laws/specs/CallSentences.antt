@@ -12,7 +12,7 @@ use Rattle.apex_machine.specs.Arguments.{discipline_given, natural_of}
 use Rattle.apex_machine.specs.Channels.{QueuingPort, SamplingPort, queuing_port, sampling_port}
 use Rattle.apex_machine.specs.Configuration.{Configuration}
 use Rattle.apex_machine.specs.State.{Partition, Port, is_free, item_at}
-use Rattle.apex_laws.specs.ObjectSentences.{IsAcquiring, IsClearing, IsDisplay, IsEventWait, IsReading, IsReceiving, IsReleasing, IsResetting, IsSemaphoreWait, IsSending, IsSetting, IsSignal}
+use Rattle.apex_laws.specs.ObjectSentences.{IsAcquiring, IsClearing, IsDisplay, IsEventWait, IsMutexReset, IsReading, IsReceiving, IsReleasing, IsResetting, IsSemaphoreWait, IsSending, IsSetting, IsSignal}
 
 -- afterwards the object of this number is this one, and the others are as before
 pub record OneBecomes {Object : Type 0} (before after : List (ℕ × Object)) (number : ℕ) (new : Object) : Type 0 where
@@ -74,6 +74,8 @@ IsObjectCall configuration who claimed (request.Object mutex (on.Mutex (MutexOpe
     (next ≡ record partition { mutexes = next.mutexes }) × Operates partition.mutexes next.mutexes mutex (λ found. IsAcquiring who.proc time_out found) (λ found changed. changed) answer
 IsObjectCall configuration who claimed (request.Object mutex (on.Mutex MutexOperation.Release)) partition answer next =
     (next ≡ record partition { mutexes = next.mutexes }) × Operates partition.mutexes next.mutexes mutex (λ found effect. IsReleasing found effect) (λ found changed. changed) answer
+IsObjectCall configuration who claimed (request.Object mutex (on.Mutex (MutexOperation.Reset process))) partition answer next =
+    (next ≡ record partition { mutexes = next.mutexes }) × Operates partition.mutexes next.mutexes mutex (λ found effect. IsMutexReset found effect) (λ found changed. changed) answer
 -- a created port is as it is configured
 IsObjectCall configuration who claimed (request.Create name (NewObject.SamplingPort size direction refresh)) partition answer next =
     (next ≡ record partition { sampling_ports = next.sampling_ports })

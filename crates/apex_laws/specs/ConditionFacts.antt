@@ -1,6 +1,7 @@
 -- Worked facts on the error conditions and the profile: calls in a partition that has one object of each kind.
 use Rattle.std.specs.Prelude.{◌≡◌, ℕ, List, [], ◌∷◌, true, false, pos, negsuc, codes}
 use Rattle.apex_types.specs.declared.discipline.Discipline.TheVariants as discipline
+use Rattle.apex_types.specs.declared.object_kind.NamedKind.TheVariants as named
 use Rattle.apex_types.specs.declared.record.Who.{Who}
 use Rattle.apex_types.specs.declared.operation.{BlackboardOperation.BlackboardOperation, BufferOperation.BufferOperation, CallerOperation.CallerOperation, EventOperation.EventOperation, MutexOperation.MutexOperation, NewObject.NewObject, ProcessOperation.ProcessOperation, QueuingOperation.QueuingOperation, SamplingOperation.SamplingOperation, SemaphoreOperation.SemaphoreOperation}
 use Rattle.apex_types.specs.declared.request.Request.{Request}
@@ -24,7 +25,7 @@ initialiser = process_of 0 0
 -- each kind
 abbrev pub furnished : State
 furnished = played one_partition (aperiodic 0 (codes "A") (pos 1) (pos 10)
-    ∷ creates 0 (request.CreateProcess (codes "B") (pos 20) (pos 20)) (pos 2)
+    ∷ creates 0 (request.CreateProcess (codes "B") (pos 20) (pos 20) (negsuc 0)) (pos 2)
     ∷ aperiodic 0 (codes "C") (pos 3) (pos 60)
     ∷ creates 0 (request.Create (codes "Q") (NewObject.Buffer (pos 4) (pos 1) (pos 0))) (pos 1)
     ∷ creates 0 (request.Create (codes "N") (NewObject.Blackboard (pos 4))) (pos 1)
@@ -71,13 +72,16 @@ waits_later = play one_partition (three_processes (semaphore (pos 0) (pos 1) (po
 -- each of them is computed
 pub record ConditionFacts : Type 0 where
   -- CREATE_PROCESS
-  pub may_create : conditions_told furnished initialiser (request.CreateProcess (codes "D") (pos 239) (pos 30)) ≡ []
-  pub name_taken : conditions_told furnished initialiser (request.CreateProcess (codes "A") (pos 10) (negsuc 0)) ≡ condition.NameTaken ∷ []
-  pub no_priority : conditions_told furnished initialiser (request.CreateProcess (codes "D") (pos 240) (negsuc 0)) ≡ condition.PriorityOutOfRange ∷ []
-  pub no_period : conditions_told furnished initialiser (request.CreateProcess (codes "D") (pos 10) (negsuc 1)) ≡ condition.PeriodOutOfRange ∷ []
-  pub no_multiple : conditions_told furnished initialiser (request.CreateProcess (codes "D") (pos 10) (pos 15)) ≡ condition.PeriodNotMultiple ∷ []
-  pub no_creation_in_normal : conditions_told at_work one (request.CreateProcess (codes "D") (pos 10) (negsuc 0)) ≡ condition.InNormal ∷ []
-  pub no_more_processes : conditions_told (play one_partition furnished (aperiodic 0 (codes "D") (pos 4) (pos 10) ∷ [])) initialiser (request.CreateProcess (codes "F") (pos 10) (negsuc 0)) ≡ condition.AllCreated ∷ []
+  pub may_create : conditions_told furnished initialiser (request.CreateProcess (codes "D") (pos 239) (pos 30) (negsuc 0)) ≡ []
+  pub name_taken : conditions_told furnished initialiser (request.CreateProcess (codes "A") (pos 10) (negsuc 0) (negsuc 0)) ≡ condition.NameTaken ∷ []
+  pub no_priority : conditions_told furnished initialiser (request.CreateProcess (codes "D") (pos 240) (negsuc 0) (negsuc 0)) ≡ condition.PriorityOutOfRange ∷ []
+  pub no_period : conditions_told furnished initialiser (request.CreateProcess (codes "D") (pos 10) (negsuc 1) (negsuc 0)) ≡ condition.PeriodOutOfRange ∷ []
+  pub no_multiple : conditions_told furnished initialiser (request.CreateProcess (codes "D") (pos 10) (pos 15) (negsuc 0)) ≡ condition.PeriodNotMultiple ∷ []
+  pub no_creation_in_normal : conditions_told at_work one (request.CreateProcess (codes "D") (pos 10) (negsuc 0) (negsuc 0)) ≡ condition.InNormal ∷ []
+  pub no_more_processes : conditions_told (play one_partition furnished (aperiodic 0 (codes "D") (pos 4) (pos 10) ∷ [])) initialiser (request.CreateProcess (codes "F") (pos 10) (negsuc 0) (negsuc 0)) ≡ condition.AllCreated ∷ []
+  pub no_capacity : conditions_told furnished initialiser (request.CreateProcess (codes "D") (pos 10) (negsuc 0) (pos 0)) ≡ condition.TimeCapacityOutOfRange ∷ []
+  pub may_have_capacity : conditions_told furnished initialiser (request.CreateProcess (codes "D") (pos 10) (pos 30) (pos 30)) ≡ []
+  pub above_its_period : conditions_told furnished initialiser (request.CreateProcess (codes "D") (pos 10) (pos 30) (pos 31)) ≡ condition.TimeCapacityAbovePeriod ∷ []
   -- INITIALIZE_PROCESS_CORE_AFFINITY
   pub may_move : conditions_told furnished initialiser (request.Process (pos 1) (ProcessOperation.InitializeCoreAffinity (pos 0))) ≡ []
   pub not_its_core : conditions_told furnished initialiser (request.Process (pos 1) (ProcessOperation.InitializeCoreAffinity (pos 1))) ≡ condition.CoreNotOfPartition ∷ []
@@ -87,6 +91,11 @@ pub record ConditionFacts : Type 0 where
   pub not_dormant : conditions_told at_work one (request.Process (pos 2) ProcessOperation.Start) ≡ condition.AlreadyStarted ∷ []
   pub not_created : conditions_told at_work one (request.Process (pos 4) ProcessOperation.Start) ≡ condition.NotCreated ∷ []
   pub nobodys_start : conditions_told at_work one (request.Process (pos 0) ProcessOperation.Start) ≡ condition.NotCreated ∷ []
+  pub may_start_later : conditions_told at_work one (request.Process (pos 3) (ProcessOperation.DelayedStart (pos 100))) ≡ []
+  pub not_dormant_later : conditions_told at_work one (request.Process (pos 1) (ProcessOperation.DelayedStart (pos 0))) ≡ condition.AlreadyStarted ∷ []
+  pub no_start_delay : conditions_told at_work one (request.Process (pos 3) (ProcessOperation.DelayedStart (negsuc 0))) ≡ condition.DelayOutOfRange ∷ []
+  pub below_its_period : conditions_told furnished initialiser (request.Process (pos 2) (ProcessOperation.DelayedStart (pos 19))) ≡ []
+  pub reaches_its_period : conditions_told furnished initialiser (request.Process (pos 2) (ProcessOperation.DelayedStart (pos 20))) ≡ condition.DelayNotBelowPeriod ∷ []
   pub may_stop : conditions_told at_work one (request.Process (pos 2) ProcessOperation.Stop) ≡ []
   pub stops_none : conditions_told at_work one (request.Process (pos 3) ProcessOperation.Stop) ≡ condition.AlreadyDormant ∷ []
   pub stops_itself : conditions_told at_work one (request.Process (pos 1) ProcessOperation.Stop) ≡ condition.NamesItself ∷ []
@@ -147,6 +156,17 @@ pub record ConditionFacts : Type 0 where
   pub initialiser_owns_none : conditions_told furnished initialiser (request.Object (pos 1) (on.Mutex (MutexOperation.Acquire (pos 0)))) ≡ condition.InitialisingCaller ∷ []
   pub may_release : conditions_told owning one (request.Object (pos 1) (on.Mutex MutexOperation.Release)) ≡ []
   pub not_the_owner : conditions_told owning two (request.Object (pos 1) (on.Mutex MutexOperation.Release)) ≡ condition.NotOwner ∷ []
+  pub may_reset : conditions_told owning two (request.Object (pos 1) (on.Mutex (MutexOperation.Reset (pos 1)))) ≡ []
+  pub resets_no_owner : conditions_told owning one (request.Object (pos 1) (on.Mutex (MutexOperation.Reset (pos 2)))) ≡ condition.ProcessNotOwner ∷ []
+  pub resets_nobody : conditions_told owning one (request.Object (pos 1) (on.Mutex (MutexOperation.Reset (pos 4)))) ≡ condition.NoSuchProcess ∷ []
+  pub resets_nothing : conditions_told owning one (request.Object (pos 2) (on.Mutex (MutexOperation.Reset (pos 0)))) ≡ condition.NotCreated ∷ condition.NoSuchProcess ∷ []
+  -- names, reports and the error handler
+  pub no_such_process : conditions_told at_work one (request.GetId named.Process (codes "D")) ≡ condition.NoSuchName ∷ []
+  pub may_report_nothing : conditions_told at_work one (request.ReportMessage (pos 0) []) ≡ []
+  pub reports_too_much : conditions_told at_work one (request.ReportMessage (pos 129) []) ≡ condition.LengthOutOfRange ∷ []
+  pub may_have_handler : conditions_told furnished initialiser request.CreateErrorHandler ≡ []
+  pub no_handler_in_normal : conditions_told at_work one request.CreateErrorHandler ≡ condition.InNormal ∷ []
+  pub one_handler : conditions_told (play one_partition furnished (does initialiser request.CreateErrorHandler ∷ [])) initialiser request.CreateErrorHandler ≡ condition.HandlerCreated ∷ []
   -- ports
   pub sampling_as_configured : conditions_at_first 1 (request.Create (codes "S") (NewObject.SamplingPort (pos 4) (pos 1) (pos 5))) ≡ []
   pub other_refresh : conditions_at_first 1 (request.Create (codes "S") (NewObject.SamplingPort (pos 4) (pos 1) (pos 6))) ≡ condition.NotAsConfigured ∷ []
@@ -163,6 +183,8 @@ pub record ConditionFacts : Type 0 where
   pub may_read : reported_there there (request.SamplingPort (pos 1) SamplingOperation.Read) ≡ []
   pub sends_to_no_destination : reported_there there (request.QueuingPort (pos 1) (QueuingOperation.Send (pos 1) (pos 0) (1 ∷ []))) ≡ condition.NotSource ∷ []
   pub receives_from_no_source : reported_there one (request.QueuingPort (pos 1) (QueuingOperation.Receive (pos 0))) ≡ condition.NotDestination ∷ []
+  pub clears_no_source : reported_there one (request.QueuingPort (pos 1) QueuingOperation.Clear) ≡ condition.NotDestination ∷ []
+  pub may_clear : reported_there there (request.QueuingPort (pos 1) QueuingOperation.Clear) ≡ []
   pub no_port : reported_there one (request.QueuingPort (pos 2) (QueuingOperation.Receive (pos 0))) ≡ condition.NotCreated ∷ []
   -- the disciplines of a channel's ends
   pub senders_by_source : sending_discipline by_ends 0 ≡ discipline.Fifo
@@ -181,5 +203,5 @@ pub record ConditionFacts : Type 0 where
   pub may_stop_itself : in_profile one (at_work.partitions 0) (request.Caller CallerOperation.StopSelf) ≡ true
   pub restart_is_inside : in_profile one (at_work.partitions 0) (request.SetPartitionMode (pos 2)) ≡ true
   pub normal_mode : in_profile initialiser (furnished.partitions 0) (request.SetPartitionMode (pos 3)) ≡ true
-  pub aperiodic_is_inside : in_profile initialiser (furnished.partitions 0) (request.CreateProcess (codes "D") (pos 10) (negsuc 0)) ≡ true
-  pub periodic_is_inside : in_profile initialiser (furnished.partitions 0) (request.CreateProcess (codes "D") (pos 10) (pos 20)) ≡ true
+  pub aperiodic_is_inside : in_profile initialiser (furnished.partitions 0) (request.CreateProcess (codes "D") (pos 10) (negsuc 0) (negsuc 0)) ≡ true
+  pub periodic_is_inside : in_profile initialiser (furnished.partitions 0) (request.CreateProcess (codes "D") (pos 10) (pos 20) (negsuc 0)) ≡ true

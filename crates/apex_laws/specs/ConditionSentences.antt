@@ -1,9 +1,11 @@
 -- The error conditions of the services, in sentences: one case for each condition of each service, with what holds in the caller's
 -- partition. Services that share a condition share its case.
 use Rattle.std.specs.Prelude.{◌≡◌, ◌⊎◌, ℕ, ◌*◌, ◌-◌, ◌<◌, ◌≤◌, ℤ, pos, negsuc, ◌<ℤ◌, ◌≤ℤ◌, List, length, Option, Some, IsTrue, IsFalse, Contains}
-use Rattle.apex_types.specs.declared.limits.TheConstants.{GREATEST_MAXIMUM, GREATEST_PRIORITY, LONGEST_MESSAGE, MOST_MESSAGES}
+use Rattle.apex_types.specs.declared.limits.TheConstants.{GREATEST_MAXIMUM, GREATEST_PRIORITY, LONGEST_MESSAGE, LONGEST_REPORT, MOST_MESSAGES}
 use Rattle.apex_types.specs.declared.discipline.Discipline.{Discipline}
 use Rattle.apex_types.specs.declared.discipline.Discipline.TheVariants as discipline
+use Rattle.apex_types.specs.declared.object_kind.NamedKind.{NamedKind}
+use Rattle.apex_types.specs.declared.object_kind.NamedKind.TheVariants as named
 use Rattle.apex_types.specs.declared.object_kind.ObjectKind.{ObjectKind}
 use Rattle.apex_types.specs.declared.object_kind.ObjectKind.TheVariants as kind
 use Rattle.apex_types.specs.declared.record.Who.{Who}
@@ -102,6 +104,15 @@ OneIsNamed {Object} name name_of objects = (entry : ℕ × Object) × Contains o
 abbrev pub OneOfKindIsNamed : Partition → ObjectKind → List ℕ → Type 0
 OneOfKindIsNamed partition kind name = OneIsNamed name (name_in kind) (objects_of partition kind)
 
+-- a process of a partition has this name
+abbrev pub OneProcessIsNamed : Partition → List ℕ → Type 0
+OneProcessIsNamed partition name = OneIsNamed name (λ (process : Process). process.name) partition.table
+
+-- a process, or an object or port of this kind, has this name
+abbrev pub OneHasName : Partition → NamedKind → List ℕ → Type 0
+OneHasName partition named.Process name = OneProcessIsNamed partition name
+OneHasName partition (named.Object kind) name = OneOfKindIsNamed partition kind name
+
 -- what the configuration says
 
 -- a number means a direction: 0 a source, 1 a destination
@@ -172,16 +183,17 @@ HasTimeOut (request.Caller (CallerOperation.SuspendSelf given)) time_out = time_
 HasTimeOut (request.Object mutex (on.Mutex (MutexOperation.Acquire given))) time_out = time_out ≡ given
 HasTimeOut asked time_out = WaitsFor asked time_out
 
--- a service that sets a partition up: a creation, or INITIALIZE_PROCESS_CORE_AFFINITY
+-- a service that sets a partition up: a creation, also of an error handler, or INITIALIZE_PROCESS_CORE_AFFINITY
 abbrev pub IsSetUp : Request → Type 0
-IsSetUp (request.CreateProcess name priority period) = Unit {0}
+IsSetUp (request.CreateProcess name priority period time_capacity) = Unit {0}
 IsSetUp (request.Process process (ProcessOperation.InitializeCoreAffinity core)) = Unit {0}
 IsSetUp (request.Create name object) = Unit {0}
+IsSetUp request.CreateErrorHandler = Unit {0}
 IsSetUp _ = ⊥
 
 -- the name is taken in the kind that a service creates
 abbrev pub NameIsTaken : Partition → Request → Type 0
-NameIsTaken partition (request.CreateProcess name priority period) = OneIsNamed name (λ (process : Process). process.name) partition.table
+NameIsTaken partition (request.CreateProcess name priority period time_capacity) = OneProcessIsNamed partition name
 NameIsTaken partition (request.Create name object) = OneOfKindIsNamed partition (kind_of object) name
 NameIsTaken partition _ = ⊥
 
@@ -196,13 +208,13 @@ KindIsFull configuration number partition _ = ⊥
 
 -- of the kind that a service creates, as many are created as the partition may create, not counting the initialising process
 abbrev pub AllAreCreated : Configuration → ℕ → Partition → Request → Type 0
-AllAreCreated configuration number partition (request.CreateProcess name priority period) = process_limit configuration number ≤ length partition.table - 1
+AllAreCreated configuration number partition (request.CreateProcess name priority period time_capacity) = process_limit configuration number ≤ length partition.table - 1
 AllAreCreated configuration number partition (request.Create name object) = KindIsFull configuration number partition (kind_of object)
 AllAreCreated configuration number partition _ = ⊥
 
--- an error condition of a service holds for a call of this process in this state of its partition. STOP_SELF and
--- GET_TIME have none; CREATE_EVENT, CLEAR_BLACKBOARD, SIGNAL_SEMAPHORE, SET_EVENT, RESET_EVENT and the waits for a message, a
--- semaphore or an event have only shared ones
+-- an error condition of a service holds for a call of this process in this state of its partition. STOP_SELF, GET_TIME and
+-- GET_PARTITION_STATUS have none; CREATE_EVENT, CLEAR_BLACKBOARD, SIGNAL_SEMAPHORE, SET_EVENT, RESET_EVENT, GET_PROCESS_STATUS,
+-- GET_PROCESS_MUTEX_STATE and the waits for a message, a semaphore or an event have only shared ones
 module _ (configuration : Configuration) (who : Who) (partition : Partition) where
   pub data HasCondition : Request → Condition → Type 0 where
     -- shared conditions
@@ -213,16 +225,27 @@ module _ (configuration : Configuration) (who : Who) (partition : Partition) whe
     name_taken : {asked : Request} → NameIsTaken partition asked → HasCondition asked condition.NameTaken
     all_created : {asked : Request} → AllAreCreated configuration who.part partition asked → HasCondition asked condition.AllCreated
     -- CREATE_PROCESS: a priority out of range; a period that is neither -1 nor above 0; a period above 0 that is not a multiple of the
-    -- partition's
-    create_process_priority : {name : List ℕ} {priority period : ℤ} → ¬ IsPriority priority → HasCondition (request.CreateProcess name priority period) condition.PriorityOutOfRange
-    create_process_period : {name : List ℕ} {priority period : ℤ} → ¬ (period ≡ negsuc 0) → period ≤ℤ pos 0
-        → HasCondition (request.CreateProcess name priority period) condition.PeriodOutOfRange
-    create_process_multiple : {name : List ℕ} {priority period : ℤ} → pos 0 <ℤ period → ¬ IsMultipleOf (period_of configuration who.part) period
-        → HasCondition (request.CreateProcess name priority period) condition.PeriodNotMultiple
+    -- partition's; a time capacity that is neither -1 nor above 0; one above the period, if both are above 0
+    create_process_priority : {name : List ℕ} {priority period time_capacity : ℤ} → ¬ IsPriority priority
+        → HasCondition (request.CreateProcess name priority period time_capacity) condition.PriorityOutOfRange
+    create_process_period : {name : List ℕ} {priority period time_capacity : ℤ} → ¬ (period ≡ negsuc 0) → period ≤ℤ pos 0
+        → HasCondition (request.CreateProcess name priority period time_capacity) condition.PeriodOutOfRange
+    create_process_multiple : {name : List ℕ} {priority period time_capacity : ℤ} → pos 0 <ℤ period → ¬ IsMultipleOf (period_of configuration who.part) period
+        → HasCondition (request.CreateProcess name priority period time_capacity) condition.PeriodNotMultiple
+    create_process_capacity : {name : List ℕ} {priority period time_capacity : ℤ} → ¬ (time_capacity ≡ negsuc 0) → time_capacity ≤ℤ pos 0
+        → HasCondition (request.CreateProcess name priority period time_capacity) condition.TimeCapacityOutOfRange
+    create_process_above : {name : List ℕ} {priority period time_capacity : ℤ} → pos 0 <ℤ period → period <ℤ time_capacity
+        → HasCondition (request.CreateProcess name priority period time_capacity) condition.TimeCapacityAbovePeriod
     -- INITIALIZE_PROCESS_CORE_AFFINITY: a core that is not one of the partition's
     affinity_core : {process core : ℤ} → ¬ IsCoreOf configuration who.part core → HasCondition (request.Process process (ProcessOperation.InitializeCoreAffinity core)) condition.CoreNotOfPartition
     -- START: a process that is not dormant
     start_alive : {process : ℤ} (found : Process) → IsProcess partition process found → IsTrue found.alive → HasCondition (request.Process process ProcessOperation.Start) condition.AlreadyStarted
+    -- DELAYED_START: a process that is not dormant; a delay below 0; a delay that is not below the period of a periodic process
+    delayed_start_alive : {process delay : ℤ} (found : Process) → IsProcess partition process found → IsTrue found.alive
+        → HasCondition (request.Process process (ProcessOperation.DelayedStart delay)) condition.AlreadyStarted
+    delayed_start_delay : {process delay : ℤ} → delay <ℤ pos 0 → HasCondition (request.Process process (ProcessOperation.DelayedStart delay)) condition.DelayOutOfRange
+    delayed_start_period : {process delay : ℤ} (found : Process) (period : ℕ) → IsProcess partition process found → found.period ≡ Some period → pos period ≤ℤ delay
+        → HasCondition (request.Process process (ProcessOperation.DelayedStart delay)) condition.DelayNotBelowPeriod
     -- STOP: the caller's own number; a dormant process
     stop_itself : {process : ℤ} → process ≡ pos who.proc → HasCondition (request.Process process ProcessOperation.Stop) condition.NamesItself
     stop_dormant : {process : ℤ} (found : Process) → IsProcess partition process found → IsFalse found.alive → HasCondition (request.Process process ProcessOperation.Stop) condition.AlreadyDormant
@@ -287,6 +310,10 @@ module _ (configuration : Configuration) (who : Who) (partition : Partition) whe
         → found.priority < process.current_priority → HasCondition (request.Object mutex (on.Mutex (MutexOperation.Acquire time_out))) condition.AboveCeiling
     -- RELEASE_MUTEX: a caller that is not the owner
     release_not_owner : {mutex : ℤ} (found : Mutex) → IsObject partition.mutexes mutex found → ¬ (found.owner ≡ Some who.proc) → HasCondition (request.Object mutex (on.Mutex MutexOperation.Release)) condition.NotOwner
+    -- RESET_MUTEX: a number that names no created process; a created process that does not own the mutex
+    reset_no_process : {mutex process : ℤ} → NamesNoProcess partition process → HasCondition (request.Object mutex (on.Mutex (MutexOperation.Reset process))) condition.NoSuchProcess
+    reset_not_owner : {mutex process : ℤ} (found : Mutex) (named : Process) (is : IsProcess partition process named) → IsObject partition.mutexes mutex found
+        → ¬ (found.owner ≡ Some is.number) → HasCondition (request.Object mutex (on.Mutex (MutexOperation.Reset process))) condition.ProcessNotOwner
     -- CREATE_SAMPLING_PORT, CREATE_QUEUING_PORT: no such port is configured
     create_sampling_port : {name : List ℕ} {size way refresh : ℤ} → ¬ IsSamplingPort configuration who.part name size way refresh
         → HasCondition (request.Create name (NewObject.SamplingPort size way refresh)) condition.NotAsConfigured
@@ -310,5 +337,12 @@ module _ (configuration : Configuration) (who : Who) (partition : Partition) whe
     -- RECEIVE_QUEUING_MESSAGE: a port that is not a destination
     receive_no_destination : {port time_out : ℤ} (found : Port) → IsObject partition.queuing_ports port found → ¬ (found.direction ≡ direction.Destination)
         → HasCondition (request.QueuingPort port (QueuingOperation.Receive time_out)) condition.NotDestination
-    -- GET_BUFFER_ID and its counterparts: nothing of the kind has the name
-    get_id_unnamed : {of : ObjectKind} {name : List ℕ} → ¬ OneOfKindIsNamed partition of name → HasCondition (request.GetId of name) condition.NoSuchName
+    -- CLEAR_QUEUING_PORT: a port that is not a destination
+    clear_no_destination : {port : ℤ} (found : Port) → IsObject partition.queuing_ports port found → ¬ (found.direction ≡ direction.Destination)
+        → HasCondition (request.QueuingPort port QueuingOperation.Clear) condition.NotDestination
+    -- GET_PROCESS_ID, GET_BUFFER_ID and its counterparts: no process, or nothing of the kind, has the name
+    get_id_unnamed : {of : NamedKind} {name : List ℕ} → ¬ OneHasName partition of name → HasCondition (request.GetId of name) condition.NoSuchName
+    -- REPORT_APPLICATION_MESSAGE: a length that is not 0 to 128 bytes
+    report_length : {length : ℤ} {message : List ℕ} → ¬ IsFrom (pos 0) (pos LONGEST_REPORT) length → HasCondition (request.ReportMessage length message) condition.LengthOutOfRange
+    -- CREATE_ERROR_HANDLER: a handler that is created already
+    handler_created : IsTrue partition.has_handler → HasCondition request.CreateErrorHandler condition.HandlerCreated

@@ -1,5 +1,5 @@
 -- The laws that tie the pieces to the machine. Each is the contract of a function in `src/lib.rt`.
-use Rattle.std.specs.Prelude.{◌<◌, ◌≡◌, ◌↔◌, ℕ, List, [], ◌∷◌, Option, Some, None, IsTrue, IsFalse, Contains, not, is_some, ◌&&◌, Bool, true, if◌then◌else◌}
+use Rattle.std.specs.Prelude.{◌<◌, ◌≡◌, ◌↔◌, ℕ, List, [], ◌∷◌, Option, Some, None, IsTrue, IsFalse, Contains, not, is_some, ◌&&◌, Bool, true, false, if◌then◌else◌}
 use Rattle.apex_types.specs.declared.record.Ordered.{Ordered}
 use Rattle.apex_types.specs.declared.record.Who.{Who}
 use Rattle.apex_types.specs.declared.shape.End.{End}
@@ -10,14 +10,14 @@ use Rattle.apex_machine.specs.declared.state.Entry.{Entry}
 use Rattle.apex_machine.specs.declared.state.Process.{Process}
 use Rattle.apex_machine.specs.declared.state.WaitingSet.{WaitingSet}
 pub use Rattle.apex_machine.specs.Channels.{EndsAreApart}
-use Rattle.apex_machine.specs.Channels.{is_receiver, is_sender}
+use Rattle.apex_machine.specs.Channels.{is_receiver, is_sender, queuing_of}
 use Rattle.apex_machine.specs.Choice.{IsChosen, IsReady, foremost, ready_entries}
 use Rattle.apex_machine.specs.Configuration.{Configuration}
 pub use Rattle.apex_machine.specs.Configuration.{WindowsAreConfigured}
 use Rattle.apex_machine.specs.Demands.{LocalStep, has_entry_in}
 use Rattle.apex_machine.specs.Pieces.{Part, Piece, is_configured, part, touches}
 use Rattle.apex_machine.specs.Runs.{ArePlaced, Finds, PieceRun, Refusal}
-use Rattle.apex_machine.specs.State.{Channel, Partition, Port, State, Table, channel_set, cold_state, entries_at_end, is_of_channel, is_same, item_at, objects_of}
+use Rattle.apex_machine.specs.State.{Channel, Content, Queued, Sampled, Partition, Port, State, Table, channel_set, cold_state, entries_at_end, is_of_channel, is_same, item_at, objects_of}
 use Rattle.apex_machine.specs.Step.{Run, Step}
 use Rattle.apex_machine.specs.Views.{judge, view_in, view_of}
 use Rattle.apex_machine.specs.Waiting.{waits_at}
@@ -135,6 +135,26 @@ WaitersHaveEntries state = (who : Who) (wanted : WaitingSet) → IsTrue (waits_a
 -- the cold state has this, a step from a tied state keeps it, and so does a run
 abbrev pub WhoWaitsHasEntry : Type 0
 WhoWaitsHasEntry = IsKept WaitersHaveEntries
+
+-- what channels hold
+
+-- whether a channel holds messages for its receivers; else it holds the last message for its readers
+abbrev pub holds_messages : Content → Bool
+holds_messages (Queued messages) = true
+holds_messages (Sampled last) = false
+
+-- the queuing channels, and no others, hold messages for their receivers
+abbrev pub HoldTheirKind : Configuration → State → Type 0
+HoldTheirKind configuration state = (number : ℕ) → holds_messages (state.channels number).content ≡ is_some (queuing_of configuration number)
+
+-- the cold state's channels hold what their kinds do, a step keeps this, and so does a run
+abbrev pub KindsStay : Type 0
+KindsStay =
+    ((configuration : Configuration) → HoldTheirKind configuration (cold_state configuration))
+    × ((configuration : Configuration) (state : State) (ordered : Ordered) (next : State)
+    → HoldTheirKind configuration state → Step configuration state ordered next → HoldTheirKind configuration next)
+    × ((configuration : Configuration) (records : List Ordered) (state final : State)
+    → HoldTheirKind configuration state → Run configuration state records final → HoldTheirKind configuration final)
 
 -- steps
 

@@ -1,11 +1,12 @@
 -- Processes and objects by their numbers: which one is found under a number, and which numbers are new.
-use Rattle.std.specs.Prelude.{◌≡◌, ◌↔◌, ℕ, ◌<◌, ◌≤◌, ℤ, pos, List, Option, Some, None, IsTrue, Contains}
+use Rattle.std.specs.Prelude.{◌≡◌, ◌↔◌, ℕ, ◌<◌, ◌≤◌, ℤ, pos, negsuc, List, Option, Some, None, IsTrue, Contains}
 use Rattle.apex_types.specs.declared.limits.TheConstants.{GREATEST_NUMBER}
 use Rattle.apex_machine.specs.declared.state.Process.{Process}
 use Rattle.apex_machine.specs.Answer.{HasValue, NewNumber}
-use Rattle.apex_machine.specs.State.{Blackboard, Buffer, Event, Mutex, Port, Semaphore, Table, is_free, item_at}
+use Rattle.apex_machine.specs.State.{Blackboard, Buffer, Event, Mutex, Partition, Port, Semaphore, Table, is_free, item_at}
 use Rattle.apex_machine.specs.Names.{number_named}
-use Rattle.apex_laws.specs.ConditionSentences.{OneIsNamed}
+use Rattle.apex_machine.specs.Statuses.{mutex_owned}
+use Rattle.apex_laws.specs.ConditionSentences.{OneIsNamed, Owns}
 use Rattle.apex_laws.specs.Laws.{are_distinct}
 
 -- in a table of distinct numbers, the process found under a number is the one that has it; none is found exactly if no process has it
@@ -38,14 +39,24 @@ AreFoundByName {Object} name_of =
     → ((number : ℕ) → number_named name_of name objects ≡ Some number → (object : Object) × Contains objects (number, object) × (name_of object ≡ name))
     × ((number_named name_of name objects ≡ None) ↔ (¬ OneIsNamed name name_of objects))
 
--- this holds for the objects and ports of each kind
+-- this holds for processes, and for the objects and ports of each kind
 pub record NamesAreFound : Type 0 where
+  pub processes : AreFoundByName (λ (process : Process). process.name)
   pub buffers : AreFoundByName (λ (buffer : Buffer). buffer.name)
   pub blackboards : AreFoundByName (λ (blackboard : Blackboard). blackboard.name)
   pub semaphores : AreFoundByName (λ (semaphore : Semaphore). semaphore.name)
   pub events : AreFoundByName (λ (event : Event). event.name)
   pub mutexes : AreFoundByName (λ (mutex : Mutex). mutex.name)
   pub ports : AreFoundByName (λ (port : Port). port.name)
+
+-- the number reported of the mutex that a process owns is that of a mutex that it owns; it is -2 exactly if the process owns none, and no
+-- other number below 0
+abbrev pub OwnedIsFound : Type 0
+OwnedIsFound =
+    (partition : Partition) (process : ℕ)
+    → ((number : ℕ) → mutex_owned partition.mutexes process ≡ pos number → Owns partition process number)
+    × ((mutex_owned partition.mutexes process ≡ negsuc 1) ↔ ((number : ℕ) → ¬ Owns partition process number))
+    × ((below : ℕ) → mutex_owned partition.mutexes process ≡ negsuc below → below ≡ 1)
 
 -- a new number of a kind: it is from 1 to 2,147,483,647, and no object of the kind has it
 pub record IsNewNumber {Object : Type 0} (objects : List (ℕ × Object)) (claimed : Option ℤ) : Type 0 where

@@ -1,5 +1,6 @@
 -- What each rule of an object or a channel computes is exactly what its sentences say.
 use Rattle.std.specs.Prelude.{◌≡◌, ◌↔◌, ℕ, ℤ, List, [], ◌∷◌, Option, Some, None, Bool, IsTrue}
+use Rattle.apex_machine.specs.declared.state.CoreState.{CoreState}
 use Rattle.apex_types.specs.declared.discipline.Discipline.{Discipline}
 use Rattle.apex_types.specs.declared.record.Who.{Who}
 use Rattle.apex_types.specs.declared.request.Request.{Request}
@@ -8,16 +9,17 @@ use Rattle.apex_machine.specs.declared.state.WaitingSet.{WaitingSet}
 use Rattle.apex_machine.specs.After.{objects_by}
 use Rattle.apex_machine.specs.Answer.{Effect}
 use Rattle.apex_machine.specs.Configuration.{Configuration}
-use Rattle.apex_machine.specs.Objects.{acquired, board_read, cleared, displayed, event_reset, event_set, event_waited, mutex_released, semaphore_waited, signalled}
-use Rattle.apex_machine.specs.Ports.{Use, sampled, suits, used, written}
-use Rattle.apex_machine.specs.Queue.{Messages, received, sent}
-use Rattle.apex_machine.specs.State.{Channel, Content, Mutex, Partition, Stamped}
-use Rattle.apex_machine.specs.Waiting.{IsFirst, first_waiter}
+use Rattle.apex_machine.specs.Objects.{acquired, board_read, cleared, displayed, event_reset, event_set, event_waited, handed_on, mutex_released, semaphore_waited, signalled}
+use Rattle.apex_machine.specs.Ports.{Use, arrived, departed, sampled, suits, used, written}
+use Rattle.apex_machine.specs.Queue.{Messages, emptied, received, sent}
+use Rattle.apex_machine.specs.State.{Channel, Content, Mutex, Partition, Queued, Stamped}
+use Rattle.apex_machine.specs.Step.{IsTaken}
+use Rattle.apex_machine.specs.Waiting.{IsFirst, first_waiter, first_waiters}
 use Rattle.apex_machine.specs.ServiceConditions.{conditions_of}
 use Rattle.apex_machine.specs.Services.{answer_of}
 use Rattle.apex_laws.specs.CallSentences.{IsObjectCall}
 use Rattle.apex_laws.specs.Laws.{AllEntries, IsInOrder, entries_at}
-use Rattle.apex_laws.specs.ObjectSentences.{IsAcquiring, IsClearing, IsDisplay, IsEventWait, IsReading, IsReceiving, IsReleasing, IsResetting, IsSampling, IsSemaphoreWait, IsSending, IsSetting, IsSignal, IsUse, IsWriting}
+use Rattle.apex_laws.specs.ObjectSentences.{AreFirst, IsAcquiring, IsArriving, IsClearing, IsDeparting, IsDisplay, IsEmptying, IsEventWait, IsMutexReset, IsReading, IsReceiving, IsReleasing, IsResetting, IsSampling, IsSemaphoreWait, IsSending, IsSetting, IsSignal, IsUse, IsWriting}
 
 -- each entry of a waiting set has a place of its own
 abbrev pub AreApart : List Entry → Type 0
@@ -28,12 +30,14 @@ AreApart (entry ∷ entries) = AllEntries (λ other. ¬ (entry.place ≡ other.p
 abbrev pub OrderIsApart : Type 0
 OrderIsApart = (count : ℕ) (entries : List Entry) → IsInOrder count entries → AreApart entries
 
--- the first of a waiting set is the entry that no other precedes, and there is none only in an empty set
+-- the first of a waiting set is the entry that no other precedes, and there is none only in an empty set; the first ones, up to a number, are
+-- each the first of those that are left
 abbrev pub FirstIsTheSentence : Type 0
 FirstIsTheSentence =
     (discipline : Discipline) (entries : List Entry) → AreApart entries
     → ((entry : Entry) → (first_waiter discipline entries ≡ Some entry) ↔ IsFirst discipline entries entry)
     × ((first_waiter discipline entries ≡ None) ↔ (entries ≡ []))
+    × ((count : ℕ) (first : List Entry) → (first ≡ first_waiters discipline count entries) ↔ AreFirst discipline count entries first)
 
 -- buffers and queuing channels
 abbrev pub QueueIsTheSentence : Type 0
@@ -42,6 +46,8 @@ QueueIsTheSentence =
     → (effect ≡ sent capacity message time_out (first_waiter discipline receivers) messages) ↔ IsSending capacity message time_out discipline receivers messages effect)
     × ((time_out : ℤ) (discipline : Discipline) (senders : List Entry) (messages : Messages) (effect : Effect Messages) → AreApart senders
     → (effect ≡ received time_out (first_waiter discipline senders) messages) ↔ IsReceiving time_out discipline senders messages effect)
+    × ((capacity : ℕ) (discipline : Discipline) (senders : List Entry) (effect : Effect Messages) → AreApart senders
+    → (effect ≡ emptied (first_waiters discipline capacity senders)) ↔ IsEmptying capacity discipline senders effect)
 
 -- blackboards
 abbrev pub BlackboardIsTheSentence : Type 0
@@ -70,6 +76,8 @@ MutexIsTheSentence =
     ((caller : ℕ) (time_out : ℤ) (mutex : Mutex) (effect : Effect Mutex) → (effect ≡ acquired caller time_out mutex) ↔ IsAcquiring caller time_out mutex effect)
     × ((mutex : Mutex) (effect : Effect Mutex) → AreApart mutex.waiters
     → (effect ≡ mutex_released (first_waiter mutex.discipline mutex.waiters) mutex) ↔ IsReleasing mutex effect)
+    × ((mutex : Mutex) (effect : Effect Mutex) → AreApart mutex.waiters
+    → (effect ≡ handed_on (first_waiter mutex.discipline mutex.waiters) mutex) ↔ IsMutexReset mutex effect)
 
 -- sampling channels
 abbrev pub SamplingIsTheSentence : Type 0
@@ -84,10 +92,22 @@ ChannelIsTheSentence =
     → IsTrue (suits configuration number partition how channel.content)
     → (effect ≡ used configuration now number partition how channel channel.content) ↔ IsUse configuration now number partition channel how effect
 
+-- an arrival at a channel of either kind, and a departure from a queuing channel
+abbrev pub CrossingIsTheSentence : Type 0
+CrossingIsTheSentence =
+    (configuration : Configuration) (now number : ℕ) (message : List ℕ) (channel : Channel) (woken : List Who) (next : Content)
+    → AreApart channel.senders → AreApart channel.receivers
+    → (((woken ≡ (arrived configuration now number message channel).answer.woken) × (next ≡ (arrived configuration now number message channel).next))
+    ↔ IsArriving configuration now number message channel woken next)
+    × ((messages : Messages) → channel.content ≡ Queued messages
+    → (IsTaken (departed configuration now number channel).answer message
+    × (woken ≡ (departed configuration now number channel).answer.woken) × (next ≡ (departed configuration now number channel).next))
+    ↔ IsDeparting configuration number message channel woken next)
+
 -- the services of objects use and change exactly the object that they name, and creations add exactly one, by the sentences; this holds in
 -- a partition whose waiting sets have their entries apart, if no error condition holds
 abbrev pub ObjectCallIsTheSentence : Type 0
 ObjectCallIsTheSentence =
-    (configuration : Configuration) (now : ℕ) (who : Who) (claimed : Option ℤ) (asked : Request) (partition : Partition)
+    (configuration : Configuration) (cores : List CoreState) (core : ℕ) (who : Who) (claimed : Option ℤ) (asked : Request) (partition : Partition)
     → ((wanted : WaitingSet) → AreApart (entries_at partition wanted)) → conditions_of configuration who partition asked ≡ []
-    → IsObjectCall configuration who claimed asked partition (answer_of now who partition asked) (objects_by configuration who claimed asked partition)
+    → IsObjectCall configuration who claimed asked partition (answer_of cores core who partition asked) (objects_by configuration who claimed asked partition)

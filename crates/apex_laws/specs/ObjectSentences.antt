@@ -1,5 +1,5 @@
 -- What each operation on an object or a channel gives its caller and leaves, in sentences: one case for each sentence of its rule.
-use Rattle.std.specs.Prelude.{◌≡◌, ℕ, ◌+◌, ◌-◌, ◌<◌, ◌≤◌, ℤ, pos, List, [], ◌∷◌, ◌++◌, length, Option, Some, None, Bool, true, false, IsFalse, IsTrue}
+use Rattle.std.specs.Prelude.{◌≡◌, ◌⊎◌, ℕ, suc, ◌+◌, ◌-◌, ◌<◌, ◌≤◌, ℤ, pos, List, [], ◌∷◌, ◌++◌, length, Option, Some, None, Bool, true, false, IsFalse, IsTrue}
 use Rattle.apex_types.specs.declared.code.Code.TheVariants as code
 use Rattle.apex_types.specs.declared.discipline.Discipline.{Discipline}
 use Rattle.apex_types.specs.declared.record.Out.{Out}
@@ -9,10 +9,10 @@ use Rattle.apex_machine.specs.declared.state.Entry.{Entry}
 use Rattle.apex_machine.specs.Answer.{Effect, Nothing, Number, waiters_of, effect_on}
 use Rattle.apex_machine.specs.Channels.{capacity_of, is_at_destination, is_at_source, receiving_discipline, refresh_of, sending_discipline}
 use Rattle.apex_machine.specs.Configuration.{Configuration}
-use Rattle.apex_machine.specs.Ports.{Ask, Receive, Read, Send, Use, Write}
-use Rattle.apex_machine.specs.Queue.{Messages}
-use Rattle.apex_machine.specs.State.{Channel, Content, Mutex, Queued, Sampled, Stamped}
-use Rattle.apex_machine.specs.Waiting.{IsFirst}
+use Rattle.apex_machine.specs.Ports.{Ask, Clear, Receive, Read, Send, Use, Write}
+use Rattle.apex_machine.specs.Queue.{Messages, messages_sent}
+use Rattle.apex_machine.specs.State.{Channel, Content, Mutex, Queued, Sampled, Stamped, is_same}
+use Rattle.apex_machine.specs.Waiting.{IsFirst, without}
 
 -- an outcome with its message and the processes whose waits end, and the object after it
 abbrev pub gives : {Object : Type 0} → Out → List ℕ → List Who → Object → Effect Object
@@ -49,6 +49,20 @@ pub data IsReceiving (time_out : ℤ) (discipline : Discipline) (senders : List 
   sender_wakes : (message : List ℕ) (others : Messages) (sender : Entry) → messages ≡ message ∷ others → IsFirst discipline senders sender
       → effect ≡ gives no_error message (sender.who ∷ []) (others ++ sender.message ∷ []) → IsReceiving time_out discipline senders messages effect
   no_message : messages ≡ [] → IsUnmet time_out messages effect → IsReceiving time_out discipline senders messages effect
+
+-- entries of a waiting set are its first ones, as many as this number, or all if the set has no more: each is the first of those that are
+-- left
+abbrev pub AreFirst : Discipline → ℕ → List Entry → List Entry → Type 0
+AreFirst discipline count entries [] = (count ≡ 0) ⊎ (entries ≡ [])
+AreFirst discipline count entries (first ∷ others) =
+    (fewer : ℕ) × (count ≡ suc fewer) × IsFirst discipline entries first × AreFirst discipline fewer (without (is_same first.who) entries) others
+
+-- CLEAR_QUEUING_PORT: all messages leave; the first senders that wait, as many as there is room for, wake, and their messages are what the
+-- queue then holds
+pub record IsEmptying (capacity : ℕ) (discipline : Discipline) (senders : List Entry) (effect : Effect Messages) : Type 0 where
+  pub first : List Entry
+  pub are_first : AreFirst discipline capacity senders first
+  pub wakes : effect ≡ gives no_error [] (waiters_of first) (messages_sent first)
 
 -- DISPLAY_BLACKBOARD: the message replaces the last one, and every waiting reader wakes
 abbrev pub IsDisplay : List ℕ → List Entry → Effect (Option (List ℕ)) → Type 0
@@ -103,6 +117,12 @@ pub data IsReleasing (mutex : Mutex) (effect : Effect Mutex) : Type 0 where
       → effect ≡ gives no_error [] (waiter.who ∷ []) (record mutex { owner = Some waiter.who.proc; count = 1 }) → IsReleasing mutex effect
   freed : mutex.count ≤ 1 → mutex.waiters ≡ [] → effect ≡ gives no_error [] [] (record mutex { owner = None; count = 0 }) → IsReleasing mutex effect
 
+-- RESET_MUTEX: whatever the count, the mutex goes with count 1 to the first waiter, who wakes; with no waiter the mutex becomes free
+pub data IsMutexReset (mutex : Mutex) (effect : Effect Mutex) : Type 0 where
+  handed_on : (waiter : Entry) → IsFirst mutex.discipline mutex.waiters waiter
+      → effect ≡ gives no_error [] (waiter.who ∷ []) (record mutex { owner = Some waiter.who.proc; count = 1 }) → IsMutexReset mutex effect
+  freed : mutex.waiters ≡ [] → effect ≡ gives no_error [] [] (record mutex { owner = None; count = 0 }) → IsMutexReset mutex effect
+
 -- WRITE_SAMPLING_MESSAGE: the message replaces the last one and is stamped with the writer's time
 abbrev pub IsWriting : ℕ → List ℕ → Effect (Option Stamped) → Type 0
 IsWriting now message effect = effect ≡ gives no_error [] [] (Some (record { message = message; stamp = now }))
@@ -139,8 +159,35 @@ pub data IsUse (configuration : Configuration) (now number partition : ℕ) (cha
   receives : (time_out : ℤ) (messages : Messages) (inner : Effect Messages) → how ≡ Receive time_out → channel.content ≡ Queued messages
       → IsReceiving time_out (sending_discipline configuration number) channel.senders messages inner
       → effect ≡ effect_on Queued inner → IsUse configuration now number partition channel how effect
+  clears : (messages : Messages) (inner : Effect Messages) → how ≡ Clear → channel.content ≡ Queued messages
+      → IsEmptying (capacity_of configuration number) (sending_discipline configuration number) channel.senders inner
+      → effect ≡ effect_on Queued inner → IsUse configuration now number partition channel how effect
   asks_source : (messages : Messages) → how ≡ Ask → channel.content ≡ Queued messages → IsTrue (is_at_source configuration number partition)
       → effect ≡ tells_channel messages channel.senders → IsUse configuration now number partition channel how effect
   asks_destination : (messages : Messages) → how ≡ Ask → channel.content ≡ Queued messages → IsFalse (is_at_source configuration number partition)
       → IsTrue (is_at_destination configuration number partition) → effect ≡ tells_channel messages channel.receivers
       → IsUse configuration now number partition channel how effect
+
+-- messages that pass an end outside
+
+-- an arrival at a channel: at a sampling channel the message replaces the last one and is stamped with the time; at a queuing channel the
+-- first receiver that waits wakes with the message; else, if there is room, the message becomes the newest; else it is lost
+pub data IsArriving (configuration : Configuration) (now number : ℕ) (message : List ℕ) (channel : Channel) (woken : List Who) (next : Content) : Type 0 where
+  is_written : (last : Option Stamped) → channel.content ≡ Sampled last → woken ≡ [] → next ≡ Sampled (Some (record { message = message; stamp = now }))
+      → IsArriving configuration now number message channel woken next
+  first_gets_it : (messages : Messages) (receiver : Entry) → channel.content ≡ Queued messages
+      → IsFirst (receiving_discipline configuration number) channel.receivers receiver → woken ≡ receiver.who ∷ [] → next ≡ Queued messages
+      → IsArriving configuration now number message channel woken next
+  room : (messages : Messages) → channel.content ≡ Queued messages → channel.receivers ≡ [] → length messages < capacity_of configuration number
+      → woken ≡ [] → next ≡ Queued (messages ++ message ∷ []) → IsArriving configuration now number message channel woken next
+  is_lost : (messages : Messages) → channel.content ≡ Queued messages → channel.receivers ≡ [] → capacity_of configuration number ≤ length messages
+      → woken ≡ [] → next ≡ Queued messages → IsArriving configuration now number message channel woken next
+
+-- a departure from a queuing channel: the oldest message leaves, and if senders wait, the first sender's message becomes the newest and that
+-- sender wakes
+pub data IsDeparting (configuration : Configuration) (number : ℕ) (message : List ℕ) (channel : Channel) (woken : List Who) (next : Content) : Type 0 where
+  oldest_leaves : (others : Messages) → channel.content ≡ Queued (message ∷ others) → channel.senders ≡ [] → woken ≡ [] → next ≡ Queued others
+      → IsDeparting configuration number message channel woken next
+  sender_wakes : (others : Messages) (sender : Entry) → channel.content ≡ Queued (message ∷ others)
+      → IsFirst (sending_discipline configuration number) channel.senders sender → woken ≡ sender.who ∷ []
+      → next ≡ Queued (others ++ sender.message ∷ []) → IsDeparting configuration number message channel woken next

@@ -36,7 +36,7 @@ pub record IsBoundedPart (place : ℕ) (partition : Partition) : Type 0 where
 
 -- CREATE_PROCESS gives a period that a caller can give
 abbrev pub GivesPeriod : Request → Type 0
-GivesPeriod (request.CreateProcess name priority (pos period)) = period < period_limit
+GivesPeriod (request.CreateProcess name priority (pos period) time_capacity) = period < period_limit
 GivesPeriod _ = Unit {0}
 
 -- if a record gives a period, it is one that a caller can give

@@ -2,8 +2,9 @@
 -- contract of a function in `src/lib.rt`.
 use Rattle.std.specs.Prelude.{◌≡◌, ◌≤◌, ◌<◌, ℕ, ◌+◌, List, [], ◌∷◌, ◌++◌, Option, None, if◌then◌else◌, Bool, false, IsTrue, IsFalse}
 use Rattle.apex_types.specs.declared.object_kind.ObjectKind.{ObjectKind}
-use Rattle.apex_types.specs.declared.record.Body.TheVariants.{Call, Disp, Ret, Tick}
+use Rattle.apex_types.specs.declared.record.Body.TheVariants.{Arrive, Call, Depart, Disp, Ret, Tick}
 use Rattle.apex_types.specs.declared.record.Call.{Call as CallRecord}
+use Rattle.apex_types.specs.declared.record.Crossing.{Crossing}
 use Rattle.apex_types.specs.declared.record.Ordered.{Ordered}
 use Rattle.apex_types.specs.declared.record.Return.{Return}
 use Rattle.apex_types.specs.declared.record.Who.{Who}
@@ -102,7 +103,7 @@ LetsGoAsAnswered =
     → IsOwnCall configuration number place core cores partition call → IsTrue (is_no_error call.claim.out) → stop_of call.request ≡ None
     → channel_of partition call.request ≡ None
     → (wanted : WaitingSet) → set_after place (Call call) wanted (entries_at partition wanted)
-    ≡ without (λ who. is_named who (answer_of (time_of cores core) call.who partition call.request).woken) (entries_at partition wanted)
+    ≡ without (λ who. is_named who (answer_of cores core call.who partition call.request).woken) (entries_at partition wanted)
 
 -- ticks
 
@@ -121,11 +122,13 @@ DueLeave =
 abbrev pub OnlyProcessesChange : Partition → Partition → Type 0
 OnlyProcessesChange before after = after ≡ record before { table = after.table }
 
--- calls of other partitions, returns and dispatches leave a partition's objects, waiting sets and ports unchanged; a dispatch leaves
--- everything unchanged
+-- calls of other partitions, arrivals, departures, returns and dispatches leave a partition's objects, waiting sets and ports unchanged; a
+-- dispatch leaves everything unchanged
 abbrev pub ForeignCallsLeaveSets : Type 0
 ForeignCallsLeaveSets =
     (configuration : Configuration) (cores : List CoreState) (place core number : ℕ) (partition : Partition)
     → ((call : CallRecord) → ¬ (call.who.part ≡ number) → OnlyProcessesChange partition (partition_by configuration cores place core number (Call call) partition))
+    × ((crossing : Crossing) → OnlyProcessesChange partition (partition_by configuration cores place core number (Arrive crossing) partition))
+    × ((crossing : Crossing) → OnlyProcessesChange partition (partition_by configuration cores place core number (Depart crossing) partition))
     × ((ret : Return) → OnlyProcessesChange partition (partition_by configuration cores place core number (Ret ret) partition))
     × ((who : Option Who) → partition_by configuration cores place core number (Disp who) partition ≡ partition)

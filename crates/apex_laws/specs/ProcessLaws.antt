@@ -8,7 +8,7 @@ use Rattle.apex_machine.specs.DueTimes.{falls_due, wait_of}
 use Rattle.apex_machine.specs.Processes.{caller_after, new_process, released, set_by, stopped, woken_by}
 use Rattle.apex_types.specs.declared.record.Who.{Who}
 use Rattle.apex_machine.specs.Answer.{Answer}
-use Rattle.apex_machine.specs.Arguments.{natural_of, period_given}
+use Rattle.apex_machine.specs.Arguments.{capacity_given, natural_of, period_given}
 use Rattle.apex_machine.specs.Services.{answer_of}
 use Rattle.apex_machine.specs.State.{Partition}
 use Rattle.apex_machine.specs.Waiting.{is_waiting}
@@ -29,7 +29,7 @@ abbrev pub ReleaseIsTheSentence : Type 0
 ReleaseIsTheSentence =
     (place time : ℕ) (old new : Process) → HasDueTime old.wait time → (new ≡ released place old) ↔ IsReleased place old new
 
--- a wait that a call ends
+-- a wait that a call, an arrival or a departure ends
 abbrev pub WakingIsTheSentence : Type 0
 WakingIsTheSentence =
     (place : ℕ) (message : List ℕ) (old new : Process) → WaitsForOther old.wait → (new ≡ woken_by place message old) ↔ IsWoken place message old new
@@ -48,10 +48,11 @@ CallerIsTheSentence =
 -- a created process
 abbrev pub CreationIsTheSentence : Type 0
 CreationIsTheSentence =
-    (core : ℕ) (name : List ℕ) (priority period : ℤ) → IsCreated core name (natural_of priority) (period_given period) (new_process core name priority period)
+    (core : ℕ) (name : List ℕ) (priority period time_capacity : ℤ)
+    → IsCreated core name (natural_of priority) (period_given period) (capacity_given time_capacity) (new_process core name priority period time_capacity)
 
 -- what the services of process management and time give
 abbrev pub AnswerIsTheSentence : Type 0
 AnswerIsTheSentence =
-    (now : ℕ) (who : Who) (partition : Partition) (asked : Request) (answer : Answer)
-    → (answer ≡ answer_of now who partition asked) ↔ IsAnswer now who partition asked answer
+    (cores : List CoreState) (core : ℕ) (who : Who) (partition : Partition) (asked : Request) (answer : Answer)
+    → (answer ≡ answer_of cores core who partition asked) ↔ IsAnswer cores core who partition asked answer

@@ -1,5 +1,5 @@
 -- What becomes of a process, in sentences: one case for each sentence of the rule of a service, of the end of a wait, or of a call.
-use Rattle.std.specs.Prelude.{◌≡◌, ◌⊎◌, ℕ, ◌+◌, ◌*◌, ◌<◌, ◌≤◌, ℤ, pos, List, [], ◌∷◌, Option, Some, None, true, false, IsFalse}
+use Rattle.std.specs.Prelude.{◌≡◌, ◌⊎◌, ℕ, ◌+◌, ◌*◌, ◌<◌, ◌≤◌, ℤ, pos, negsuc, List, [], ◌∷◌, Option, Some, None, true, false, IsFalse, IsTrue}
 use Rattle.apex_types.specs.declared.code.Code.{Code}
 use Rattle.apex_types.specs.declared.code.Code.TheVariants as code
 use Rattle.apex_types.specs.declared.record.Call.{Call as CallRecord}
@@ -15,18 +15,21 @@ use Rattle.apex_machine.specs.declared.state.CoreState.{CoreState}
 use Rattle.apex_machine.specs.declared.state.Mode.{Mode}
 use Rattle.apex_machine.specs.declared.state.Mode.TheVariants as mode
 use Rattle.apex_machine.specs.declared.state.Process.{Process}
+use Rattle.apex_machine.specs.declared.state.StartCondition.{StartCondition}
+use Rattle.apex_machine.specs.declared.state.StartCondition.TheVariants as start
 use Rattle.apex_machine.specs.declared.state.Wait.{Wait}
 use Rattle.apex_machine.specs.declared.state.Wait.TheVariants as wait
 use Rattle.apex_machine.specs.declared.state.WaitingSet.{WaitingSet}
 use Rattle.apex_machine.specs.DueTimes.{due_of_call, due_time, next_release, time_out_of}
 use Rattle.apex_machine.specs.Arguments.{natural_of}
-use Rattle.apex_machine.specs.Objects.{acquired, mutex_released}
+use Rattle.apex_machine.specs.Choice.{IsReady}
+use Rattle.apex_machine.specs.Objects.{acquired, handed_on, mutex_released}
 use Rattle.apex_machine.specs.Processes.{outcome_of, owed}
 use Rattle.apex_machine.specs.Answer.{Answer, NewNumber, Number, done, done_with, never, waiting, waking}
 use Rattle.apex_machine.specs.Names.{number_found, number_of}
 use Rattle.apex_machine.specs.Services.{answer_of, peer}
-use Rattle.apex_machine.specs.Statuses.{status_of, telling}
-use Rattle.apex_machine.specs.State.{Mutex, Partition, created, given_object, is_free, item_at, time_of}
+use Rattle.apex_machine.specs.Statuses.{mutex_owned, reporting, status_of, telling}
+use Rattle.apex_machine.specs.State.{Mutex, Partition, created, given_object, is_free, item_at, occupant_of, time_of}
 use Rattle.apex_machine.specs.Waiting.{first_waiter, service_at, set_of}
 
 -- releases and entry into NORMAL
@@ -37,23 +40,29 @@ pub record IsFirstRelease (period now time : ℕ) : Type 0 where
   pub above : now < time
   pub least : time ≤ now + period
 
--- a process enters NORMAL: an aperiodic one waits for nothing, a periodic one for its first release
-pub data IsEntry (partition_period now : ℕ) (period : Option ℕ) (entry : Wait) : Type 0 where
-  aperiodic : period ≡ None → entry ≡ wait.Nothing → IsEntry partition_period now period entry
-  periodic : (own time : ℕ) → period ≡ Some own → IsFirstRelease partition_period now time → entry ≡ wait.FirstRelease time → IsEntry partition_period now period entry
+-- a process enters NORMAL with a delay, which is 0 for START: an aperiodic one waits for nothing, or until the delay is over; a periodic one
+-- waits for its first release, which the delay puts off
+pub data IsEntry (partition_period now delay : ℕ) (period : Option ℕ) (entry : Wait) : Type 0 where
+  at_once : period ≡ None → delay ≡ 0 → entry ≡ wait.Nothing → IsEntry partition_period now delay period entry
+  delayed : period ≡ None → 0 < delay → entry ≡ wait.Delay (now + delay) → IsEntry partition_period now delay period entry
+  periodic : (own time : ℕ) → period ≡ Some own → IsFirstRelease partition_period now time → entry ≡ wait.FirstRelease (time + delay)
+      → IsEntry partition_period now delay period entry
 
--- START: the current priority becomes the base priority; in NORMAL the process enters NORMAL at once, in any other mode it waits for it
-pub data IsStarted (place partition_period now : ℕ) (current : Mode) (old new : Process) : Type 0 where
-  in_normal : (entry : Wait) → current ≡ mode.Normal → IsEntry partition_period now old.period entry
-      → new ≡ record old { current_priority = old.base_priority; alive = true; wait = entry; ready_position = place } → IsStarted place partition_period now current old new
+-- START, DELAYED_START: the current priority becomes the base priority; in NORMAL the process enters NORMAL at once, in any other mode it
+-- waits for it and keeps its delay
+pub data IsStarted (place partition_period now : ℕ) (current : Mode) (delay : ℤ) (old new : Process) : Type 0 where
+  in_normal : (entry : Wait) → current ≡ mode.Normal → IsEntry partition_period now (natural_of delay) old.period entry
+      → new ≡ record old { current_priority = old.base_priority; alive = true; wait = entry; ready_position = place }
+      → IsStarted place partition_period now current delay old new
   before_normal : ¬ (current ≡ mode.Normal)
-      → new ≡ record old { current_priority = old.base_priority; alive = true; wait = wait.NormalMode; ready_position = place } → IsStarted place partition_period now current old new
+      → new ≡ record old { current_priority = old.base_priority; alive = true; wait = wait.NormalMode delay; ready_position = place }
+      → IsStarted place partition_period now current delay old new
 
--- the mode NORMAL is entered: each process that waits for it enters it, and no other process changes
+-- the mode NORMAL is entered: each process that waits for it enters it with its delay, and no other process changes
 pub data IsNormalEntered (place partition_period now : ℕ) (old new : Process) : Type 0 where
-  waited : (entry : Wait) → old.wait ≡ wait.NormalMode → IsEntry partition_period now old.period entry → new ≡ record old { wait = entry; ready_position = place }
-      → IsNormalEntered place partition_period now old new
-  else_stays : ¬ (old.wait ≡ wait.NormalMode) → new ≡ old → IsNormalEntered place partition_period now old new
+  waited : (delay : ℤ) (entry : Wait) → old.wait ≡ wait.NormalMode delay → IsEntry partition_period now (natural_of delay) old.period entry
+      → new ≡ record old { wait = entry; ready_position = place } → IsNormalEntered place partition_period now old new
+  else_stays : ((delay : ℤ) → ¬ (old.wait ≡ wait.NormalMode delay)) → new ≡ old → IsNormalEntered place partition_period now old new
 
 -- owners of mutexes: a process that becomes the owner retains its priority and gets the mutex's; a process that stops being the owner gets
 -- the retained priority back; no other process changes
@@ -81,7 +90,9 @@ abbrev pub IsSetBy : ℕ → ℕ → List CoreState → Partition → ℕ → Re
 IsSetBy place period cores partition caller (request.Process process (ProcessOperation.InitializeCoreAffinity core)) number old new =
     OnTarget process number (new ≡ record old { affinity = natural_of core }) old new
 IsSetBy place period cores partition caller (request.Process process ProcessOperation.Start) number old new =
-    OnTarget process number (IsStarted place period (time_of cores old.affinity) partition.mode old new) old new
+    OnTarget process number (IsStarted place period (time_of cores old.affinity) partition.mode (pos 0) old new) old new
+IsSetBy place period cores partition caller (request.Process process (ProcessOperation.DelayedStart delay)) number old new =
+    OnTarget process number (IsStarted place period (time_of cores old.affinity) partition.mode delay old new) old new
 -- the target is marked
 IsSetBy place period cores partition caller (request.Process process ProcessOperation.Suspend) number old new = OnTarget process number (new ≡ record old { suspended = true }) old new
 -- the mark is cleared, and the target is ready from this place on, if it waits for nothing
@@ -95,6 +106,8 @@ IsSetBy place period cores partition caller (request.Object mutex (on.Mutex (Mut
     IsMutexChange (given_object partition.mutexes mutex) (λ found. (acquired caller time_out found).next) number old new
 IsSetBy place period cores partition caller (request.Object mutex (on.Mutex MutexOperation.Release)) number old new =
     IsMutexChange (given_object partition.mutexes mutex) (λ found. (mutex_released (first_waiter found.discipline found.waiters) found).next) number old new
+IsSetBy place period cores partition caller (request.Object mutex (on.Mutex (MutexOperation.Reset process))) number old new =
+    IsMutexChange (given_object partition.mutexes mutex) (λ found. (handed_on (first_waiter found.discipline found.waiters) found).next) number old new
 -- any other service sets nothing
 IsSetBy place period cores partition caller _ number old new = new ≡ old
 
@@ -103,6 +116,7 @@ IsSetBy place period cores partition caller _ number old new = new ≡ old
 -- the time at which a wait falls due: a release, the end of a delay, or the end of a time-out, if there is one
 abbrev pub HasDueTime : Wait → ℕ → Type 0
 HasDueTime (wait.FirstRelease due) time = time ≡ due
+HasDueTime (wait.Delay due) time = time ≡ due
 HasDueTime (wait.Until due) time = time ≡ due
 HasDueTime (wait.PeriodicRelease due) time = time ≡ due
 HasDueTime (wait.Suspended (Some due)) time = time ≡ due
@@ -122,17 +136,18 @@ ends_with place of given message process =
     record process { wait = wait.Nothing; ready_position = place; due = owed of given message }
 
 -- a wait that falls due: TIMED_WAIT and PERIODIC_WAIT return NO_ERROR, SUSPEND_SELF and the waits for objects TIMED_OUT; the release
--- for which the process waited becomes its last one; a first release returns nothing
+-- for which the process waited becomes its last one; a first release and the end of the delay of a start return nothing
 pub data IsReleased (place : ℕ) (old new : Process) : Type 0 where
   first_release : (time : ℕ) → old.wait ≡ wait.FirstRelease time → new ≡ record old { wait = wait.Nothing; ready_position = place; last_release = time; due = None }
       → IsReleased place old new
+  start_delay : (time : ℕ) → old.wait ≡ wait.Delay time → new ≡ record old { wait = wait.Nothing; ready_position = place; due = None } → IsReleased place old new
   delay : (time : ℕ) → old.wait ≡ wait.Until time → new ≡ ends_with place (Some service.TimedWait) code.NoError [] old → IsReleased place old new
   release : (time : ℕ) → old.wait ≡ wait.PeriodicRelease time
       → new ≡ ends_with place (Some service.PeriodicWait) code.NoError [] (record old { last_release = time }) → IsReleased place old new
   suspension : (due : Option ℕ) → old.wait ≡ wait.Suspended due → new ≡ ends_with place (Some service.SuspendSelf) code.TimedOut [] old → IsReleased place old new
   object : (set : WaitingSet) (due : Option ℕ) → old.wait ≡ wait.At set due → new ≡ ends_with place (service_at set) code.TimedOut [] old → IsReleased place old new
 
--- a wait that a call ends: the waiting service returns NO_ERROR, and the message if one is handed over
+-- a wait that a call, an arrival or a departure ends: the waiting service returns NO_ERROR, and the message if one is handed over
 pub data IsWoken (place : ℕ) (message : List ℕ) (old new : Process) : Type 0 where
   suspension : (due : Option ℕ) → old.wait ≡ wait.Suspended due → new ≡ ends_with place (Some service.SuspendSelf) code.NoError message old → IsWoken place message old new
   object : (set : WaitingSet) (due : Option ℕ) → old.wait ≡ wait.At set due → new ≡ ends_with place (service_at set) code.NoError message old → IsWoken place message old new
@@ -183,15 +198,16 @@ pub data IsCaller (place now : ℕ) (call : CallRecord) (old new : Process) : Ty
 
 -- creation
 
--- CREATE_PROCESS: a dormant process of this name, priority and period, on the partition's first core; it waits for nothing, it is not
--- suspended, nothing is due to it, and no release, ready position or call is noted
-pub record IsCreated (core : ℕ) (called : List ℕ) (priority : ℕ) (given_period : Option ℕ) (new : Process) : Type 0 where
+-- CREATE_PROCESS: a dormant process of this name, priority, period and time capacity, on the partition's first core; it waits for nothing, it
+-- is not suspended, nothing is due to it, and no release, ready position or call is noted
+pub record IsCreated (core : ℕ) (called : List ℕ) (priority : ℕ) (given_period given_capacity : Option ℕ) (new : Process) : Type 0 where
   pub name : new.name ≡ called
   pub base_priority : new.base_priority ≡ priority
   pub current_priority : new.current_priority ≡ priority
   pub retained_priority : new.retained_priority ≡ priority
   pub affinity : new.affinity ≡ core
   pub period : new.period ≡ given_period
+  pub time_capacity : new.time_capacity ≡ given_capacity
   pub alive : IsFalse new.alive
   pub suspended : IsFalse new.suspended
   pub wait : new.wait ≡ wait.Nothing
@@ -218,23 +234,65 @@ pub data IsResuming (target : Who) (found : Option Process) (answer : Answer) : 
   was_marked : (process : Process) → found ≡ Some process → ((due : Option ℕ) → ¬ (process.wait ≡ wait.Suspended due)) → answer ≡ done → IsResuming target found answer
   nobody : found ≡ None → answer ≡ done → IsResuming target found answer
 
+-- a mode has a number: IDLE is 0, COLD_START 1, WARM_START 2 and NORMAL 3
+abbrev pub IsModeNumber : Mode → ℕ → Type 0
+IsModeNumber mode.Idle number = number ≡ 0
+IsModeNumber mode.ColdStart number = number ≡ 1
+IsModeNumber mode.WarmStart number = number ≡ 2
+IsModeNumber mode.Normal number = number ≡ 3
+
+-- a start condition has a number: a normal start is 0, a restart of the partition 1
+abbrev pub IsStartNumber : StartCondition → ℕ → Type 0
+IsStartNumber start.NormalStart number = number ≡ 0
+IsStartNumber start.PartitionRestart number = number ≡ 1
+
+-- GET_PARTITION_STATUS: the mode, the lock level, which is 0, and the start condition
+pub record IsPartitionStatus (partition : Partition) (answer : Answer) : Type 0 where
+  pub mode : ℕ
+  pub is_mode : IsModeNumber partition.mode mode
+  pub start : ℕ
+  pub is_start : IsStartNumber partition.start start
+  pub reports : answer ≡ reporting (pos mode) (Some (pos 0)) (Some (pos start))
+
+-- the state of a process has a number: 0 if the process is dormant; 1 if it is ready and not the occupant of its core; 2 if it is ready and
+-- the occupant of its core; 3 if it waits, or is suspended
+pub data IsStateNumber (cores : List CoreState) (who : Who) (process : Process) (number : ℕ) : Type 0 where
+  dormant : IsFalse process.alive → number ≡ 0 → IsStateNumber cores who process number
+  ready : IsReady process.affinity process → ¬ (occupant_of cores process.affinity ≡ Some who) → number ≡ 1 → IsStateNumber cores who process number
+  running : IsReady process.affinity process → occupant_of cores process.affinity ≡ Some who → number ≡ 2 → IsStateNumber cores who process number
+  waits : IsTrue process.alive → ¬ IsReady process.affinity process → number ≡ 3 → IsStateNumber cores who process number
+
+-- GET_PROCESS_STATUS: the state, the current priority, and the deadline, which is -1, for none
+pub data IsProcessStatus (cores : List CoreState) (target : Who) (found : Option Process) (answer : Answer) : Type 0 where
+  of_process : (process : Process) (number : ℕ) → found ≡ Some process → IsStateNumber cores target process number
+      → answer ≡ reporting (pos number) (Some (pos process.current_priority)) (Some (negsuc 0)) → IsProcessStatus cores target found answer
+  nobody : found ≡ None → answer ≡ done → IsProcessStatus cores target found answer
+
 -- what the caller of a service of process management or time gets, if no error condition holds; for the other services the rules of their
 -- objects say it
-abbrev pub IsAnswer : ℕ → Who → Partition → Request → Answer → Type 0
-IsAnswer now who partition (request.Caller CallerOperation.StopSelf) answer = answer ≡ never
-IsAnswer now who partition (request.Caller (CallerOperation.SuspendSelf time_out)) answer = IsOverOrWaits (time_out ≡ pos 0) answer
-IsAnswer now who partition (request.Process process ProcessOperation.Resume) answer = IsResuming (peer who process) (created partition.table process) answer
-IsAnswer now who partition (request.Caller CallerOperation.GetMyId) answer = answer ≡ done_with (Number (pos who.proc))
-IsAnswer now who partition (request.Caller (CallerOperation.TimedWait ticks)) answer = IsOverOrWaits (ticks ≡ pos 0) answer
-IsAnswer now who partition (request.Caller CallerOperation.PeriodicWait) answer = IsOverOrWaits (IsAtRelease now (item_at partition.table who.proc)) answer
-IsAnswer now who partition (request.Caller CallerOperation.GetTime) answer = answer ≡ done_with (Number (pos now))
-IsAnswer now who partition (request.SetPartitionMode next) answer = answer ≡ never
-IsAnswer now who partition (request.CreateProcess name priority period) answer = answer ≡ done_with (NewNumber (is_free partition.table))
-IsAnswer now who partition (request.Process process (ProcessOperation.InitializeCoreAffinity core)) answer = answer ≡ done
-IsAnswer now who partition (request.Process process ProcessOperation.Start) answer = answer ≡ done
-IsAnswer now who partition (request.Process process ProcessOperation.Stop) answer = answer ≡ done
-IsAnswer now who partition (request.Process process ProcessOperation.Suspend) answer = answer ≡ done
-IsAnswer now who partition (request.Process process (ProcessOperation.SetPriority priority)) answer = answer ≡ done
-IsAnswer now who partition (request.GetId of name) answer = answer ≡ done_with (number_found (number_of partition of name))
-IsAnswer now who partition (request.GetStatus of number) answer = answer ≡ telling (status_of partition of number)
-IsAnswer now who partition asked answer = answer ≡ answer_of now who partition asked
+abbrev pub IsAnswer : List CoreState → ℕ → Who → Partition → Request → Answer → Type 0
+IsAnswer cores core who partition (request.Caller CallerOperation.StopSelf) answer = answer ≡ never
+IsAnswer cores core who partition (request.Caller (CallerOperation.SuspendSelf time_out)) answer = IsOverOrWaits (time_out ≡ pos 0) answer
+IsAnswer cores core who partition (request.Process process ProcessOperation.Resume) answer = IsResuming (peer who process) (created partition.table process) answer
+IsAnswer cores core who partition (request.Caller CallerOperation.GetMyId) answer = answer ≡ done_with (Number (pos who.proc))
+IsAnswer cores core who partition (request.Caller (CallerOperation.TimedWait ticks)) answer = IsOverOrWaits (ticks ≡ pos 0) answer
+IsAnswer cores core who partition (request.Caller CallerOperation.PeriodicWait) answer = IsOverOrWaits (IsAtRelease (time_of cores core) (item_at partition.table who.proc)) answer
+IsAnswer cores core who partition (request.Caller CallerOperation.GetTime) answer = answer ≡ done_with (Number (pos (time_of cores core)))
+IsAnswer cores core who partition (request.Caller CallerOperation.GetPartitionStatus) answer = IsPartitionStatus partition answer
+IsAnswer cores core who partition (request.SetPartitionMode next) answer = answer ≡ never
+IsAnswer cores core who partition (request.CreateProcess name priority period time_capacity) answer = answer ≡ done_with (NewNumber (is_free partition.table))
+IsAnswer cores core who partition (request.Process process (ProcessOperation.InitializeCoreAffinity affinity)) answer = answer ≡ done
+IsAnswer cores core who partition (request.Process process ProcessOperation.Start) answer = answer ≡ done
+IsAnswer cores core who partition (request.Process process (ProcessOperation.DelayedStart ticks)) answer = answer ≡ done
+IsAnswer cores core who partition (request.Process process ProcessOperation.GetStatus) answer =
+    IsProcessStatus cores (peer who process) (created partition.table process) answer
+IsAnswer cores core who partition (request.Process process ProcessOperation.GetMutexState) answer =
+    answer ≡ done_with (Number (mutex_owned partition.mutexes (natural_of process)))
+IsAnswer cores core who partition (request.Process process ProcessOperation.Stop) answer = answer ≡ done
+IsAnswer cores core who partition (request.Process process ProcessOperation.Suspend) answer = answer ≡ done
+IsAnswer cores core who partition (request.Process process (ProcessOperation.SetPriority priority)) answer = answer ≡ done
+IsAnswer cores core who partition (request.GetId of name) answer = answer ≡ done_with (number_found (number_of partition of name))
+IsAnswer cores core who partition (request.GetStatus of number) answer = answer ≡ telling (status_of partition of number)
+IsAnswer cores core who partition (request.ReportMessage length message) answer = answer ≡ done
+IsAnswer cores core who partition request.CreateErrorHandler answer = answer ≡ done
+IsAnswer cores core who partition asked answer = answer ≡ answer_of cores core who partition asked

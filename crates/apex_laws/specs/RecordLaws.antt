@@ -1,7 +1,8 @@
 -- What every lawful record does is what the sentences say.
 use Rattle.std.specs.Prelude.{◌≡◌, ◌↔◌, ℕ, ◌<◌, List, [], Option, Some, None, length}
-use Rattle.apex_types.specs.declared.record.Body.TheVariants.{Call, Disp, Ret, Tick}
+use Rattle.apex_types.specs.declared.record.Body.TheVariants.{Arrive, Call, Depart, Disp, Ret, Tick}
 use Rattle.apex_types.specs.declared.record.Call.{Call as CallRecord}
+use Rattle.apex_types.specs.declared.record.Crossing.{Crossing}
 use Rattle.apex_types.specs.declared.record.Ordered.{Ordered}
 use Rattle.apex_types.specs.declared.record.Return.{Return}
 use Rattle.apex_types.specs.declared.record.Who.{Who}
@@ -14,8 +15,9 @@ use Rattle.apex_machine.specs.ServiceConditions.{conditions_of}
 use Rattle.apex_machine.specs.State.{State, time_of}
 use Rattle.apex_machine.specs.Step.{Step}
 use Rattle.apex_machine.specs.Waiting.{restart_of, set_after}
-use Rattle.apex_laws.specs.Laws.{SetsAreInOrder, AreTied}
-use Rattle.apex_laws.specs.RecordSentences.{HasReturned, IsCallOf, IsDispatchOf, IsRefusedCallOf, IsRestartOf, IsSetAfterCall, IsTickOf, OnlyChanges, Restarts}
+use Rattle.apex_laws.specs.Laws.{SetsAreInOrder, AreTied, HoldTheirKind}
+use Rattle.apex_laws.specs.ObjectSentences.{IsArriving, IsDeparting}
+use Rattle.apex_laws.specs.RecordSentences.{HasReturned, IsCallOf, IsCrossingOf, IsDispatchOf, IsRefusedCallOf, IsRestartOf, IsSetAfterCall, IsTickOf, OnlyChanges, Restarts}
 
 -- a dispatch of one of the cores
 abbrev pub DispatchIsTheSentence : Type 0
@@ -60,6 +62,21 @@ CallIsTheSentence =
     → ((number : ℕ) → 0 < period_of configuration number) → AreTied configuration state → SetsAreInOrder state
     → Step configuration state ordered next → ordered.rec.body ≡ Call call → restart_of call ≡ None
     → IsCallOf configuration ordered.pos (time_of state.cores ordered.core) call state next
+
+-- an arrival in such a state: each process that it wakes gets the message
+abbrev pub ArrivalIsTheSentence : Type 0
+ArrivalIsTheSentence =
+    (configuration : Configuration) (state : State) (ordered : Ordered) (crossing : Crossing) (next : State)
+    → AreTied configuration state → SetsAreInOrder state → Step configuration state ordered next → ordered.rec.body ≡ Arrive crossing
+    → IsCrossingOf ordered.pos crossing crossing.message
+    (IsArriving configuration (time_of state.cores ordered.core) crossing.chan crossing.message) state next
+
+-- a departure in such a state, whose channels hold what their kinds do, as in every state of a run
+abbrev pub DepartureIsTheSentence : Type 0
+DepartureIsTheSentence =
+    (configuration : Configuration) (state : State) (ordered : Ordered) (crossing : Crossing) (next : State)
+    → AreTied configuration state → SetsAreInOrder state → HoldTheirKind configuration state → Step configuration state ordered next → ordered.rec.body ≡ Depart crossing
+    → IsCrossingOf ordered.pos crossing [] (IsDeparting configuration crossing.chan crossing.message) state next
 
 -- a call that restarts its partition: SET_PARTITION_MODE that does not return, to IDLE, COLD_START or WARM_START, which are 0 to 2; and
 -- no other call restarts one

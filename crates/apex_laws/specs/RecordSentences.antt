@@ -2,6 +2,7 @@
 use Rattle.std.specs.Prelude.{◌≡◌, ◌⊎◌, ℕ, ℤ, pos, ◌+◌, List, [], ◌∷◌, ◌++◌, length, Option, Some, None, IsTrue, IsFalse, if◌then◌else◌}
 use Rattle.apex_types.specs.declared.code.Code.{Code}
 use Rattle.apex_types.specs.declared.record.Call.{Call as CallRecord}
+use Rattle.apex_types.specs.declared.record.Crossing.{Crossing}
 use Rattle.apex_types.specs.declared.record.Out.TheVariants as out
 use Rattle.apex_types.specs.declared.record.Who.{Who}
 use Rattle.apex_types.specs.declared.request.Request.TheVariants as request
@@ -13,10 +14,11 @@ use Rattle.apex_machine.specs.declared.state.Entry.{Entry}
 use Rattle.apex_machine.specs.declared.state.Mode.{Mode}
 use Rattle.apex_machine.specs.declared.state.Mode.TheVariants as mode
 use Rattle.apex_machine.specs.declared.state.Process.{Process}
+use Rattle.apex_machine.specs.declared.state.StartCondition.TheVariants.{PartitionRestart}
 use Rattle.apex_machine.specs.declared.state.WaitingSet.{WaitingSet}
-use Rattle.apex_machine.specs.After.{each_set, is_done, mode_by, objects_by}
+use Rattle.apex_machine.specs.After.{each_set, has_handler_by, is_done, mode_by, objects_by}
 use Rattle.apex_machine.specs.Answer.{Effect, HasValues, NamesExactly}
-use Rattle.apex_machine.specs.Arguments.{natural_of, period_given}
+use Rattle.apex_machine.specs.Arguments.{capacity_given, natural_of, period_given}
 use Rattle.apex_machine.specs.Choice.{IsReady}
 use Rattle.apex_machine.specs.Configuration.{Configuration, first_core, has_partition, period_of}
 use Rattle.apex_machine.specs.Ports.{Use, use_of}
@@ -60,9 +62,9 @@ emptied partition = each_set (λ wanted entries. []) (record partition { table =
 abbrev pub ObjectsStay : State → State → ℕ → Type 0
 ObjectsStay state next number = emptied (next.partitions number) ≡ emptied (state.partitions number)
 
--- two partitions have the same objects and ports, except for the processes that wait
+-- two partitions have the same objects, ports and start condition, except for the processes that wait
 abbrev pub ObjectsAre : Partition → Partition → Type 0
-ObjectsAre one other = emptied (record one { mode = other.mode }) ≡ emptied other
+ObjectsAre one other = emptied (record one { mode = other.mode; has_handler = other.has_handler }) ≡ emptied other
 
 -- every channel is as before
 abbrev pub ChannelsStay : State → State → Type 0
@@ -164,10 +166,11 @@ pub record SetAnd (configuration : Configuration) (state : State) (place : ℕ) 
 
 -- a process that did not exist: a CREATE_PROCESS that is done adds one under the number that it claims, and no other call adds one
 pub data IsAdded (configuration : Configuration) (call : CallRecord) (number : ℕ) (found : Option Process) : Type 0 where
-  created : (name : List ℕ) (priority period : ℤ) (new : Process) → call.request ≡ request.CreateProcess name priority period → IsTrue (is_done call.claim.out)
-      → call.claim.val ≡ Some (pos number) → found ≡ Some new → IsCreated (first_core configuration call.who.part) name (natural_of priority) (period_given period) new
+  created : (name : List ℕ) (priority period time_capacity : ℤ) (new : Process) → call.request ≡ request.CreateProcess name priority period time_capacity
+      → IsTrue (is_done call.claim.out) → call.claim.val ≡ Some (pos number) → found ≡ Some new
+      → IsCreated (first_core configuration call.who.part) name (natural_of priority) (period_given period) (capacity_given time_capacity) new
       → IsAdded configuration call number found
-  not_created : ((name : List ℕ) (priority period : ℤ) → call.request ≡ request.CreateProcess name priority period → IsTrue (is_done call.claim.out) → ¬ (call.claim.val ≡ Some (pos number)))
+  not_created : ((name : List ℕ) (priority period time_capacity : ℤ) → call.request ≡ request.CreateProcess name priority period time_capacity → IsTrue (is_done call.claim.out) → ¬ (call.claim.val ≡ Some (pos number)))
       → found ≡ None → IsAdded configuration call number found
 
 -- a call through a channel: the channel gives the outcome, the values, the message and the processes whose waits end, by the rule of its
@@ -206,6 +209,8 @@ pub record IsCallOf (configuration : Configuration) (place now : ℕ) (call : Ca
   pub elsewhere : (who : Who) → ¬ (who.part ≡ call.who.part) → IsFalse (is_named who call.claim.woken) → Stays state next who
   pub mode : (next.partitions call.who.part).mode
       ≡ (if is_done call.claim.out then mode_by call.request (state.partitions call.who.part).mode else (state.partitions call.who.part).mode)
+  pub handler : (next.partitions call.who.part).has_handler
+      ≡ (if is_done call.claim.out then has_handler_by call.request (state.partitions call.who.part).has_handler else (state.partitions call.who.part).has_handler)
   pub objects : (IsTrue (is_done call.claim.out)
       → ObjectsAre (next.partitions call.who.part) (objects_by configuration call.who call.claim.val call.request (state.partitions call.who.part)))
       × (IsFalse (is_done call.claim.out) → ObjectsAre (next.partitions call.who.part) (state.partitions call.who.part))
@@ -214,6 +219,22 @@ pub record IsCallOf (configuration : Configuration) (place now : ℕ) (call : Ca
   pub receivers : (number : ℕ) → IsSetAfterCall place call (channel_set number Receivers) (state.channels number).receivers (next.channels number).receivers
   pub through : (number : ℕ) → call.claim.chan ≡ Some number → GoesThrough configuration now number call (state.channels number) (next.channels number)
   pub contents : (number : ℕ) → ¬ (call.claim.chan ≡ Some number) → (next.channels number).content ≡ (state.channels number).content
+  pub cores : next.cores ≡ state.cores
+
+-- arrivals and departures
+
+-- a record of a message that passes an end outside, by the message that it hands over and by what it makes of its channel: the processes
+-- that it names wake and leave the channel's waiting sets, what the channel holds changes, and nothing else changes
+pub record IsCrossingOf (place : ℕ) (crossing : Crossing) (handed_over : List ℕ) (Changes : Channel → List Who → Content → Type 0) (state next : State) : Type 0 where
+  pub woken : (who : Who) (old : Process) → process_in state who ≡ Some old → IsTrue (is_named who crossing.woken) → Turns (IsWoken place handed_over) state next who
+  pub others : (who : Who) → IsFalse (is_named who crossing.woken) → Stays state next who
+  pub partitions : (number : ℕ) → RestStays state next number
+  pub wakes : List Who
+  pub named : NamesExactly wakes crossing.woken
+  pub channel : Changes (state.channels crossing.chan) wakes (next.channels crossing.chan).content
+  pub contents : (number : ℕ) → ¬ (number ≡ crossing.chan) → (next.channels number).content ≡ (state.channels number).content
+  pub senders : (number : ℕ) → KeepsOnly (λ who. IsTrue (is_named who crossing.woken)) (state.channels number).senders (next.channels number).senders
+  pub receivers : (number : ℕ) → KeepsOnly (λ who. IsTrue (is_named who crossing.woken)) (state.channels number).receivers (next.channels number).receivers
   pub cores : next.cores ≡ state.cores
 
 -- restarts
@@ -239,10 +260,12 @@ IsStart _ core place table =
     ((process : Process) × (item_at table 0 ≡ Some process) × IsInitialising core place process)
     × ((number : ℕ) → ¬ (number ≡ 0) → item_at table number ≡ None)
 
--- a restart of a partition in a mode: it starts anew, without objects and ports; its processes leave the waiting sets of all channels; the
+-- a restart of a partition in a mode: it starts anew, without objects, ports and error handler; its processes leave the waiting sets of all channels; the
 -- contents of channels, the other partitions and the cores are as before
 pub record IsRestartOf (configuration : Configuration) (place : ℕ) (entered : Mode) (part : ℕ) (state next : State) : Type 0 where
   pub mode : (next.partitions part).mode ≡ entered
+  pub start : (next.partitions part).start ≡ PartitionRestart
+  pub handler : IsFalse (next.partitions part).has_handler
   pub processes : IsStart entered (first_core configuration part) place (next.partitions part).table
   pub buffers : (next.partitions part).buffers ≡ []
   pub blackboards : (next.partitions part).blackboards ≡ []

@@ -15,6 +15,7 @@ use Rattle.apex_types.specs.declared.request.Request.{Request}
 use Rattle.apex_types.specs.declared.request.Request.TheVariants as request
 use Rattle.apex_types.specs.declared.service.Service.{Service}
 use Rattle.apex_machine.specs.declared.condition.Condition.{Condition}
+use Rattle.apex_machine.specs.declared.state.ErrorPolicy.TheVariants as policy
 use Rattle.apex_machine.specs.declared.state.Outcome.{Outcome}
 use Rattle.apex_machine.specs.declared.state.Process.{Process}
 use Rattle.apex_machine.specs.After.{after}
@@ -39,6 +40,7 @@ limits_on number core = record {
   semaphores = 1;
   events = 1;
   mutexes = 2;
+  on_error = policy.Ignore;
 }
 
 -- one core, one partition, one window
@@ -59,9 +61,9 @@ queuing_by receiving = record {
   number = 0;
   size = 4;
   capacity = 1;
-  source = record { partition = 0; port = codes "Q" };
+  source = Some (record { partition = 0; port = codes "Q" });
   source_discipline = discipline.Fifo;
-  destination = record { partition = 1; port = codes "Q" };
+  destination = Some (record { partition = 1; port = codes "Q" });
   destination_discipline = receiving;
 }
 
@@ -77,7 +79,7 @@ two_partitions = record {
     number = 1;
     size = 4;
     refresh = 5;
-    source = record { partition = 0; port = codes "S" };
+    source = Some (record { partition = 0; port = codes "S" });
     destinations = record { partition = 1; port = codes "S" } ∷ [];
   } ∷ [];
   queuing = queuing_by discipline.Fifo ∷ [];
@@ -159,7 +161,7 @@ normal partition = claims partition (process_of partition 0) 0 (request.SetParti
 
 -- an aperiodic process under a number
 abbrev pub aperiodic : ℕ → List ℕ → ℤ → ℤ → Happening
-aperiodic partition name number priority = creates partition (request.CreateProcess name priority (negsuc 0)) number
+aperiodic partition name number priority = creates partition (request.CreateProcess name priority (negsuc 0) (negsuc 0)) number
 
 -- what a state shows
 
@@ -177,7 +179,7 @@ outcome service given message = Some (record { service = service; code = given; 
 
 -- what a service gives to a caller of its own partition, on the core of the partition's number
 abbrev pub gets : State → Who → Request → Answer
-gets state who asked = answer_of (time_of state.cores who.part) who (state.partitions who.part) asked
+gets state who asked = answer_of state.cores who.part who (state.partitions who.part) asked
 
 -- what a service gives through a channel
 abbrev pub gets_through : Configuration → State → Who → Request → ℕ → Answer

@@ -1,6 +1,10 @@
 -- Worked facts: what the definitions make of small recordings. Process k of partition 0 is `one`, `two`, `three`.
 use Rattle.std.specs.Prelude.{◌≡◌, ℕ, List, [], ◌∷◌, ◌++◌, Option, Some, None, true, false, ℤ, pos, negsuc, codes, option_map}
 use Rattle.apex_types.specs.declared.code.Code.TheVariants as code
+use Rattle.apex_types.specs.declared.discipline.Discipline.TheVariants as discipline
+use Rattle.apex_types.specs.declared.object_kind.NamedKind.TheVariants as named
+use Rattle.apex_types.specs.declared.record.Body.TheVariants.{Arrive, Depart}
+use Rattle.apex_types.specs.declared.record.Crossing.{Crossing}
 use Rattle.apex_types.specs.declared.record.Out.TheVariants as out
 use Rattle.apex_types.specs.declared.record.Who.{Who}
 use Rattle.apex_types.specs.declared.operation.{BlackboardOperation.BlackboardOperation, BufferOperation.BufferOperation, CallerOperation.CallerOperation, EventOperation.EventOperation, MutexOperation.MutexOperation, NewObject.NewObject, ProcessOperation.ProcessOperation, QueuingOperation.QueuingOperation, SamplingOperation.SamplingOperation, SemaphoreOperation.SemaphoreOperation}
@@ -8,13 +12,16 @@ use Rattle.apex_types.specs.declared.operation.ObjectOperation.TheVariants as on
 use Rattle.apex_types.specs.declared.request.Request.TheVariants as request
 use Rattle.apex_types.specs.declared.service.Service.TheVariants as service
 use Rattle.apex_machine.specs.declared.condition.Condition.TheVariants as condition
-use Rattle.apex_machine.specs.Answer.{Answer, Number, answering, done, giving, waiting, waking}
+use Rattle.apex_machine.specs.Answer.{Answer, Number, answering, done, done_with, giving, waiting, waking}
 use Rattle.apex_machine.specs.Choice.{choice}
+use Rattle.apex_machine.specs.Configuration.{Configuration}
+use Rattle.apex_machine.specs.Ports.{arrived, departed}
 use Rattle.apex_machine.specs.Services.{in_profile}
+use Rattle.apex_machine.specs.Statuses.{reporting}
 use Rattle.apex_machine.specs.State.{Mutex, Queued, State, item_at}
 use Rattle.apex_machine.specs.DueTimes.{falls_due}
 use Rattle.apex_machine.specs.Step.{IsLawful}
-use Rattle.apex_laws.specs.Worked.{Happening, aperiodic, at, claims, conditions_met, creates, does, gets, gets_through, idle_ticks, normal, one_partition, outcome, owes, placed, play, played, priority_in, process_of, returns, runs, start, ticks, two_partitions, waits, wakes}
+use Rattle.apex_laws.specs.Worked.{Happening, aperiodic, at, claims, conditions_met, creates, does, gets, gets_through, idle_ticks, normal, one_partition, outcome, owes, placed, play, played, priority_in, process_of, queuing_by, returns, runs, start, ticks, two_partitions, waits, wakes}
 
 -- process 1, with priority 10
 abbrev pub one : Who
@@ -98,7 +105,7 @@ awaits_event = play one_partition (three_processes (creates 0 (request.Create (c
 
 -- process 1, of period 20, is started
 abbrev pub periodic : State
-periodic = played one_partition (creates 0 (request.CreateProcess (codes "P") (pos 10) (pos 20)) (pos 1) ∷ start 0 (pos 1) ∷ normal 0 ∷ [])
+periodic = played one_partition (creates 0 (request.CreateProcess (codes "P") (pos 10) (pos 20) (negsuc 0)) (pos 1) ∷ start 0 (pos 1) ∷ normal 0 ∷ [])
 
 -- and then its first release, at time 10
 abbrev pub first_released : State
@@ -130,6 +137,22 @@ sender_waits = play two_partitions connected (sends [] ∷ claims 0 one 10 (requ
 -- a sampling message is written
 abbrev pub sampled_once : State
 sampled_once = play two_partitions connected (claims 0 one 10 (request.SamplingPort (pos 1) (SamplingOperation.Write (pos 1) (17 ∷ []))) (out.Answer code.NoError) None [] (Some 1) [] ∷ [])
+
+-- process 1, of this period, is started with a delay of 3, and the partition enters NORMAL at time 0
+abbrev pub delayed : ℤ → State
+delayed period = played one_partition (creates 0 (request.CreateProcess (codes "P") (pos 10) period (negsuc 0)) (pos 1)
+    ∷ does (process_of 0 0) (request.Process (pos 1) (ProcessOperation.DelayedStart (pos 3))) ∷ normal 0 ∷ [])
+
+-- the channel's messages come from outside, or leave to the outside
+abbrev pub from_outside : Configuration
+from_outside = record two_partitions { queuing = record (queuing_by discipline.Fifo) { source = None } ∷ [] }
+
+abbrev pub to_outside : Configuration
+to_outside = record two_partitions { queuing = record (queuing_by discipline.Fifo) { destination = None } ∷ [] }
+
+-- a message that passes the end outside
+abbrev pub passes : List ℕ → List Who → Crossing
+passes message woken = record { chan = 0; message = message; woken = woken }
 
 -- a reading of the sampling channel
 abbrev pub reading : State → Answer
@@ -203,6 +226,31 @@ pub record WorkedFacts : Type 0 where
   pub takes_from_full : gets_through two_partitions sender_waits there (request.QueuingPort (pos 1) (QueuingOperation.Receive (pos 0))) 0 ≡ giving (202 ∷ 254 ∷ []) (one ∷ [])
   pub senders_message : ((play two_partitions sender_waits (claims 1 there 10 (request.QueuingPort (pos 1) (QueuingOperation.Receive (pos 0))) (out.Answer code.NoError) None (202 ∷ 254 ∷ []) (Some 0) (one ∷ []) ∷ [])).channels 0).content
       ≡ Queued ((17 ∷ []) ∷ [])
+  -- DELAYED_START: an aperiodic process runs when its delay is over; a periodic one is released as much later, at 13 and then at 33
+  pub is_delayed : falls_due 0 2 (at (delayed (negsuc 0)) one) ≡ false
+  pub delay_is_over : falls_due 0 3 (at (delayed (negsuc 0)) one) ≡ true
+  pub release_is_delayed : falls_due 0 12 (at (delayed (pos 20)) one) ≡ false
+  pub delayed_release : falls_due 0 13 (at (delayed (pos 20)) one) ≡ true
+  -- RESET_MUTEX by a process that does not own the mutex hands it on, and the owner has its own priority again
+  pub reset_hands_on : gets mutex_wanted one (request.Object (pos 1) (on.Mutex (MutexOperation.Reset (pos 3)))) ≡ waking (two ∷ [])
+  pub reset_restores : priority_in (at (play one_partition mutex_wanted (wakes one (request.Object (pos 1) (on.Mutex (MutexOperation.Reset (pos 3)))) (two ∷ []) ∷ [])) three) ≡ 5
+  -- statuses: a ready process that is not the occupant, a process that waits, the owner of a mutex, and a partition in NORMAL
+  pub ready_status : gets (three_processes []) one (request.Process (pos 2) ProcessOperation.GetStatus) ≡ reporting (pos 1) (Some (pos 20)) (Some (negsuc 0))
+  pub waiting_status : gets mutex_wanted one (request.Process (pos 2) ProcessOperation.GetStatus) ≡ reporting (pos 3) (Some (pos 20)) (Some (negsuc 0))
+  pub owner_status : gets mutex_wanted one (request.Process (pos 3) ProcessOperation.GetMutexState) ≡ done_with (Number (pos 1))
+  pub no_owner_status : gets mutex_wanted one (request.Process (pos 2) ProcessOperation.GetMutexState) ≡ done_with (Number (negsuc 1))
+  pub normal_status : gets mutex_wanted one (request.Caller CallerOperation.GetPartitionStatus) ≡ reporting (pos 3) (Some (pos 0)) (Some (pos 0))
+  pub found_by_name : gets mutex_wanted one (request.GetId named.Process (codes "B")) ≡ done_with (Number (pos 2))
+  -- a channel that is cleared lets its sender in
+  pub clear_wakes : gets_through two_partitions sender_waits there (request.QueuingPort (pos 1) QueuingOperation.Clear) 0 ≡ waking (one ∷ [])
+  pub cleared_content : ((play two_partitions sender_waits (claims 1 there 10 (request.QueuingPort (pos 1) QueuingOperation.Clear) (out.Answer code.NoError) None [] (Some 0) (one ∷ []) ∷ [])).channels 0).content
+      ≡ Queued ((17 ∷ []) ∷ [])
+  -- an arrival wakes the receiver with its message; a departure takes the oldest message and lets the sender in
+  pub arrival_wakes : (arrived from_outside 0 0 (202 ∷ []) (receiving.channels 0)).answer.woken ≡ there ∷ []
+  pub arrival_is_received : owes (play from_outside receiving (record { core = 0; body = Arrive (passes (202 ∷ []) (there ∷ [])) } ∷ [])) there ≡ outcome service.ReceiveQueuingMessage code.NoError (202 ∷ [])
+  pub arrival_stays : ((play from_outside connected (record { core = 1; body = Arrive (passes (202 ∷ []) []) } ∷ [])).channels 0).content ≡ Queued ((202 ∷ []) ∷ [])
+  pub departure_wakes : (departed to_outside 0 0 (sender_waits.channels 0)).answer ≡ giving (202 ∷ 254 ∷ []) (one ∷ [])
+  pub departed_content : ((play to_outside sender_waits (record { core = 1; body = Depart (passes (202 ∷ 254 ∷ []) (one ∷ [])) } ∷ [])).channels 0).content ≡ Queued ((17 ∷ []) ∷ [])
   -- an empty sampling channel gives NO_ACTION and validity 0; a message is valid at the age of 5 and not at 6
   pub nothing_written : reading connected ≡ record { out = out.Answer code.NoAction; val = Number (pos 0); val2 = None; val3 = None; bytes = []; woken = [] }
   pub still_valid : reading (play two_partitions sampled_once (idle_ticks 1 5)) ≡ record { out = out.Answer code.NoError; val = Number (pos 1); val2 = None; val3 = None; bytes = 17 ∷ []; woken = [] }

@@ -7,17 +7,17 @@
 //! partition, for the code that holds it. A law has no code, so it is proved over the definitions alone.
 #![tactic(auto)]
 
-ghost use Rattle.apex_laws.specs.Laws.{AtMostOneNextState, ChoiceIsTheSentence, OneFirstRefusal, OneRun, PiecesCompose, PiecesFollow, RunOfEach, StaysInOrder, StaysTied, ViewIsOfTheRun, WhoWaitsHasEntry};
+ghost use Rattle.apex_laws.specs.Laws.{AtMostOneNextState, ChoiceIsTheSentence, KindsStay, OneFirstRefusal, OneRun, PiecesCompose, PiecesFollow, RunOfEach, StaysInOrder, StaysTied, ViewIsOfTheRun, WhoWaitsHasEntry};
 ghost use Rattle.apex_laws.specs.PartLaws.{DueLeave, ForeignCallsLeaveSets, LetsGoAsAnswered, OnlyDoneLetsGo, OtherSetsStay, PartStaysSound, RunningIsInNoSet};
 ghost use Rattle.apex_laws.specs.PartBounds.{PartStaysBounded, ReleasesFit};
 ghost use Rattle.apex_laws.specs.PartObjects.{EachLeavesItsSet, OneObjectChanges, RefusedLeavesObjects, StoppedLeaves};
 ghost use Rattle.apex_laws.specs.PartSets.{EachNamedLeaves, LeavesEverySet, NamedLeave};
 ghost use Rattle.apex_laws.specs.JoinLaws.{FindingsJoin, FoundIsRefused, NothingFoundIsARun, RunsJoin};
-ghost use Rattle.apex_laws.specs.ObjectLaws.{BlackboardIsTheSentence, ChannelIsTheSentence, EventIsTheSentence, FirstIsTheSentence, MutexIsTheSentence, ObjectCallIsTheSentence, OrderIsApart, QueueIsTheSentence, SamplingIsTheSentence, SemaphoreIsTheSentence};
-ghost use Rattle.apex_laws.specs.RecordLaws.{CallIsTheSentence, DispatchIsTheSentence, RefusalIsTheSentence, RestartIsTheSentence, ReturnIsTheSentence, SetIsTheSentence, TickIsTheSentence};
+ghost use Rattle.apex_laws.specs.ObjectLaws.{BlackboardIsTheSentence, ChannelIsTheSentence, CrossingIsTheSentence, EventIsTheSentence, FirstIsTheSentence, MutexIsTheSentence, ObjectCallIsTheSentence, OrderIsApart, QueueIsTheSentence, SamplingIsTheSentence, SemaphoreIsTheSentence};
+ghost use Rattle.apex_laws.specs.RecordLaws.{ArrivalIsTheSentence, CallIsTheSentence, DepartureIsTheSentence, DispatchIsTheSentence, RefusalIsTheSentence, RestartIsTheSentence, ReturnIsTheSentence, SetIsTheSentence, TickIsTheSentence};
 ghost use Rattle.apex_laws.specs.ConditionFacts.{ConditionFacts};
 ghost use Rattle.apex_laws.specs.ConditionLaws.{CodesAreTheSentences, ConditionsAreTheSentences};
-ghost use Rattle.apex_laws.specs.NumberLaws.{NamesAreFound, NewNumberIsTheSentence, ObjectsAreFound, ProcessesAreFound};
+ghost use Rattle.apex_laws.specs.NumberLaws.{NamesAreFound, NewNumberIsTheSentence, ObjectsAreFound, OwnedIsFound, ProcessesAreFound};
 ghost use Rattle.apex_laws.specs.ProfileLaws.{ProfileIsTheSentence};
 ghost use Rattle.apex_laws.specs.WaitLaws.{EnteringIsTheSentence, TimeOutIsTheSentence};
 ghost use Rattle.apex_laws.specs.ViewLaws.{ViewsAreOfTheRun};
@@ -58,6 +58,12 @@ pub fn stays_in_order()
 /// that wait in a set have an entry in it.
 pub fn who_waits_has_entry()
     ensures { WhoWaitsHasEntry }
+{}
+
+/// The channels of the cold state hold what their kinds do: a queuing channel messages for its receivers, a sampling channel the last message
+/// for its readers. A step keeps this, and so does a run.
+pub fn kinds_stay()
+    ensures { KindsStay }
 {}
 
 /// A partition's own demands alone keep its waiting sets sound: numbers are distinct, exactly the processes of the partition that wait in a
@@ -146,7 +152,7 @@ pub fn each_named_leaves()
     ensures { EachNamedLeaves }
 {}
 
-/// Calls of other partitions, returns and dispatches leave a partition's objects, waiting sets and ports unchanged.
+/// Calls of other partitions, arrivals, departures, returns and dispatches leave a partition's objects, waiting sets and ports unchanged.
 pub fn foreign_calls_leave_sets()
     ensures { ForeignCallsLeaveSets }
 {}
@@ -212,12 +218,13 @@ pub fn choice_is_the_sentence()
     ensures { ChoiceIsTheSentence }
 {}
 
-/// The first of a waiting set is the entry that no other precedes, and there is none only in an empty set.
+/// The first of a waiting set is the entry that no other precedes, and there is none only in an empty set. The first ones, up to a number, are
+/// each the first of those that are left.
 pub fn first_is_the_sentence()
     ensures { FirstIsTheSentence }
 {}
 
-/// Sending to and receiving from a buffer or a queuing channel is what the sentences say.
+/// Sending to and receiving from a buffer or a queuing channel, and clearing a channel, is what the sentences say.
 pub fn queue_is_the_sentence()
     ensures { QueueIsTheSentence }
 {}
@@ -237,7 +244,7 @@ pub fn event_is_the_sentence()
     ensures { EventIsTheSentence }
 {}
 
-/// Acquiring and releasing a mutex is what the sentences say.
+/// Acquiring, releasing and resetting a mutex is what the sentences say.
 pub fn mutex_is_the_sentence()
     ensures { MutexIsTheSentence }
 {}
@@ -250,6 +257,11 @@ pub fn sampling_is_the_sentence()
 /// The use of a channel of its kind is what the sentences say.
 pub fn channel_is_the_sentence()
     ensures { ChannelIsTheSentence }
+{}
+
+/// An arrival at a channel and a departure from one are what the sentences say.
+pub fn crossing_is_the_sentence()
+    ensures { CrossingIsTheSentence }
 {}
 
 /// The services of objects use and change exactly the object that they name, and creations add exactly one, as the sentences
@@ -274,7 +286,7 @@ pub fn release_is_the_sentence()
     ensures { ReleaseIsTheSentence }
 {}
 
-/// A wait that a call ends ends as the sentences say.
+/// A wait that a call, an arrival or a departure ends ends as the sentences say.
 pub fn waking_is_the_sentence()
     ensures { WakingIsTheSentence }
 {}
@@ -332,6 +344,18 @@ pub fn call_is_the_sentence()
     ensures { CallIsTheSentence }
 {}
 
+/// An arrival wakes the processes that it names with its message, changes its channel as the sentences say, takes those processes out of the
+/// channel's waiting sets, and changes nothing else.
+pub fn arrival_is_the_sentence()
+    ensures { ArrivalIsTheSentence }
+{}
+
+/// A departure wakes the processes that it names, takes the oldest message out of its channel as the sentences say, takes those processes out
+/// of the channel's waiting sets, and changes nothing else.
+pub fn departure_is_the_sentence()
+    ensures { DepartureIsTheSentence }
+{}
+
 /// A call that restarts its partition starts the partition anew in the given mode, takes its processes out of the waiting sets of all
 /// channels, and changes nothing else. SET_PARTITION_MODE to IDLE, COLD_START or WARM_START that does not return is such a call, and no
 /// other is.
@@ -383,6 +407,11 @@ pub fn objects_are_found()
 /// An object found under a name has the name, and none is found if no object has it.
 pub fn names_are_found()
     ensures { NamesAreFound }
+{}
+
+/// The number reported of the mutex that a process owns is that of a mutex that it owns, and -2 exactly if it owns none.
+pub fn owned_is_found()
+    ensures { OwnedIsFound }
 {}
 
 /// A new number is from 1 to 2,147,483,647, and nothing of its kind has it.

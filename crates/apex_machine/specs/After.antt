@@ -6,7 +6,7 @@ use Rattle.apex_types.specs.declared.code.Code.TheVariants as code
 use Rattle.apex_types.specs.declared.object_kind.ObjectKind.{ObjectKind}
 use Rattle.apex_types.specs.declared.object_kind.ObjectKind.TheVariants as kind
 use Rattle.apex_types.specs.declared.record.Body.{Body}
-use Rattle.apex_types.specs.declared.record.Body.TheVariants.{Call, Ret, Disp, Tick}
+use Rattle.apex_types.specs.declared.record.Body.TheVariants.{Arrive, Call, Depart, Ret, Disp, Tick}
 use Rattle.apex_types.specs.declared.record.Call.{Call as CallRecord}
 use Rattle.apex_types.specs.declared.record.Ordered.{Ordered}
 use Rattle.apex_types.specs.declared.record.Out.{Out}
@@ -23,12 +23,13 @@ use Rattle.apex_machine.specs.declared.state.Entry.{Entry}
 use Rattle.apex_machine.specs.declared.state.Mode.{Mode}
 use Rattle.apex_machine.specs.declared.state.Mode.TheVariants as mode
 use Rattle.apex_machine.specs.declared.state.Process.{Process}
+use Rattle.apex_machine.specs.declared.state.StartCondition.TheVariants.{PartitionRestart}
 use Rattle.apex_machine.specs.declared.state.WaitingSet.{WaitingSet}
 use Rattle.apex_machine.specs.Arguments.{discipline_given, natural_of}
 use Rattle.apex_machine.specs.Channels.{QueuingPort, SamplingPort, queuing_port, sampling_port}
 use Rattle.apex_machine.specs.Configuration.{Configuration, first_core, period_of}
 use Rattle.apex_machine.specs.Objects.{object_effect}
-use Rattle.apex_machine.specs.Ports.{channel_effect, use_of}
+use Rattle.apex_machine.specs.Ports.{arrived, channel_effect, departed, use_of}
 pub use Rattle.apex_machine.specs.Processes.{caller_after, caller_with, outcome_of, released}
 use Rattle.apex_machine.specs.Processes.{new_process, set_by, stopped, woken_by}
 use Rattle.apex_machine.specs.State.{Blackboard, Buffer, Channel, Content, Event, Mutex, ObjectOf, Partition, Port, Semaphore, State, Table, at_core, change_at, channel_set, each_item, is_named, objects_of, set_at, started_partition, time_of, with_ends, with_objects}
@@ -53,9 +54,9 @@ abbrev pub adjusted : ℕ → ℕ → List CoreState → Partition → CallRecor
 adjusted place period cores partition call number process =
     if is_done call.claim.out then set_by place period cores partition call.who.proc call.request number process else process
 
--- a process after a call that may end its wait
-abbrev pub woken_if_named : ℕ → CallRecord → Who → Process → Process
-woken_if_named place call who process = if is_named who call.claim.woken then woken_by place (message_of call.request) process else process
+-- a process after a record that hands over this message and names the processes whose waits it ends
+abbrev pub woken_if_named : ℕ → List ℕ → List Who → Who → Process → Process
+woken_if_named place message woken who process = if is_named who woken then woken_by place message process else process
 
 -- a process of the caller's partition after the call: the caller, a process that the call stops, or any other, whose wait the call may end
 abbrev pub called : ℕ → ℕ → ℕ → List CoreState → Partition → CallRecord → ℕ → Process → Process
@@ -64,7 +65,7 @@ called place now period cores partition call number process =
     let who : Who = record { part = call.who.part; proc = number } in
     if nat_eq number call.who.proc then caller_after place now call changed
     else if stops call who then stopped changed
-    else woken_if_named place call who changed
+    else woken_if_named place (message_of call.request) call.claim.woken who changed
 
 -- what is created, under the number that a call claims
 abbrev pub numbered : {Object : Type 0} → Option ℤ → Object → List (ℕ × Object)
@@ -74,8 +75,8 @@ numbered (Some (negsuc n)) object = []
 
 -- what a call adds to the table of its caller's partition: a created process, on this core
 abbrev pub created_by : ℕ → CallRecord → Request → Table
-created_by core call (request.CreateProcess name priority period) =
-    if is_done call.claim.out then numbered call.claim.val (new_process core name priority period) else []
+created_by core call (request.CreateProcess name priority period time_capacity) =
+    if is_done call.claim.out then numbered call.claim.val (new_process core name priority period time_capacity) else []
 created_by core call _ = []
 
 -- objects
@@ -172,10 +173,16 @@ objects_called configuration place call partition =
     each_set (set_after place (Call call))
     (if is_done call.claim.out then objects_by configuration call.who call.claim.val call.request partition else partition)
 
+-- whether the partition has an error handler after a call that is done
+abbrev pub has_handler_by : Request → Bool → Bool
+has_handler_by request.CreateErrorHandler before = true
+has_handler_by _ before = before
+
 -- the caller's partition after a call at this place and core that does not restart it
 abbrev pub partition_called : Configuration → List CoreState → ℕ → ℕ → CallRecord → Partition → Partition
 partition_called configuration cores place core call partition = record (objects_called configuration place call partition) {
   mode = if is_done call.claim.out then mode_by call.request partition.mode else partition.mode;
+  has_handler = if is_done call.claim.out then has_handler_by call.request partition.has_handler else partition.has_handler;
   table = each_item (called place (time_of cores core) (period_of configuration call.who.part) cores partition call) partition.table
       ++ created_by (first_core configuration call.who.part) call call.request;
 }
@@ -183,7 +190,7 @@ partition_called configuration cores place core call partition = record (objects
 -- the caller's partition after a call at this place and core; if the call restarts the partition, it does so in this mode
 abbrev pub own_partition : Option Mode → Configuration → List CoreState → ℕ → ℕ → CallRecord → Partition → Partition
 own_partition None configuration cores place core call partition = partition_called configuration cores place core call partition
-own_partition (Some mode) configuration cores place core call partition = started_partition mode configuration call.who.part place
+own_partition (Some mode) configuration cores place core call partition = started_partition PartitionRestart mode configuration call.who.part place
 
 -- a process after a tick that may wake it
 abbrev pub ticked : ℕ → ℕ → List Who → ℕ → Process → Process
@@ -194,7 +201,13 @@ ticked place partition woken number process =
 abbrev pub returned : ℕ → ℕ → Process → Process
 returned returner number process = if nat_eq number returner then record process { due = None } else process
 
--- a partition after a record: a call of another partition can only end waits of its processes
+-- a partition after a record of others, which hands over this message and can only end waits of the partition's processes
+abbrev pub partition_woken : ℕ → ℕ → List ℕ → List Who → Partition → Partition
+partition_woken place number message woken partition =
+    record partition { table = each_item (λ other process. woken_if_named place message woken (record { part = number; proc = other }) process) partition.table }
+
+-- a partition after a record: a call of another partition, an arrival and a departure can only end waits of its processes. An arrival hands
+-- over its message
 abbrev pub partition_by : Configuration → List CoreState → ℕ → ℕ → ℕ → Body → Partition → Partition
 partition_by configuration cores place core number (Disp who) partition = partition
 partition_by configuration cores place core number (Tick woken) partition =
@@ -204,7 +217,9 @@ partition_by configuration cores place core number (Ret ret) partition =
 partition_by configuration cores place core number (Call call) partition =
     if nat_eq call.who.part number
     then own_partition (restart_of call) configuration cores place core call partition
-    else record partition { table = each_item (λ other process. woken_if_named place call (record { part = number; proc = other }) process) partition.table }
+    else partition_woken place number (message_of call.request) call.claim.woken partition
+partition_by configuration cores place core number (Arrive crossing) partition = partition_woken place number crossing.message crossing.woken partition
+partition_by configuration cores place core number (Depart crossing) partition = partition_woken place number [] crossing.woken partition
 
 -- a partition after an ordered record
 abbrev pub partition_after : Configuration → List CoreState → ℕ → Ordered → Partition → Partition
@@ -218,10 +233,15 @@ abbrev pub is_channel : ℕ → Option ℕ → Bool
 is_channel number None = false
 is_channel number (Some channel) = nat_eq channel number
 
--- what a channel holds after a record at this time of its core; only a call through the channel changes it
+-- what a channel holds after a record at this time of its core; only a call through the channel, an arrival at it and a departure from it
+-- change it
 abbrev pub content_by : Configuration → ℕ → ℕ → Body → Channel → Content
 content_by configuration now number (Call call) channel =
     if is_channel number call.claim.chan then (channel_effect configuration now number call.who.part (use_of call.request) channel).next else channel.content
+content_by configuration now number (Arrive crossing) channel =
+    if nat_eq crossing.chan number then (arrived configuration now number crossing.message channel).next else channel.content
+content_by configuration now number (Depart crossing) channel =
+    if nat_eq crossing.chan number then (departed configuration now number channel).next else channel.content
 content_by configuration now number _ channel = channel.content
 
 -- a channel after a record at this time of its core
@@ -240,6 +260,8 @@ cores_by core (Disp who) cores = at_core (λ state. record state { occupant = wh
 cores_by core (Tick woken) cores = at_core (λ state. record state { time = state.time + 1 }) core cores
 cores_by core (Ret ret) cores = cores
 cores_by core (Call call) cores = cores
+cores_by core (Arrive crossing) cores = cores
+cores_by core (Depart crossing) cores = cores
 
 -- the cores after an ordered record
 abbrev pub cores_after : Ordered → List CoreState → List CoreState

@@ -2,11 +2,13 @@
 use Rattle.std.specs.Prelude.{ℕ, zero, suc, ◌%◌, Option, Some, None, Bool, true, false, ℤ, pos, negsuc, ◌&&◌, nat_eq, nat_lt, nat_le}
 use Rattle.apex_types.specs.declared.discipline.Discipline.{Discipline}
 use Rattle.apex_types.specs.declared.discipline.Discipline.TheVariants as discipline
-use Rattle.apex_types.specs.declared.limits.TheConstants.{GREATEST_MAXIMUM, GREATEST_PRIORITY, LONGEST_MESSAGE, MOST_MESSAGES}
+use Rattle.apex_types.specs.declared.limits.TheConstants.{GREATEST_MAXIMUM, GREATEST_PRIORITY, LONGEST_MESSAGE, LONGEST_REPORT, MOST_MESSAGES}
 use Rattle.apex_machine.specs.declared.state.Direction.{Direction}
 use Rattle.apex_machine.specs.declared.state.Direction.TheVariants as direction
 use Rattle.apex_machine.specs.declared.state.Mode.{Mode}
 use Rattle.apex_machine.specs.declared.state.Mode.TheVariants as mode
+use Rattle.apex_machine.specs.declared.state.StartCondition.{StartCondition}
+use Rattle.apex_machine.specs.declared.state.StartCondition.TheVariants as start
 
 -- whether a caller's number is this one
 abbrev pub is_number : ℤ → ℕ → Bool
@@ -22,6 +24,11 @@ natural_of (negsuc n) = 0
 abbrev pub is_negative : ℤ → Bool
 is_negative (pos n) = false
 is_negative (negsuc n) = true
+
+-- whether a caller's number is at least this one
+abbrev pub is_at_least : ℕ → ℤ → Bool
+is_at_least least (pos n) = nat_le least n
+is_at_least least (negsuc n) = false
 
 -- whether a caller's number is at least the first of these and at most the second
 abbrev pub is_between : ℕ → ℕ → ℤ → Bool
@@ -47,6 +54,19 @@ abbrev pub suits_period : ℕ → ℤ → Bool
 suits_period partition_period (pos n) = nat_eq (n % partition_period) 0
 suits_period partition_period (negsuc n) = true
 
+-- a time capacity is above 0, or -1 for a process without deadlines
+abbrev pub is_time_capacity : ℤ → Bool
+is_time_capacity capacity = is_period capacity
+
+-- the time capacity of a process, if it has one
+abbrev pub capacity_given : ℤ → Option ℕ
+capacity_given capacity = period_given capacity
+
+-- whether a period and a time capacity are given, and the capacity is the greater
+abbrev pub is_above_period : ℤ → ℤ → Bool
+is_above_period (pos period) (pos capacity) = nat_lt 0 period && nat_lt period capacity
+is_above_period _ _ = false
+
 -- a mode is 0 to 3
 abbrev pub is_mode : ℤ → Bool
 is_mode (pos n) = nat_le n 3
@@ -69,6 +89,18 @@ restart_given (pos (suc zero)) = Some mode.ColdStart
 restart_given (pos (suc (suc zero))) = Some mode.WarmStart
 restart_given _ = None
 
+-- the number of a mode
+abbrev pub mode_number : Mode → ℕ
+mode_number mode.Idle = 0
+mode_number mode.ColdStart = 1
+mode_number mode.WarmStart = 2
+mode_number mode.Normal = 3
+
+-- the number of a start condition
+abbrev pub start_number : StartCondition → ℕ
+start_number start.NormalStart = 0
+start_number start.PartitionRestart = 1
+
 -- a time-out is -1, which never falls due, or not below 0
 abbrev pub is_time_out : ℤ → Bool
 is_time_out (pos n) = true
@@ -88,6 +120,10 @@ is_longer size (negsuc n) = false
 abbrev pub is_length : ℤ → Bool
 is_length (pos n) = nat_lt 0 n
 is_length (negsuc n) = false
+
+-- the length of a message to the maintenance is 0 to 128 bytes
+abbrev pub is_report_length : ℤ → Bool
+is_report_length length = is_between 0 LONGEST_REPORT length
 
 -- a message size is 1 to 8,192
 abbrev pub is_size : ℤ → Bool

@@ -1,5 +1,5 @@
 -- What the configuration says of a channel by its number, and of a port by its partition and name.
-use Rattle.std.specs.Prelude.{ℕ, List, [], ◌∷◌, Option, Some, None, Bool, false, ◌&&◌, ◌||◌, IsTrue, map, nat_eq, nat_lt, if◌then◌else◌, is_some, option_map}
+use Rattle.std.specs.Prelude.{ℕ, List, [], ◌∷◌, Option, Some, None, Bool, false, ◌&&◌, ◌||◌, IsTrue, map, nat_eq, nat_lt, if◌then◌else◌, is_none, is_some, option_map}
 use Rattle.std.specs.List.{list_any}
 use Rattle.std.specs.Option.{option_map_or}
 use Rattle.std.specs.Str.{bytes_eq}
@@ -7,7 +7,7 @@ use Rattle.apex_types.specs.declared.discipline.Discipline.{Discipline}
 use Rattle.apex_types.specs.declared.discipline.Discipline.TheVariants as discipline
 use Rattle.apex_machine.specs.declared.state.Direction.{Direction}
 use Rattle.apex_machine.specs.declared.state.Direction.TheVariants as direction
-use Rattle.apex_machine.specs.Configuration.{ChannelEnd, Configuration, QueuingChannel, SamplingChannel, numbered}
+use Rattle.apex_machine.specs.Configuration.{ChannelEnd, Configuration, QueuingChannel, SamplingChannel, is_end_of, numbered}
 
 -- channels by number
 
@@ -43,12 +43,27 @@ receiving_discipline configuration number =
 -- whether a partition is at the source of the queuing channel of this number
 abbrev pub is_at_source : Configuration → ℕ → ℕ → Bool
 is_at_source configuration number partition =
-    option_map_or (λ channel. nat_eq channel.source.partition partition) (queuing_of configuration number) false
+    option_map_or (λ channel. is_end_of partition channel.source) (queuing_of configuration number) false
 
 -- whether a partition is at the destination of the queuing channel of this number
 abbrev pub is_at_destination : Configuration → ℕ → ℕ → Bool
 is_at_destination configuration number partition =
-    option_map_or (λ channel. nat_eq channel.destination.partition partition) (queuing_of configuration number) false
+    option_map_or (λ channel. is_end_of partition channel.destination) (queuing_of configuration number) false
+
+-- whether messages come from outside into the channel of this number
+abbrev pub is_from_outside : Configuration → ℕ → Bool
+is_from_outside configuration number =
+    option_map_or (λ channel. is_none channel.source) (sampling_of configuration number) false
+    || option_map_or (λ channel. is_none channel.source) (queuing_of configuration number) false
+
+-- whether messages leave the queuing channel of this number to the outside
+abbrev pub is_to_outside : Configuration → ℕ → Bool
+is_to_outside configuration number = option_map_or (λ channel. is_none channel.destination) (queuing_of configuration number) false
+
+-- the greatest size of the messages of a channel, of either kind
+abbrev pub size_of : Configuration → ℕ → ℕ
+size_of configuration number =
+    option_map_or (λ channel. channel.size) (queuing_of configuration number) (option_map_or (λ channel. channel.size) (sampling_of configuration number) 0)
 
 -- the numbers of the channels, in rising order
 
@@ -72,18 +87,18 @@ channel_numbers configuration =
 -- whether a partition is the source of a queuing channel of this number
 abbrev pub is_sender : Configuration → ℕ → ℕ → Bool
 is_sender configuration number partition =
-    list_any (λ channel. nat_eq channel.number number && nat_eq channel.source.partition partition) configuration.queuing
+    list_any (λ channel. nat_eq channel.number number && is_end_of partition channel.source) configuration.queuing
 
 -- whether a partition is the destination of a queuing channel of this number
 abbrev pub is_receiver : Configuration → ℕ → ℕ → Bool
 is_receiver configuration number partition =
-    list_any (λ channel. nat_eq channel.number number && nat_eq channel.destination.partition partition) configuration.queuing
+    list_any (λ channel. nat_eq channel.number number && is_end_of partition channel.destination) configuration.queuing
 
 -- whether a partition is at an end of a sampling channel of this number
 abbrev pub samples : Configuration → ℕ → ℕ → Bool
 samples configuration number partition =
     list_any (λ channel. nat_eq channel.number number
-    && (nat_eq channel.source.partition partition || list_any (λ place. nat_eq place.partition partition) channel.destinations))
+    && (is_end_of partition channel.source || list_any (λ place. nat_eq place.partition partition) channel.destinations))
     configuration.sampling
 
 -- whether a partition is at an end of a channel
@@ -101,6 +116,16 @@ EndsAreApart configuration =
 -- whether this end of a channel is the partition's port of this name
 abbrev pub is_port : ℕ → List ℕ → ChannelEnd → Bool
 is_port partition name place = nat_eq place.partition partition && bytes_eq name place.port
+
+-- the same of an end that may be outside
+abbrev pub is_port_inside : ℕ → List ℕ → Option ChannelEnd → Bool
+is_port_inside partition name None = false
+is_port_inside partition name (Some place) = is_port partition name place
+
+-- an end as a list of the ends inside
+abbrev pub ends_inside : Option ChannelEnd → List ChannelEnd
+ends_inside None = []
+ends_inside (Some place) = place ∷ []
 
 -- what the configuration says of a sampling port
 pub record SamplingPort : Type 0 where
@@ -137,10 +162,10 @@ queuing_end channel direction = record {
 }
 
 -- the first of these channels that has the port of this partition and name at an end, and the direction there
-abbrev pub end_among : {Channel : Type 0} → (Channel → ChannelEnd) → (Channel → List ChannelEnd) → ℕ → List ℕ → List Channel → Option (Channel × Direction)
+abbrev pub end_among : {Channel : Type 0} → (Channel → Option ChannelEnd) → (Channel → List ChannelEnd) → ℕ → List ℕ → List Channel → Option (Channel × Direction)
 end_among source_of destinations_of partition name [] = None
 end_among source_of destinations_of partition name (channel ∷ others) =
-    if is_port partition name (source_of channel) then Some (channel, direction.Source)
+    if is_port_inside partition name (source_of channel) then Some (channel, direction.Source)
     else if list_any (is_port partition name) (destinations_of channel) then Some (channel, direction.Destination)
     else end_among source_of destinations_of partition name others
 
@@ -152,4 +177,4 @@ sampling_port configuration partition name =
 -- the queuing port that the configuration gives a partition under this name, if any
 abbrev pub queuing_port : Configuration → ℕ → List ℕ → Option QueuingPort
 queuing_port configuration partition name =
-    option_map (λ found. queuing_end found.0 found.1) (end_among (λ channel. channel.source) (λ channel. channel.destination ∷ []) partition name configuration.queuing)
+    option_map (λ found. queuing_end found.0 found.1) (end_among (λ channel. channel.source) (λ channel. ends_inside channel.destination) partition name configuration.queuing)

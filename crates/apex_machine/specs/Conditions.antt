@@ -54,6 +54,13 @@ code_of condition.LongerThanPort = code.InvalidConfig
 code_of condition.NotSource = code.InvalidMode
 code_of condition.NotDestination = code.InvalidMode
 code_of condition.NoSuchName = code.InvalidConfig
+code_of condition.TimeCapacityOutOfRange = code.InvalidParam
+code_of condition.TimeCapacityAbovePeriod = code.InvalidParam
+code_of condition.DelayNotBelowPeriod = code.InvalidParam
+code_of condition.NoSuchProcess = code.InvalidParam
+code_of condition.ProcessNotOwner = code.InvalidMode
+code_of condition.LengthOutOfRange = code.InvalidParam
+code_of condition.HandlerCreated = code.NoAction
 
 -- this condition, if it holds
 abbrev pub when : Bool → Condition → List Condition
@@ -63,6 +70,11 @@ when holds condition = if holds then condition ∷ [] else []
 abbrev pub conditions_for : {Object : Type 0} → Option Object → (Object → List Condition) → List Condition
 conditions_for None conditions = condition.NotCreated ∷ []
 conditions_for (Some object) conditions = conditions object
+
+-- the conditions on what is created, if it is
+abbrev pub conditions_if : {Object : Type 0} → Option Object → (Object → List Condition) → List Condition
+conditions_if None conditions = []
+conditions_if (Some object) conditions = conditions object
 
 -- whether a mode is NORMAL
 abbrev pub is_normal : Mode → Bool

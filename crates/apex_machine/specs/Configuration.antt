@@ -3,6 +3,7 @@ use Rattle.std.specs.Prelude.{◌≡◌, IsTrue, ℕ, ◌+◌, ◌%◌, List, []
 use Rattle.std.specs.List.{find, list_any}
 use Rattle.std.specs.Option.{option_map_or}
 use Rattle.apex_types.specs.declared.discipline.Discipline.{Discipline}
+use Rattle.apex_machine.specs.declared.state.ErrorPolicy.{ErrorPolicy}
 
 -- a partition's window: in each major frame the core is the partition's from the window's start on, for its length
 pub record Window : Type 0 where
@@ -11,7 +12,8 @@ pub record Window : Type 0 where
   pub start : ℕ
   pub span : ℕ
 
--- a partition: its period, its cores, the first of which is its first core, and how many processes and objects of each kind it may create
+-- a partition: its period, its cores, the first of which is its first core, how many processes and objects of each kind it may create, and
+-- what is done about an error that no handler takes
 pub record PartitionLimits : Type 0 where
   pub number : ℕ
   pub period : ℕ
@@ -22,29 +24,37 @@ pub record PartitionLimits : Type 0 where
   pub semaphores : ℕ
   pub events : ℕ
   pub mutexes : ℕ
+  pub on_error : ErrorPolicy
 
 -- an end of a channel: a partition's port, by its name   (interpartition communication, section 2)
 pub record ChannelEnd : Type 0 where
   pub partition : ℕ
   pub port : List ℕ
 
--- a sampling channel: the greatest size of its message, its refresh period, one source and some destinations
+-- a sampling channel: the greatest size of its message, its refresh period, its source, unless that is outside the module, and its
+-- destinations inside
 pub record SamplingChannel : Type 0 where
   pub number : ℕ
   pub size : ℕ
   pub refresh : ℕ
-  pub source : ChannelEnd
+  pub source : Option ChannelEnd
   pub destinations : List ChannelEnd
 
--- a queuing channel: the greatest size of its messages, how many it holds, and its two ends, each with its port's discipline
+-- a queuing channel: the greatest size of its messages, how many it holds, and its two ends, each with its port's discipline, unless the
+-- end is outside the module
 pub record QueuingChannel : Type 0 where
   pub number : ℕ
   pub size : ℕ
   pub capacity : ℕ
-  pub source : ChannelEnd
+  pub source : Option ChannelEnd
   pub source_discipline : Discipline
-  pub destination : ChannelEnd
+  pub destination : Option ChannelEnd
   pub destination_discipline : Discipline
+
+-- whether an end of a channel is a port of this partition; an end outside is none's
+abbrev pub is_end_of : ℕ → Option ChannelEnd → Bool
+is_end_of partition None = false
+is_end_of partition (Some place) = nat_eq place.partition partition
 
 -- a module, with its partitions in rising order of their numbers
 pub record Configuration : Type 0 where

@@ -1,12 +1,13 @@
 -- What each piece demands of a record that touches it, in the order in which it tests the demands, and its local step.
-use Rattle.std.specs.Prelude.{◌≡◌, ◌⊎◌, ℕ, ◌+◌, List, [], ◌∷◌, ◌++◌, Option, Some, None, Bool, true, false, nat_eq, ◌||◌, IsTrue, IsFalse, ℤ, Result, MatchResult}
+use Rattle.std.specs.Prelude.{◌≡◌, ◌⊎◌, ◌≤◌, length, ℕ, ◌+◌, List, [], ◌∷◌, ◌++◌, Option, Some, None, Bool, true, false, nat_eq, ◌||◌, IsTrue, IsFalse, ℤ, Result, MatchResult}
 use Rattle.apex_types.specs.declared.cause.Cause.{Cause}
 use Rattle.apex_types.specs.declared.cause.Cause.TheVariants as cause
 use Rattle.apex_types.specs.declared.code.Code.TheVariants as code
 use Rattle.apex_types.specs.declared.record.Body.{Body}
-use Rattle.apex_types.specs.declared.record.Body.TheVariants.{Call, Ret, Disp, Tick}
+use Rattle.apex_types.specs.declared.record.Body.TheVariants.{Arrive, Call, Depart, Ret, Disp, Tick}
 use Rattle.apex_types.specs.declared.record.Call.{Call as CallRecord}
 use Rattle.apex_types.specs.declared.record.Claim.{Claim}
+use Rattle.apex_types.specs.declared.record.Crossing.{Crossing}
 use Rattle.apex_types.specs.declared.record.Ordered.{Ordered}
 use Rattle.apex_types.specs.declared.record.Out.{Out}
 use Rattle.apex_types.specs.declared.record.Out.TheVariants as out
@@ -26,12 +27,13 @@ use Rattle.apex_machine.specs.Arguments.{is_over}
 use Rattle.apex_machine.specs.Choice.{choice_in}
 use Rattle.apex_machine.specs.Configuration.{Configuration, has_partition, window_at}
 use Rattle.apex_machine.specs.Pieces.{ChannelPart, ModulePart, Part, PartitionPart, part_after, time_at}
-use Rattle.apex_machine.specs.Ports.{channel_effect, channel_of, suits_use, use_of}
+use Rattle.apex_machine.specs.Channels.{has_channel, is_from_outside, is_to_outside, size_of}
+use Rattle.apex_machine.specs.Ports.{arrived, channel_effect, channel_of, departed, suits_use, use_of}
 use Rattle.apex_machine.specs.DueTimes.{NamesThoseDue, time_out_of}
 use Rattle.apex_machine.specs.ServiceConditions.{conditions_of}
 use Rattle.apex_machine.specs.Services.{Answer, HasNoValues, HasValues, NamesExactly, answer_of}
 use Rattle.apex_machine.specs.State.{Channel, channel_set, Partition, Table, is_same, names_one_of, occupant_of, item_at, time_of}
-use Rattle.apex_machine.specs.Step.{AllConfigured, OneConfigured, ChannelConfigured, KeepsSkew, HasNoneDue, HasPriority, HasCode, IsWithinProfile, due_of}
+use Rattle.apex_machine.specs.Step.{AllConfigured, OneConfigured, ChannelConfigured, KeepsSkew, HasNoneDue, HasPriority, HasCode, IsTaken, IsWithinProfile, due_of}
 use Rattle.apex_machine.specs.Waiting.{waits_at}
 
 -- what a piece demands of a record, and the cause that it reports if the demand fails
@@ -69,7 +71,13 @@ window_now configuration cores core = window_at configuration core (time_of core
 
 -- the module
 
--- the module: names are configured, a tick keeps the skew, and a core outside every window is idle
+-- the names of an arrival or a departure are configured
+abbrev pub crossing_names : Configuration → Crossing → Demand
+crossing_names configuration crossing =
+    record { cause = cause.Names; holds = AllConfigured configuration crossing.woken × IsTrue (has_channel configuration crossing.chan) }
+
+-- the module: names are configured, a tick keeps the skew, and a core outside every window is idle. An arrival or a departure may be at any
+-- time
 abbrev pub module_demands : Configuration → List CoreState → ℕ → Body → List {1} Demand
 module_demands configuration cores core (Disp who) =
     record { cause = cause.Names; holds = OneConfigured configuration who }
@@ -84,6 +92,8 @@ module_demands configuration cores core (Call call) =
       holds = IsTrue (has_partition configuration call.who.part) × AllConfigured configuration call.claim.woken × ChannelConfigured configuration call.claim.chan;
     }
     ∷ record { cause = cause.Idle; holds = InNoWindow (window_now configuration cores core) ⊥ } ∷ []
+module_demands configuration cores core (Arrive crossing) = crossing_names configuration crossing ∷ []
+module_demands configuration cores core (Depart crossing) = crossing_names configuration crossing ∷ []
 module_demands configuration cores core (Ret ret) =
     record { cause = cause.Names; holds = IsTrue (has_partition configuration ret.who.part) }
     ∷ record { cause = cause.Idle; holds = InNoWindow (window_now configuration cores core) ⊥ } ∷ []
@@ -149,7 +159,7 @@ abbrev pub own_call_demands : Configuration → ℕ → List CoreState → Parti
 own_call_demands configuration number cores partition core call =
     caller_demands configuration number cores partition core call
     ++ outcome_demands (conditions_of configuration call.who partition call.request) (channel_of partition call.request) number call.request
-    (answer_of (time_of cores core) call.who partition call.request) call.claim
+    (answer_of cores core call.who partition call.request) call.claim
 
 -- partitions: the calls of others, the returns and the ticks
 
@@ -158,11 +168,14 @@ abbrev pub AllWaitAt : WaitingSet → ℕ → Table → List Who → Type 0
 AllWaitAt wanted number table [] = Unit {0}
 AllWaitAt wanted number table (who ∷ others) = (who.part ≡ number → IsTrue (waits_at wanted (item_at table who.proc))) × AllWaitAt wanted number table others
 
--- a call of another partition ends only waits at its channel: a send ends waits to receive, and a receive ends waits to send
+-- a call of another partition ends only waits at its channel: a send ends waits to receive, a receive and CLEAR_QUEUING_PORT end waits to
+-- send
 abbrev pub WakesHere : Request → Option ℕ → ℕ → Table → List Who → Type 0
 WakesHere (request.QueuingPort port (QueuingOperation.Send length time_out message)) (Some channel) number table woken =
     AllWaitAt (channel_set channel Receivers) number table woken
 WakesHere (request.QueuingPort port (QueuingOperation.Receive time_out)) (Some channel) number table woken =
+    AllWaitAt (channel_set channel Senders) number table woken
+WakesHere (request.QueuingPort port QueuingOperation.Clear) (Some channel) number table woken =
     AllWaitAt (channel_set channel Senders) number table woken
 WakesHere _ chan number table woken = ⊥
 
@@ -188,7 +201,8 @@ pub record ReturnsValues (outcome : Outcome) (ret : Return) : Type 0 where
   pub val2 : outcome.val2 ≡ ret.val2
   pub val3 : outcome.val3 ≡ ret.val3
 
--- a partition: its windows, its choices, and the claims of its own calls and returns
+-- a partition: its windows, its choices, and the claims of its own calls and returns; of an arrival, that its processes that are named wait
+-- to receive on that channel, and of a departure, that they wait to send
 abbrev pub partition_demands : Configuration → ℕ → List CoreState → Partition → ℕ → Body → List {1} Demand
 partition_demands configuration number cores partition core (Disp who) =
     record { cause = cause.Choice; holds = InWindowOf number (window_now configuration cores core) (choice_in number core partition.table ≡ who) } ∷ []
@@ -208,6 +222,10 @@ partition_demands configuration number cores partition core (Ret ret) =
     ∷ record { cause = cause.Out; holds = IfDue due (λ outcome. outcome.code ≡ ret.code) }
     ∷ record { cause = cause.Val; holds = IfDue due (λ outcome. ReturnsValues outcome ret) }
     ∷ record { cause = cause.Data; holds = IfDue due (λ outcome. outcome.bytes ≡ ret.bytes) } ∷ []
+partition_demands configuration number cores partition core (Arrive crossing) =
+    record { cause = cause.Woken; holds = AllWaitAt (channel_set crossing.chan Receivers) number partition.table crossing.woken } ∷ []
+partition_demands configuration number cores partition core (Depart crossing) =
+    record { cause = cause.Woken; holds = AllWaitAt (channel_set crossing.chan Senders) number partition.table crossing.woken } ∷ []
 
 -- channels
 
@@ -229,10 +247,33 @@ abbrev pub used_demands : Bool → Configuration → ℕ → ℕ → Channel →
 used_demands true configuration now number channel call = through_demands configuration now number channel call
 used_demands false configuration now number channel call = []
 
--- a channel: the outcome of the calls through it
+-- an arrival at a channel: its source is outside, the message is no longer than the channel's, and those that it wakes are named
+abbrev pub arrival_demands : Configuration → ℕ → ℕ → Channel → Crossing → List {1} Demand
+arrival_demands configuration now number channel crossing =
+    record { cause = cause.Chan; holds = IsTrue (is_from_outside configuration number) }
+    ∷ record { cause = cause.Data; holds = length crossing.message ≤ size_of configuration number }
+    ∷ record { cause = cause.Woken; holds = NamesExactly (arrived configuration now number crossing.message channel).answer.woken crossing.woken } ∷ []
+
+-- a departure from a channel: its destination is outside, the message is the oldest, and those that it wakes are named
+abbrev pub departure_demands : Configuration → ℕ → ℕ → Channel → Crossing → List {1} Demand
+departure_demands configuration now number channel crossing =
+    record { cause = cause.Chan; holds = IsTrue (is_to_outside configuration number) }
+    ∷ record { cause = cause.Data; holds = IsTaken (departed configuration now number channel).answer crossing.message }
+    ∷ record { cause = cause.Woken; holds = NamesExactly (departed configuration now number channel).answer.woken crossing.woken } ∷ []
+
+-- a demand list of the channel that a record names
+abbrev pub where_named : Bool → List {1} Demand → List {1} Demand
+where_named true demanded = demanded
+where_named false demanded = []
+
+-- a channel: the outcome of the calls through it, and the messages that arrive at it and depart from it
 abbrev pub channel_demands : Configuration → ℕ → ℕ → Channel → Body → List {1} Demand
 channel_demands configuration now number channel (Call call) =
     used_demands (is_channel number call.claim.chan) configuration now number channel call
+channel_demands configuration now number channel (Arrive crossing) =
+    where_named (nat_eq crossing.chan number) (arrival_demands configuration now number channel crossing)
+channel_demands configuration now number channel (Depart crossing) =
+    where_named (nat_eq crossing.chan number) (departure_demands configuration now number channel crossing)
 channel_demands configuration now number channel _ = []
 
 -- local steps

@@ -1,5 +1,5 @@
 -- Waits and due times: what a process waits for, from when on, and when its wait is over.
-use Rattle.std.specs.Prelude.{◌≡◌, ℕ, ◌+◌, ◌*◌, ◌/◌, List, Option, Some, None, Bool, true, false, ℤ, pos, negsuc, nat_eq, nat_le, option_map, ◌&&◌}
+use Rattle.std.specs.Prelude.{◌≡◌, ℕ, zero, suc, ◌+◌, ◌*◌, ◌/◌, List, Option, Some, None, Bool, true, false, ℤ, pos, negsuc, nat_eq, nat_le, option_map, ◌&&◌}
 use Rattle.apex_types.specs.declared.object_kind.ObjectKind.TheVariants as kind
 use Rattle.apex_types.specs.declared.record.Who.{Who}
 use Rattle.apex_types.specs.declared.operation.{CallerOperation.CallerOperation}
@@ -11,6 +11,7 @@ use Rattle.apex_machine.specs.declared.state.Process.{Process}
 use Rattle.apex_machine.specs.declared.state.Wait.{Wait}
 use Rattle.apex_machine.specs.declared.state.Wait.TheVariants as wait
 use Rattle.apex_machine.specs.declared.state.WaitingSet.{WaitingSet}
+use Rattle.apex_machine.specs.Arguments.{natural_of}
 use Rattle.apex_machine.specs.State.{Table, is_named, is_same_kind, item_at}
 use Rattle.apex_machine.specs.Waiting.{set_of}
 
@@ -18,8 +19,13 @@ use Rattle.apex_machine.specs.Waiting.{set_of}
 
 -- whether a wait is for the mode NORMAL
 abbrev pub waits_for_normal : Wait → Bool
-waits_for_normal wait.NormalMode = true
+waits_for_normal (wait.NormalMode delay) = true
 waits_for_normal _ = false
+
+-- the delay with which a process waits for NORMAL
+abbrev pub delay_kept : Wait → ℕ
+delay_kept (wait.NormalMode delay) = natural_of delay
+delay_kept _ = 0
 
 -- whether a wait is that of a process that suspended itself
 abbrev pub is_suspension : Wait → Bool
@@ -37,10 +43,16 @@ is_for_mutex _ = false
 abbrev pub first_release : ℕ → ℕ → ℕ
 first_release partition_period now = (now / partition_period + 1) * partition_period
 
--- what a started process waits for in NORMAL: an aperiodic one for nothing, a periodic one for its first release
-abbrev pub entry_wait : ℕ → ℕ → Option ℕ → Wait
-entry_wait partition_period now None = wait.Nothing
-entry_wait partition_period now (Some period) = wait.FirstRelease (first_release partition_period now)
+-- what an aperiodic process waits for that is started with a delay: that it is over; with a delay of 0 for nothing
+abbrev pub delay_wait : ℕ → ℕ → Wait
+delay_wait now zero = wait.Nothing
+delay_wait now (suc delay) = wait.Delay (now + suc delay)
+
+-- what a process waits for that is started with a delay in NORMAL: an aperiodic one that the delay is over, a periodic one for its first
+-- release, which the delay puts off   (DELAYED_START, section 3)
+abbrev pub entry_wait : ℕ → ℕ → ℕ → Option ℕ → Wait
+entry_wait partition_period now delay None = delay_wait now delay
+entry_wait partition_period now delay (Some period) = wait.FirstRelease (first_release partition_period now + delay)
 
 -- the release after this one: a period later, if the process has a period
 abbrev pub release_after : ℕ → Option ℕ → ℕ
@@ -96,6 +108,7 @@ wait_of asked chan now process = wait_in (set_of asked chan) (due_of_call (time_
 -- a wait that has a due time is over once the time of the process's core has reached it
 abbrev pub due_by : ℕ → Wait → Bool
 due_by time (wait.FirstRelease due) = nat_le due time
+due_by time (wait.Delay due) = nat_le due time
 due_by time (wait.Until due) = nat_le due time
 due_by time (wait.PeriodicRelease due) = nat_le due time
 due_by time (wait.Suspended (Some due)) = nat_le due time

@@ -1,12 +1,12 @@
 -- The error conditions of uses of buffers, blackboards, semaphores, events and mutexes.
-use Rattle.std.specs.Prelude.{ℕ, List, [], ◌∷◌, ◌++◌, length, Option, Bool, false, ℤ, not, nat_eq, nat_lt, ◌&&◌, ◌||◌}
+use Rattle.std.specs.Prelude.{ℕ, List, [], ◌∷◌, ◌++◌, length, Option, Bool, false, ℤ, not, is_none, is_some, nat_eq, nat_lt, ◌&&◌, ◌||◌}
 use Rattle.apex_types.specs.declared.record.Who.{Who}
 use Rattle.apex_machine.specs.declared.condition.Condition.{Condition}
 use Rattle.apex_machine.specs.declared.condition.Condition.TheVariants as condition
-use Rattle.apex_machine.specs.Arguments.{is_length, is_longer, is_number}
-use Rattle.apex_machine.specs.Conditions.{conditions_for, of_caller, time_out_conditions, waiting_conditions, when}
+use Rattle.apex_machine.specs.Arguments.{is_length, is_longer, is_number, natural_of}
+use Rattle.apex_machine.specs.Conditions.{conditions_for, conditions_if, of_caller, time_out_conditions, waiting_conditions, when}
 use Rattle.apex_machine.specs.Objects.{is_owner}
-use Rattle.apex_machine.specs.State.{Mutex, Partition, given_object, item_at}
+use Rattle.apex_machine.specs.State.{Mutex, Partition, created, given_object, item_at}
 
 -- a use that may wait for an object: the object is created, the time-out is in range, and the caller may wait unless the time-out is 0
 abbrev pub object_conditions : {Object : Type 0} → Who → Partition → Option Object → ℤ → List Condition
@@ -34,6 +34,14 @@ acquire_conditions who partition mutex time_out =
     ++ time_out_conditions time_out
     ++ when (nat_eq who.proc 0) condition.InitialisingCaller
     ++ when (owns_another partition.mutexes mutex who.proc) condition.OwnsAnother
+
+-- RESET_MUTEX: a created mutex, and a created process, which owns it
+abbrev pub reset_conditions : Partition → ℤ → ℤ → List Condition
+reset_conditions partition mutex process =
+    conditions_for (given_object partition.mutexes mutex) (λ found. [])
+    ++ when (is_none (created partition.table process)) condition.NoSuchProcess
+    ++ conditions_if (given_object partition.mutexes mutex)
+    (λ found. when (is_some (created partition.table process) && not (is_owner found.owner (natural_of process))) condition.ProcessNotOwner)
 
 -- RELEASE_MUTEX: a created mutex, which the caller owns
 abbrev pub release_conditions : Who → Option Mutex → List Condition

@@ -132,7 +132,7 @@ acquired_from (Some owner) caller time_out mutex = if nat_eq owner caller then a
 abbrev pub acquired : ℕ → ℤ → Mutex → Effect Mutex
 acquired caller time_out mutex = acquired_from mutex.owner caller time_out mutex
 
--- the last release: the first waiter becomes the owner; with no waiter the mutex becomes free
+-- the last release, and RESET_MUTEX: the first waiter becomes the owner; with no waiter the mutex becomes free
 abbrev pub handed_on : Option Entry → Mutex → Effect Mutex
 handed_on None mutex = record { answer = done; next = record mutex { owner = None; count = 0 } }
 handed_on (Some waiter) mutex = record { answer = waking (waiter.who ∷ []); next = owned_by waiter.who.proc mutex }
@@ -149,6 +149,7 @@ mutex_released first mutex = if nat_lt 1 mutex.count then released_once mutex el
 abbrev pub mutex_effect : ℕ → MutexOperation → Mutex → Effect Mutex
 mutex_effect caller (MutexOperation.Acquire time_out) mutex = acquired caller time_out mutex
 mutex_effect caller MutexOperation.Release mutex = mutex_released (first_waiter mutex.discipline mutex.waiters) mutex
+mutex_effect caller (MutexOperation.Reset process) mutex = handed_on (first_waiter mutex.discipline mutex.waiters) mutex
 
 -- whether a process owns a mutex
 abbrev pub is_owner : Option ℕ → ℕ → Bool

@@ -2,7 +2,7 @@
 -- holds, the records that touch it, and its local step.
 use Rattle.std.specs.Prelude.{ℕ, zero, suc, ◌+◌, List, [], ◌∷◌, ◌++◌, Bool, true, false, nat_eq, ◌&&◌, ◌||◌, map, is_some}
 use Rattle.apex_types.specs.declared.record.Body.{Body}
-use Rattle.apex_types.specs.declared.record.Body.TheVariants.{Call, Ret, Disp, Tick}
+use Rattle.apex_types.specs.declared.record.Body.TheVariants.{Arrive, Call, Depart, Ret, Disp, Tick}
 use Rattle.apex_types.specs.declared.record.Call.{Call as CallRecord}
 use Rattle.apex_types.specs.declared.record.Ordered.{Ordered}
 use Rattle.apex_machine.specs.declared.state.CoreState.{CoreState}
@@ -55,7 +55,8 @@ abbrev pub stops_at_end : Configuration → ℕ → CallRecord → Bool
 stops_at_end configuration number call = stops_some call && is_at_end configuration number call.who.part
 
 -- every record touches the module; a partition is touched by ticks and dispatches, by its own calls and returns, and by a
--- call that names one of its processes; a channel by ticks, by calls through it, and by a stop or a restart at one of its ends
+-- call, an arrival or a departure that names one of its processes; a channel by ticks, by calls through it, by arrivals at it and
+-- departures from it, and by a stop or a restart at one of its ends
 abbrev pub touched_by : Configuration → Body → Piece → Bool
 touched_by configuration body Module = true
 touched_by configuration (Disp who) (OfPartition number) = true
@@ -66,6 +67,10 @@ touched_by configuration (Disp who) (OfChannel number) = false
 touched_by configuration (Tick woken) (OfChannel number) = true
 touched_by configuration (Call call) (OfChannel number) = is_channel number call.claim.chan || stops_at_end configuration number call
 touched_by configuration (Ret ret) (OfChannel number) = false
+touched_by configuration (Arrive crossing) (OfPartition number) = names_one_of number crossing.woken
+touched_by configuration (Depart crossing) (OfPartition number) = names_one_of number crossing.woken
+touched_by configuration (Arrive crossing) (OfChannel number) = nat_eq crossing.chan number
+touched_by configuration (Depart crossing) (OfChannel number) = nat_eq crossing.chan number
 
 -- whether a record touches a piece
 abbrev pub touches : Configuration → Piece → Ordered → Bool

@@ -12,10 +12,10 @@ use Rattle.apex_machine.specs.declared.state.Status.{Status}
 use Rattle.apex_machine.specs.Answer.{Answer, Effect, Number, done, effect_on}
 use Rattle.apex_machine.specs.Channels.{capacity_of, is_at_destination, is_at_source, receiving_discipline, refresh_of, sending_discipline}
 use Rattle.apex_machine.specs.Configuration.{Configuration}
-use Rattle.apex_machine.specs.Queue.{Messages, received, sent}
+use Rattle.apex_machine.specs.Queue.{Messages, emptied, received, sent}
 use Rattle.apex_machine.specs.State.{Channel, Content, Partition, Port, Queued, Sampled, Stamped, given_object}
 use Rattle.apex_machine.specs.Statuses.{telling}
-use Rattle.apex_machine.specs.Waiting.{first_waiter}
+use Rattle.apex_machine.specs.Waiting.{first_waiter, first_waiters}
 
 -- how a call uses a channel
 pub data Use : Type 0 where
@@ -23,6 +23,7 @@ pub data Use : Type 0 where
   Read : Use
   Send : (message : List ℕ) → (time_out : ℤ) → Use
   Receive : (time_out : ℤ) → Use
+  Clear : Use
   Ask : Use
 
 -- GET_QUEUING_PORT_STATUS asks the channel; every other status is reported by the partition
@@ -36,6 +37,7 @@ use_of (request.SamplingPort port (SamplingOperation.Write length message)) = So
 use_of (request.SamplingPort port SamplingOperation.Read) = Some Read
 use_of (request.QueuingPort port (QueuingOperation.Send length time_out message)) = Some (Send message time_out)
 use_of (request.QueuingPort port (QueuingOperation.Receive time_out)) = Some (Receive time_out)
+use_of (request.QueuingPort port QueuingOperation.Clear) = Some Clear
 use_of (request.GetStatus kind object) = asked_of kind
 use_of _ = None
 
@@ -50,6 +52,7 @@ port_of partition (request.SamplingPort port (SamplingOperation.Write length mes
 port_of partition (request.SamplingPort port SamplingOperation.Read) = given_object partition.sampling_ports port
 port_of partition (request.QueuingPort port (QueuingOperation.Send length time_out message)) = given_object partition.queuing_ports port
 port_of partition (request.QueuingPort port (QueuingOperation.Receive time_out)) = given_object partition.queuing_ports port
+port_of partition (request.QueuingPort port QueuingOperation.Clear) = given_object partition.queuing_ports port
 port_of partition (request.GetStatus kind object) = port_asked partition kind object
 port_of partition _ = None
 
@@ -98,6 +101,7 @@ suits configuration number partition (Write message) (Sampled last) = true
 suits configuration number partition Read (Sampled last) = true
 suits configuration number partition (Send message time_out) (Queued messages) = true
 suits configuration number partition (Receive time_out) (Queued messages) = true
+suits configuration number partition Clear (Queued messages) = true
 suits configuration number partition Ask (Queued messages) = is_at_source configuration number partition || is_at_destination configuration number partition
 suits configuration number partition _ _ = false
 
@@ -110,6 +114,8 @@ used configuration now number partition (Send message time_out) channel (Queued 
     effect_on Queued (sent (capacity_of configuration number) message time_out (first_waiter (receiving_discipline configuration number) channel.receivers) messages)
 used configuration now number partition (Receive time_out) channel (Queued messages) =
     effect_on Queued (received time_out (first_waiter (sending_discipline configuration number) channel.senders) messages)
+used configuration now number partition Clear channel (Queued messages) =
+    effect_on Queued (emptied (first_waiters (sending_discipline configuration number) (capacity_of configuration number) channel.senders))
 used configuration now number partition Ask channel (Queued messages) =
     record { answer = telling (Some (channel_status messages (waiting_at_end configuration number partition channel))); next = Queued messages }
 used configuration now number partition how channel content = record { answer = done; next = content }
@@ -123,3 +129,19 @@ channel_effect configuration now number partition (Some how) channel = used conf
 abbrev pub suits_use : Configuration → ℕ → ℕ → Option Use → Channel → Bool
 suits_use configuration number partition None channel = false
 suits_use configuration number partition (Some how) channel = suits configuration number partition how channel.content
+
+-- messages that pass an end outside
+
+-- how a message that arrives from outside uses a channel: as a write, or as a send that does not wait
+abbrev pub arrival_use : List ℕ → Content → Use
+arrival_use message (Sampled last) = Write message
+arrival_use message (Queued messages) = Send message (pos 0)
+
+-- what an arrival at this time of its core leaves in a channel, and whom it wakes; if a queue is full and nobody waits to receive, the
+-- message is lost
+abbrev pub arrived : Configuration → ℕ → ℕ → List ℕ → Channel → Effect Content
+arrived configuration now number message channel = used configuration now number 0 (arrival_use message channel.content) channel channel.content
+
+-- what a departure takes from a channel and leaves in it, and whom it wakes: it is a receive that does not wait
+abbrev pub departed : Configuration → ℕ → ℕ → Channel → Effect Content
+departed configuration now number channel = used configuration now number 0 (Receive (pos 0)) channel channel.content

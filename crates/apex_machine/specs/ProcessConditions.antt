@@ -1,12 +1,13 @@
 -- The error conditions of the services on processes, on the caller's waits and on the partition's mode.
-use Rattle.std.specs.Prelude.{ℕ, ◌-◌, List, [], ◌∷◌, ◌++◌, length, Option, Some, None, Bool, ℤ, not, is_none, is_some, nat_eq, nat_le, ◌&&◌, ◌||◌}
+use Rattle.std.specs.Prelude.{ℕ, ◌-◌, List, [], ◌∷◌, ◌++◌, length, Option, Some, None, Bool, false, ℤ, not, is_none, is_some, nat_eq, nat_le, ◌&&◌, ◌||◌}
+use Rattle.std.specs.Option.{option_map_or}
 use Rattle.apex_types.specs.declared.record.Who.{Who}
 use Rattle.apex_machine.specs.declared.condition.Condition.{Condition}
 use Rattle.apex_machine.specs.declared.condition.Condition.TheVariants as condition
 use Rattle.apex_machine.specs.declared.state.Mode.{Mode}
 use Rattle.apex_machine.specs.declared.state.Process.{Process}
-use Rattle.apex_machine.specs.Arguments.{is_mode, is_negative, is_normal_mode, is_number, is_period, is_priority, is_warm_start_mode, suits_period}
-use Rattle.apex_machine.specs.Conditions.{conditions_for, creation_conditions, is_cold_start, is_normal, is_taken, may_not_wait, of_caller, time_out_conditions, when}
+use Rattle.apex_machine.specs.Arguments.{is_above_period, is_at_least, is_mode, is_negative, is_normal_mode, is_number, is_period, is_priority, is_report_length, is_time_capacity, is_warm_start_mode, suits_period}
+use Rattle.apex_machine.specs.Conditions.{conditions_for, conditions_if, creation_conditions, is_cold_start, is_normal, is_taken, may_not_wait, of_caller, time_out_conditions, when}
 use Rattle.apex_machine.specs.Configuration.{Configuration, is_core, period_of, process_limit}
 use Rattle.apex_machine.specs.DueTimes.{is_suspension}
 use Rattle.apex_machine.specs.State.{Partition, Table, created, item_at}
@@ -25,14 +26,17 @@ is_suspended process = process.suspended || is_suspension process.wait
 
 -- process management
 
--- CREATE_PROCESS: the conditions of every creation; a priority and a period in range, and a period that suits the partition's
-abbrev pub create_process_conditions : Configuration → ℕ → Partition → List ℕ → ℤ → ℤ → List Condition
-create_process_conditions configuration number partition name priority period =
+-- CREATE_PROCESS: the conditions of every creation; a priority, a period and a time capacity in range, a period that suits the partition's,
+-- and a time capacity that is not above the period
+abbrev pub create_process_conditions : Configuration → ℕ → Partition → List ℕ → ℤ → ℤ → ℤ → List Condition
+create_process_conditions configuration number partition name priority period time_capacity =
     creation_conditions partition (is_taken (λ (process : Process). process.name) name partition.table)
     (nat_le (process_limit configuration number) (created_count partition.table))
     ++ when (not (is_priority priority)) condition.PriorityOutOfRange
     ++ when (not (is_period period)) condition.PeriodOutOfRange
     ++ when (not (suits_period (period_of configuration number) period)) condition.PeriodNotMultiple
+    ++ when (not (is_time_capacity time_capacity)) condition.TimeCapacityOutOfRange
+    ++ when (is_above_period period time_capacity) condition.TimeCapacityAbovePeriod
 
 -- INITIALIZE_PROCESS_CORE_AFFINITY: a created process; a mode other than NORMAL; one of the partition's cores
 abbrev pub affinity_conditions : Configuration → ℕ → Partition → ℤ → ℤ → List Condition
@@ -45,6 +49,17 @@ affinity_conditions configuration number partition process core =
 abbrev pub start_conditions : Option Process → List Condition
 start_conditions None = condition.NotCreated ∷ []
 start_conditions (Some process) = when process.alive condition.AlreadyStarted
+
+-- whether a process is periodic and this delay is not below its period
+abbrev pub reaches_period : ℤ → Process → Bool
+reaches_period delay process = option_map_or (λ period. is_at_least period delay) process.period false
+
+-- DELAYED_START: a created process that is dormant; a delay that is not below 0, and below the period of a periodic process
+abbrev pub delayed_start_conditions : Option Process → ℤ → List Condition
+delayed_start_conditions target delay =
+    start_conditions target
+    ++ when (is_negative delay) condition.DelayOutOfRange
+    ++ conditions_if target (λ found. when (reaches_period delay found) condition.DelayNotBelowPeriod)
 
 -- STOP: a created process, other than the caller, that is not dormant
 abbrev pub stop_conditions : Who → Option Process → ℤ → List Condition
@@ -72,6 +87,10 @@ abbrev pub set_priority_conditions : Option Process → ℤ → List Condition
 set_priority_conditions target priority =
     conditions_for target (λ found. when (not found.alive) condition.Dormant) ++ when (not (is_priority priority)) condition.PriorityOutOfRange
 
+-- GET_PROCESS_STATUS and GET_PROCESS_MUTEX_STATE: a created process
+abbrev pub named_conditions : Option Process → List Condition
+named_conditions target = conditions_for target (λ found. [])
+
 -- GET_MY_ID: a caller other than the initialising process
 abbrev pub get_my_id_conditions : Who → List Condition
 get_my_id_conditions who = when (nat_eq who.proc 0) condition.InitialisingCaller
@@ -94,6 +113,16 @@ abbrev pub periodic_wait_conditions : Who → Partition → List Condition
 periodic_wait_conditions who partition =
     when (not (of_caller is_periodic (item_at partition.table who.proc))) condition.AperiodicCaller
     ++ when (may_not_wait who partition) condition.MayNotWait
+
+-- reports and errors
+
+-- REPORT_APPLICATION_MESSAGE: a length in range
+abbrev pub report_conditions : ℤ → List Condition
+report_conditions length = when (not (is_report_length length)) condition.LengthOutOfRange
+
+-- CREATE_ERROR_HANDLER: a mode other than NORMAL, and no handler yet
+abbrev pub create_handler_conditions : Partition → List Condition
+create_handler_conditions partition = when (is_normal partition.mode) condition.InNormal ++ when partition.has_handler condition.HandlerCreated
 
 -- the partition's mode
 

@@ -1,5 +1,5 @@
 -- What becomes of a process: by a service of its partition, by the end of its wait, and by its own call.
-use Rattle.std.specs.Prelude.{ℕ, List, [], Option, Some, None, Bool, true, false, ℤ, ◌&&◌, if◌then◌else◌}
+use Rattle.std.specs.Prelude.{ℕ, List, [], Option, Some, None, Bool, true, false, ℤ, pos, ◌&&◌, if◌then◌else◌}
 use Rattle.apex_types.specs.declared.code.Code.{Code}
 use Rattle.apex_types.specs.declared.code.Code.TheVariants as code
 use Rattle.apex_types.specs.declared.record.Call.{Call as CallRecord}
@@ -18,9 +18,9 @@ use Rattle.apex_machine.specs.declared.state.Outcome.{Outcome}
 use Rattle.apex_machine.specs.declared.state.Process.{Process}
 use Rattle.apex_machine.specs.declared.state.Wait.{Wait}
 use Rattle.apex_machine.specs.declared.state.Wait.TheVariants as wait
-use Rattle.apex_machine.specs.Arguments.{is_number, is_over, natural_of, period_given}
+use Rattle.apex_machine.specs.Arguments.{capacity_given, is_number, is_over, natural_of, period_given}
 use Rattle.apex_machine.specs.Conditions.{is_normal}
-use Rattle.apex_machine.specs.DueTimes.{entry_wait, next_release, wait_of, waits_for_normal}
+use Rattle.apex_machine.specs.DueTimes.{delay_kept, entry_wait, next_release, wait_of, waits_for_normal}
 use Rattle.apex_machine.specs.Objects.{is_owner, mutex_effect}
 use Rattle.apex_machine.specs.State.{Mutex, Partition, given_object, time_of}
 use Rattle.apex_machine.specs.Waiting.{is_no_error, service_at}
@@ -28,14 +28,15 @@ use Rattle.apex_machine.specs.Waiting.{is_no_error, service_at}
 -- creation, start and stop
 
 -- a created process is dormant, on the partition's first core   (CREATE_PROCESS, section 3)
-abbrev pub new_process : ℕ → List ℕ → ℤ → ℤ → Process
-new_process core name priority period = record {
+abbrev pub new_process : ℕ → List ℕ → ℤ → ℤ → ℤ → Process
+new_process core name priority period time_capacity = record {
   name = name;
   base_priority = natural_of priority;
   current_priority = natural_of priority;
   retained_priority = natural_of priority;
   affinity = core;
   period = period_given period;
+  time_capacity = capacity_given time_capacity;
   last_release = 0;
   alive = false;
   suspended = false;
@@ -45,12 +46,13 @@ new_process core name priority period = record {
   called_at = 0;
 }
 
--- START sets the current priority back to the base priority; the process enters NORMAL at once, or waits for it   (START, section 3)
-abbrev pub started : ℕ → ℕ → ℕ → Mode → Process → Process
-started place partition_period now mode process = record process {
+-- START and DELAYED_START set the current priority back to the base priority; the process enters NORMAL at once, or waits for it with its
+-- delay, which for START is 0   (START, DELAYED_START, section 3)
+abbrev pub started : ℕ → ℕ → ℕ → Mode → ℤ → Process → Process
+started place partition_period now mode delay process = record process {
   current_priority = process.base_priority;
   alive = true;
-  wait = if is_normal mode then entry_wait partition_period now process.period else wait.NormalMode;
+  wait = if is_normal mode then entry_wait partition_period now (natural_of delay) process.period else wait.NormalMode delay;
   ready_position = place;
 }
 
@@ -58,7 +60,7 @@ started place partition_period now mode process = record process {
 abbrev pub after_normal : ℕ → ℕ → ℕ → Process → Process
 after_normal place partition_period now process =
     if waits_for_normal process.wait
-    then record process { wait = entry_wait partition_period now process.period; ready_position = place }
+    then record process { wait = entry_wait partition_period now (delay_kept process.wait) process.period; ready_position = place }
     else process
 
 -- a stopped process is dormant: it is not suspended, waits for nothing, and nothing is due to it   (STOP, STOP_SELF, section 3)
@@ -88,19 +90,22 @@ by_mutex None change number process = process
 by_mutex (Some mutex) change number process =
     on_ownership (is_owner mutex.owner number) (is_owner (change mutex).owner number) mutex.priority process
 
--- what a service that names a process sets in it, by the time of its core: INITIALIZE_PROCESS_CORE_AFFINITY, START, SUSPEND, RESUME and
--- SET_PRIORITY; another definition says how STOP leaves it
+-- what a service that names a process sets in it, by the time of its core: INITIALIZE_PROCESS_CORE_AFFINITY, START, DELAYED_START,
+-- SUSPEND, RESUME and SET_PRIORITY; another definition says how STOP leaves it, and a status leaves it as it is
 abbrev pub set_in : ℕ → ℕ → ℕ → Mode → ProcessOperation → Process → Process
 set_in place period now mode (ProcessOperation.InitializeCoreAffinity core) process = record process { affinity = natural_of core }
-set_in place period now mode ProcessOperation.Start process = started place period now mode process
+set_in place period now mode ProcessOperation.Start process = started place period now mode (pos 0) process
+set_in place period now mode (ProcessOperation.DelayedStart delay) process = started place period now mode delay process
 set_in place period now mode ProcessOperation.Stop process = process
 set_in place period now mode ProcessOperation.Suspend process = record process { suspended = true }
 set_in place period now mode ProcessOperation.Resume process = record process { suspended = false; ready_position = place }
 set_in place period now mode (ProcessOperation.SetPriority priority) process = record process { current_priority = natural_of priority; ready_position = place }
+set_in place period now mode ProcessOperation.GetStatus process = process
+set_in place period now mode ProcessOperation.GetMutexState process = process
 
 -- what a call sets in the processes of its partition, apart from the waits that it ends and its caller's wait and outcome: a service that
--- names a process sets something in its target, SET_PARTITION_MODE in those that wait for NORMAL, ACQUIRE_MUTEX and RELEASE_MUTEX the
--- priority of the owners. Times are those of the processes' own cores
+-- names a process sets something in its target, SET_PARTITION_MODE in those that wait for NORMAL, ACQUIRE_MUTEX, RELEASE_MUTEX and
+-- RESET_MUTEX the priority of the owners. Times are those of the processes' own cores
 abbrev pub set_by : ℕ → ℕ → List CoreState → Partition → ℕ → Request → ℕ → Process → Process
 set_by place period cores partition caller (request.Process given operation) number process =
     if is_number given number then set_in place period (time_of cores process.affinity) partition.mode operation process else process
@@ -151,7 +156,7 @@ wait_ended place outcome process = record process {
 abbrev pub released : ℕ → Process → Process
 released place process = wait_ended place (owed (service_of_wait process.wait) (code_when_due process.wait) []) process
 
--- a process whose wait a call ends, whose caller hands over the message that it gives, if any
+-- a process whose wait a call, an arrival or a departure ends, which hands over the message that it gives, if any
 abbrev pub woken_by : ℕ → List ℕ → Process → Process
 woken_by place message process = wait_ended place (owed (service_of_wait process.wait) code.NoError message) process
 

@@ -1,7 +1,7 @@
 -- Messages that wait for a receiver: the rule of buffers and of queuing channels.
 use Rattle.std.specs.Prelude.{ℕ, List, [], ◌∷◌, ◌++◌, length, Option, Some, None, ℤ, nat_lt, if◌then◌else◌}
 use Rattle.apex_machine.specs.declared.state.Entry.{Entry}
-use Rattle.apex_machine.specs.Answer.{Effect, done, giving, unmet, waking}
+use Rattle.apex_machine.specs.Answer.{Effect, done, giving, unmet, waiters_of, waking}
 
 -- the messages of a queue, the oldest first
 abbrev pub Messages : Type 0
@@ -32,6 +32,16 @@ moved_up message others sender = record { answer = giving message (sender.who �
 abbrev pub sent : ℕ → List ℕ → ℤ → Option Entry → Messages → Effect Messages
 sent capacity message time_out (Some receiver) messages = handed_over receiver messages
 sent capacity message time_out None messages = if nat_lt (length messages) capacity then appended message messages else not_yet time_out messages
+
+-- the messages that entries of a waiting set send, in their order
+abbrev pub messages_sent : List Entry → Messages
+messages_sent [] = []
+messages_sent (entry ∷ entries) = entry.message ∷ messages_sent entries
+
+-- clearing: the messages are gone, and those of these senders, the first that wait and for which there is room, take their place
+-- (CLEAR_QUEUING_PORT, section 3)
+abbrev pub emptied : List Entry → Effect Messages
+emptied senders = record { answer = waking (waiters_of senders); next = messages_sent senders }
 
 -- receiving: the caller gets the oldest message, if there is one; the message of the first sender that waits then fills the room
 -- (RECEIVE_BUFFER, RECEIVE_QUEUING_MESSAGE, section 3)

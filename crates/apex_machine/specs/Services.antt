@@ -1,11 +1,12 @@
 -- Which calls are within the profile, and what each service gives its caller if no error condition holds.
-use Rattle.std.specs.Prelude.{ℕ, [], ◌∷◌, Option, Some, None, Bool, true, ℤ, pos, not, nat_eq, ◌&&◌, if◌then◌else◌}
+use Rattle.std.specs.Prelude.{ℕ, List, [], ◌∷◌, Option, Some, None, Bool, true, ℤ, pos, not, nat_eq, ◌&&◌, if◌then◌else◌}
 use Rattle.apex_types.specs.declared.record.Who.{Who}
 use Rattle.apex_types.specs.declared.operation.{CallerOperation.CallerOperation, ProcessOperation.ProcessOperation}
 use Rattle.apex_types.specs.declared.request.Request.{Request}
 use Rattle.apex_types.specs.declared.request.Request.TheVariants as request
 use Rattle.apex_types.specs.Requested.{kind_of}
 use Rattle.apex_types.specs.Shapes.{kind_used}
+use Rattle.apex_machine.specs.declared.state.CoreState.{CoreState}
 use Rattle.apex_machine.specs.declared.state.Process.{Process}
 pub use Rattle.apex_machine.specs.Answer.{Answer, HasNoValues, HasValue, HasValues, Value, Nothing, Number, NewNumber, NamesExactly, done, done_with, never, waiting}
 pub use Rattle.apex_machine.specs.Arguments.{is_number, is_over, natural_of}
@@ -14,8 +15,8 @@ use Rattle.apex_machine.specs.Conditions.{of_caller, owns_mutex}
 use Rattle.apex_machine.specs.DueTimes.{is_for_mutex, is_released, is_suspension}
 use Rattle.apex_machine.specs.Names.{number_found, number_of}
 use Rattle.apex_machine.specs.Objects.{object_effect}
-use Rattle.apex_machine.specs.State.{Partition, Table, created, given_object, is_free, item_at, objects_of}
-use Rattle.apex_machine.specs.Statuses.{status_of, telling}
+use Rattle.apex_machine.specs.State.{Partition, Table, created, given_object, is_free, item_at, objects_of, time_of}
+use Rattle.apex_machine.specs.Statuses.{mutex_owned, partition_status, process_status, status_of, telling}
 
 -- the profile
 
@@ -50,23 +51,27 @@ resuming who (Some process) = if is_suspension process.wait then waking (who ∷
 abbrev pub peer : Who → ℤ → Who
 peer who process = record { part = who.part; proc = natural_of process }
 
--- what each service gives, at the time of its caller's core   (section 3): a creation a new number, GET_MY_ID the caller's, GET_TIME the
--- time, GET_BUFFER_ID and its counterparts the number of what has the name, GET_BUFFER_STATUS and its counterparts the status of the
--- object; a wait with a time-out or a delay of 0 is over at once, and so is PERIODIC_WAIT if the next release is reached; STOP_SELF and
+-- what each service gives, by the cores and the caller's core   (section 3): a creation a new number, GET_MY_ID the caller's, GET_TIME the
+-- time, GET_PROCESS_ID, GET_BUFFER_ID and its counterparts the number of what has the name, GET_PARTITION_STATUS, GET_PROCESS_STATUS,
+-- GET_BUFFER_STATUS and its counterparts a status, GET_PROCESS_MUTEX_STATE the mutex that the process owns; a wait with a time-out or a delay of 0 is over at once, and so is PERIODIC_WAIT if the next release is reached; STOP_SELF and
 -- SET_PARTITION_MODE do not return
-abbrev pub answer_of : ℕ → Who → Partition → Request → Answer
-answer_of now who partition (request.CreateProcess name priority period) = done_with (NewNumber (is_free partition.table))
-answer_of now who partition (request.Process process ProcessOperation.Resume) = resuming (peer who process) (created partition.table process)
-answer_of now who partition (request.Caller CallerOperation.StopSelf) = never
-answer_of now who partition (request.Caller (CallerOperation.SuspendSelf time_out)) = if is_over time_out then done else waiting
-answer_of now who partition (request.Caller CallerOperation.GetMyId) = done_with (Number (pos who.proc))
-answer_of now who partition (request.Caller (CallerOperation.TimedWait delay)) = if is_over delay then done else waiting
-answer_of now who partition (request.Caller CallerOperation.PeriodicWait) = if is_released now (item_at partition.table who.proc) then done else waiting
-answer_of now who partition (request.Caller CallerOperation.GetTime) = done_with (Number (pos now))
-answer_of now who partition (request.SetPartitionMode mode) = never
-answer_of now who partition (request.Create name object) = done_with (NewNumber (is_free (objects_of partition (kind_of object))))
-answer_of now who partition (request.Object number operation) =
+abbrev pub answer_of : List CoreState → ℕ → Who → Partition → Request → Answer
+answer_of cores core who partition (request.CreateProcess name priority period time_capacity) = done_with (NewNumber (is_free partition.table))
+answer_of cores core who partition (request.Process process ProcessOperation.Resume) = resuming (peer who process) (created partition.table process)
+answer_of cores core who partition (request.Process process ProcessOperation.GetStatus) =
+    answer_by (created partition.table process) (process_status cores (peer who process))
+answer_of cores core who partition (request.Process process ProcessOperation.GetMutexState) = done_with (Number (mutex_owned partition.mutexes (natural_of process)))
+answer_of cores core who partition (request.Caller CallerOperation.StopSelf) = never
+answer_of cores core who partition (request.Caller (CallerOperation.SuspendSelf time_out)) = if is_over time_out then done else waiting
+answer_of cores core who partition (request.Caller CallerOperation.GetMyId) = done_with (Number (pos who.proc))
+answer_of cores core who partition (request.Caller (CallerOperation.TimedWait delay)) = if is_over delay then done else waiting
+answer_of cores core who partition (request.Caller CallerOperation.PeriodicWait) = if is_released (time_of cores core) (item_at partition.table who.proc) then done else waiting
+answer_of cores core who partition (request.Caller CallerOperation.GetTime) = done_with (Number (pos (time_of cores core)))
+answer_of cores core who partition (request.Caller CallerOperation.GetPartitionStatus) = partition_status partition
+answer_of cores core who partition (request.SetPartitionMode mode) = never
+answer_of cores core who partition (request.Create name object) = done_with (NewNumber (is_free (objects_of partition (kind_of object))))
+answer_of cores core who partition (request.Object number operation) =
     answer_by (given_object (objects_of partition (kind_used operation)) number) (λ found. (object_effect who.proc operation found).answer)
-answer_of now who partition (request.GetId kind name) = done_with (number_found (number_of partition kind name))
-answer_of now who partition (request.GetStatus kind object) = telling (status_of partition kind object)
-answer_of now who partition _ = done
+answer_of cores core who partition (request.GetId kind name) = done_with (number_found (number_of partition kind name))
+answer_of cores core who partition (request.GetStatus kind object) = telling (status_of partition kind object)
+answer_of cores core who partition _ = done

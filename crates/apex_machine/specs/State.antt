@@ -14,6 +14,8 @@ use Rattle.apex_machine.specs.declared.state.Entry.{Entry}
 use Rattle.apex_machine.specs.declared.state.Mode.{Mode}
 use Rattle.apex_machine.specs.declared.state.Mode.TheVariants as mode
 use Rattle.apex_machine.specs.declared.state.Process.{Process}
+use Rattle.apex_machine.specs.declared.state.StartCondition.{StartCondition}
+use Rattle.apex_machine.specs.declared.state.StartCondition.TheVariants.{NormalStart}
 use Rattle.apex_machine.specs.declared.state.Wait.TheVariants as wait
 use Rattle.apex_machine.specs.declared.state.WaitingSet.{WaitingSet}
 use Rattle.apex_machine.specs.Configuration.{Configuration, first_core}
@@ -72,9 +74,12 @@ pub record Port : Type 0 where
   pub channel : ℕ
   pub valid : Bool
 
--- a partition: its operating mode, its processes, and its objects and ports of each kind under their numbers   (section 2)
+-- a partition: its operating mode, its start condition, whether it has created an error handler, its processes, and its objects and ports
+-- of each kind under their numbers   (section 2)
 pub record Partition : Type 0 where
   pub mode : Mode
+  pub start : StartCondition
+  pub has_handler : Bool
   pub table : Table
   pub buffers : List (ℕ × Buffer)
   pub blackboards : List (ℕ × Blackboard)
@@ -259,6 +264,11 @@ occupant_of [] core = None
 occupant_of (state ∷ states) zero = state.occupant
 occupant_of (state ∷ states) (suc core) = occupant_of states core
 
+-- whether this process is the occupant, if there is one
+abbrev pub is_occupant : Who → Option Who → Bool
+is_occupant who None = false
+is_occupant who (Some occupant) = is_same who occupant
+
 -- the cores with one of them changed
 abbrev pub at_core : (CoreState → CoreState) → ℕ → List CoreState → List CoreState
 at_core change core [] = []
@@ -276,6 +286,7 @@ initialising_process core place = record {
   retained_priority = 0;
   affinity = core;
   period = None;
+  time_capacity = None;
   last_release = 0;
   alive = true;
   suspended = false;
@@ -290,10 +301,13 @@ abbrev pub first_processes : Mode → ℕ → ℕ → Table
 first_processes mode.Idle core place = []
 first_processes _ core place = (0, initialising_process core place) ∷ []
 
--- a partition as it starts in a mode at this place: with its first processes, and without objects and ports   (partition modes, section 2)
-abbrev pub started_partition : Mode → Configuration → ℕ → ℕ → Partition
-started_partition mode configuration number place = record {
+-- a partition as it starts in a mode at this place: with its first processes, and without an error handler, objects and ports   (partition
+-- modes, section 2)
+abbrev pub started_partition : StartCondition → Mode → Configuration → ℕ → ℕ → Partition
+started_partition start mode configuration number place = record {
   mode = mode;
+  start = start;
+  has_handler = false;
   table = first_processes mode (first_core configuration number) place;
   buffers = [];
   blackboards = [];
@@ -306,7 +320,7 @@ started_partition mode configuration number place = record {
 
 -- a partition begins in COLD_START
 abbrev pub cold_partition : Configuration → ℕ → Partition
-cold_partition configuration number = started_partition mode.ColdStart configuration number 0
+cold_partition configuration number = started_partition NormalStart mode.ColdStart configuration number 0
 
 -- what a channel holds before the first record: nothing
 abbrev pub cold_content : Configuration → ℕ → Content

@@ -1,14 +1,24 @@
 -- What services report of the state of an object. They leave the object as it is.
-use Rattle.std.specs.Prelude.{ℕ, ◌+◌, List, [], Option, Some, None, Bool, true, false, ℤ, pos, is_some, length, option_map}
+use Rattle.std.specs.Prelude.{ℕ, ◌+◌, List, [], ◌∷◌, Option, Some, None, Bool, true, false, ℤ, pos, negsuc, not, is_some, length, option_map, if◌then◌else◌}
 use Rattle.apex_types.specs.declared.code.Code.TheVariants as code
 use Rattle.apex_types.specs.declared.object_kind.ObjectKind.{ObjectKind}
 use Rattle.apex_types.specs.declared.object_kind.ObjectKind.TheVariants as kind
 use Rattle.apex_types.specs.declared.record.Out.TheVariants as out
+use Rattle.apex_types.specs.declared.record.Who.{Who}
 use Rattle.apex_machine.specs.declared.condition.Condition.{Condition}
+use Rattle.apex_machine.specs.declared.state.CoreState.{CoreState}
+use Rattle.apex_machine.specs.declared.state.Process.{Process}
 use Rattle.apex_machine.specs.declared.state.Status.{Status}
+use Rattle.apex_machine.specs.Arguments.{mode_number, start_number}
+use Rattle.apex_machine.specs.Choice.{is_ready}
 use Rattle.apex_machine.specs.Answer.{Answer, Nothing, Number, Value}
 use Rattle.apex_machine.specs.Conditions.{conditions_for}
-use Rattle.apex_machine.specs.State.{Blackboard, Buffer, Event, Mutex, Partition, Port, Semaphore, given_object, objects_of}
+use Rattle.apex_machine.specs.Objects.{is_owner}
+use Rattle.apex_machine.specs.State.{Blackboard, Buffer, Event, Mutex, Partition, Port, Semaphore, given_object, is_occupant, objects_of, occupant_of}
+
+-- the service reports these values at once
+abbrev pub reporting : ℤ → Option ℤ → Option ℤ → Answer
+reporting val val2 val3 = record { out = out.Answer code.NoError; val = Number val; val2 = val2; val3 = val3; bytes = []; woken = [] }
 
 -- 1 for what is true, 0 for what is not
 abbrev pub number_reported : Bool → ℕ
@@ -43,6 +53,31 @@ mutex_status mutex = record { val = owner_reported mutex.owner; val2 = Some (len
 -- GET_SAMPLING_PORT_STATUS: whether its last read gave a valid sample; no process reads at a source
 abbrev pub sampling_port_status : Port → Status
 sampling_port_status port = record { val = number_reported port.valid; val2 = None; val3 = None }
+
+-- processes and partitions
+
+-- the state of a process: DORMANT is 0, READY 1, RUNNING 2 and WAITING 3. It runs if it is ready and is the occupant of its core
+abbrev pub state_number : List CoreState → Who → Process → ℕ
+state_number cores who process =
+    if not process.alive then 0
+    else if not (is_ready process.affinity process) then 3
+    else if is_occupant who (occupant_of cores process.affinity) then 2
+    else 1
+
+-- GET_PROCESS_STATUS: the state, the current priority, and the deadline, which is -1 if there is none
+abbrev pub process_status : List CoreState → Who → Process → Answer
+process_status cores who process = reporting (pos (state_number cores who process)) (Some (pos process.current_priority)) (Some (negsuc 0))
+
+-- GET_PARTITION_STATUS: the mode, the lock level, and the start condition
+abbrev pub partition_status : Partition → Answer
+partition_status partition = reporting (pos (mode_number partition.mode)) (Some (pos 0)) (Some (pos (start_number partition.start)))
+
+-- the number of the mutex that a process owns, or -2 if it owns none
+abbrev pub mutex_owned : List (ℕ × Mutex) → ℕ → ℤ
+mutex_owned [] number = negsuc 1
+mutex_owned (entry ∷ entries) number = if is_owner entry.1.owner number then pos entry.0 else mutex_owned entries number
+
+-- objects
 
 -- the status of the object of a kind that has this number, if it is created; the channel of a queuing port reports that port's status
 abbrev pub status_of : Partition → ObjectKind → ℤ → Option Status

@@ -1,10 +1,12 @@
 -- A step of the machine: what a record must claim, and the state to which it then leads. A run is one step after another.
-use Rattle.std.specs.Prelude.{◌≡◌, ◌⊎◌, ℕ, ◌+◌, ◌≤◌, List, [], ◌∷◌, Option, Some, None, Bool, IsTrue}
+use Rattle.std.specs.Prelude.{◌≡◌, ◌⊎◌, ℕ, ◌+◌, ◌≤◌, List, [], ◌∷◌, length, Option, Some, None, Bool, IsTrue}
 use Rattle.apex_types.specs.declared.code.Code.{Code}
+use Rattle.apex_types.specs.declared.code.Code.TheVariants as code
 use Rattle.apex_types.specs.declared.record.Body.{Body}
-use Rattle.apex_types.specs.declared.record.Body.TheVariants.{Call, Ret, Disp, Tick}
+use Rattle.apex_types.specs.declared.record.Body.TheVariants.{Arrive, Call, Depart, Ret, Disp, Tick}
 use Rattle.apex_types.specs.declared.record.Call.{Call as CallRecord}
 use Rattle.apex_types.specs.declared.record.Claim.{Claim}
+use Rattle.apex_types.specs.declared.record.Crossing.{Crossing}
 use Rattle.apex_types.specs.declared.record.Ordered.{Ordered}
 use Rattle.apex_types.specs.declared.record.Out.{Out}
 use Rattle.apex_types.specs.declared.record.Out.TheVariants as out
@@ -16,12 +18,12 @@ use Rattle.apex_machine.specs.declared.state.CoreState.{CoreState}
 use Rattle.apex_machine.specs.declared.state.Outcome.{Outcome}
 use Rattle.apex_machine.specs.declared.state.Process.{Process}
 use Rattle.apex_machine.specs.After.{after}
-use Rattle.apex_machine.specs.Channels.{has_channel}
+use Rattle.apex_machine.specs.Channels.{has_channel, is_from_outside, is_to_outside, size_of}
 use Rattle.apex_machine.specs.Choice.{choice}
 use Rattle.apex_machine.specs.Conditions.{code_of}
 use Rattle.apex_machine.specs.Configuration.{Configuration, has_partition}
 use Rattle.apex_machine.specs.DueTimes.{NamesThoseDue}
-use Rattle.apex_machine.specs.Ports.{channel_effect, channel_of, suits_use, use_of}
+use Rattle.apex_machine.specs.Ports.{arrived, channel_effect, channel_of, departed, suits_use, use_of}
 use Rattle.apex_machine.specs.ServiceConditions.{conditions_of}
 use Rattle.apex_machine.specs.Services.{Answer, HasNoValues, HasValues, NamesExactly, answer_of, in_profile}
 use Rattle.apex_machine.specs.State.{Channel, Partition, State, item_at, time_of, occupant_of}
@@ -128,6 +130,10 @@ channel_answer configuration now partition request channels number =
 abbrev pub outcome_returned : Return → Outcome
 outcome_returned ret = record { service = ret.service; code = ret.code; val = ret.val; val2 = ret.val2; val3 = ret.val3; bytes = ret.bytes }
 
+-- a receive gives this message at once
+abbrev pub IsTaken : Answer → List ℕ → Type 0
+IsTaken answer message = (answer.out ≡ out.Answer code.NoError) × (answer.bytes ≡ message)
+
 -- lawful records
 
 -- a dispatch names the choice
@@ -155,7 +161,7 @@ pub record IsLawfulCall (configuration : Configuration) (state : State) (core : 
   pub prio : HasPriority call.claim.prio (item_at (state.partitions call.who.part).table call.who.proc)
   pub outcome : HasOutcome (conditions_of configuration call.who (state.partitions call.who.part) call.request)
       (channel_of (state.partitions call.who.part) call.request)
-      (answer_of (time_of state.cores core) call.who (state.partitions call.who.part) call.request)
+      (answer_of state.cores core call.who (state.partitions call.who.part) call.request)
       (λ number. suits_use configuration number call.who.part (use_of call.request) (state.channels number))
       (channel_answer configuration (time_of state.cores core) call.who.part call.request state.channels) call.claim
 
@@ -166,12 +172,29 @@ pub record IsLawfulReturn (configuration : Configuration) (state : State) (core 
   pub choice : choice configuration state core ≡ Some ret.who
   pub due : due_of (item_at (state.partitions ret.who.part).table ret.who.proc) ≡ Some (outcome_returned ret)
 
+-- a message arrives at a configured channel whose source is outside, and is no longer than the channel's messages; exactly the processes
+-- that it wakes are named
+pub record IsLawfulArrival (configuration : Configuration) (state : State) (core : ℕ) (crossing : Crossing) : Type 0 where
+  pub names : AllConfigured configuration crossing.woken × IsTrue (has_channel configuration crossing.chan)
+  pub chan : IsTrue (is_from_outside configuration crossing.chan)
+  pub size : length crossing.message ≤ size_of configuration crossing.chan
+  pub woken : NamesExactly (arrived configuration (time_of state.cores core) crossing.chan crossing.message (state.channels crossing.chan)).answer.woken crossing.woken
+
+-- the oldest message departs from a configured queuing channel whose destination is outside; exactly the process that this wakes is named
+pub record IsLawfulDeparture (configuration : Configuration) (state : State) (core : ℕ) (crossing : Crossing) : Type 0 where
+  pub names : AllConfigured configuration crossing.woken × IsTrue (has_channel configuration crossing.chan)
+  pub chan : IsTrue (is_to_outside configuration crossing.chan)
+  pub message : IsTaken (departed configuration (time_of state.cores core) crossing.chan (state.channels crossing.chan)).answer crossing.message
+  pub woken : NamesExactly (departed configuration (time_of state.cores core) crossing.chan (state.channels crossing.chan)).answer.woken crossing.woken
+
 -- what a record of each kind claims is true
 abbrev pub IsLawfulBody : Configuration → State → ℕ → Body → Type 0
 IsLawfulBody configuration state core (Disp who) = IsLawfulDispatch configuration state core who
 IsLawfulBody configuration state core (Tick woken) = IsLawfulTick configuration state core woken
 IsLawfulBody configuration state core (Call call) = IsLawfulCall configuration state core call
 IsLawfulBody configuration state core (Ret ret) = IsLawfulReturn configuration state core ret
+IsLawfulBody configuration state core (Arrive crossing) = IsLawfulArrival configuration state core crossing
+IsLawfulBody configuration state core (Depart crossing) = IsLawfulDeparture configuration state core crossing
 
 -- a record is lawful in a state if it is at the next place and what it claims is true
 pub record IsLawful (configuration : Configuration) (state : State) (ordered : Ordered) : Type 0 where

@@ -1,7 +1,7 @@
 -- The view of a record: the numbers that a user's relation can speak of. The piece that judges the record reads the view from its part.
 use Rattle.std.specs.Prelude.{ℕ, ◌+◌, ◌-◌, List, [], ◌∷◌, length, Option, Some, None, ℤ, pos, negsuc, nat_eq, if◌then◌else◌}
 use Rattle.apex_types.specs.declared.record.Body.{Body}
-use Rattle.apex_types.specs.declared.record.Body.TheVariants.{Call, Ret, Disp, Tick}
+use Rattle.apex_types.specs.declared.record.Body.TheVariants.{Arrive, Call, Depart, Ret, Disp, Tick}
 use Rattle.apex_types.specs.declared.record.Call.{Call as CallRecord}
 use Rattle.apex_types.specs.declared.record.Ordered.{Ordered}
 use Rattle.apex_types.specs.declared.record.Return.{Return}
@@ -73,7 +73,7 @@ abbrev pub who_field : (Who → ℕ) → Option Who → ℤ
 who_field number None = absent
 who_field number (Some who) = pos (number who)
 
--- the view of a dispatch or a tick, at the core's time after it
+-- the view of a dispatch, a tick, an arrival or a departure, at the core's time after it
 abbrev pub core_view : ℕ → ℕ → ℕ → Option Who → ℕ → View
 core_view kind core time who woken = record {
   kind = pos kind;
@@ -96,6 +96,8 @@ view_by state core (Ret ret) =
     return_view core (time_of state.cores core) (item_at (state.partitions ret.who.part).table ret.who.proc) ret
 view_by state core (Disp who) = core_view 2 core (time_of state.cores core) who 0
 view_by state core (Tick woken) = core_view 3 core (time_of state.cores core + 1) None (length woken)
+view_by state core (Arrive crossing) = core_view 4 core (time_of state.cores core) None (length crossing.woken)
+view_by state core (Depart crossing) = core_view 5 core (time_of state.cores core) None (length crossing.woken)
 
 -- the view of an ordered record in a run of the machine
 abbrev pub view_of : State → Ordered → View
@@ -114,10 +116,12 @@ partition_view number cores table core (Ret ret) =
     if nat_eq ret.who.part number then Some (return_view core (time_of cores core) (item_at table ret.who.proc) ret) else None
 partition_view number cores table core _ = None
 
--- the view that the module gives of each dispatch and tick
+-- the view that the module gives of each dispatch, tick, arrival and departure
 abbrev pub module_view : List CoreState → ℕ → Body → Option View
 module_view cores core (Disp who) = Some (core_view 2 core (time_of cores core) who 0)
 module_view cores core (Tick woken) = Some (core_view 3 core (time_of cores core + 1) None (length woken))
+module_view cores core (Arrive crossing) = Some (core_view 4 core (time_of cores core) None (length crossing.woken))
+module_view cores core (Depart crossing) = Some (core_view 5 core (time_of cores core) None (length crossing.woken))
 module_view cores core _ = None
 
 -- the view that the holder of a part gives of a record, from the part before it
@@ -132,6 +136,8 @@ judge_by (Call call) = OfPartition call.who.part
 judge_by (Ret ret) = OfPartition ret.who.part
 judge_by (Disp who) = Module
 judge_by (Tick woken) = Module
+judge_by (Arrive crossing) = Module
+judge_by (Depart crossing) = Module
 
 -- the piece that judges an ordered record
 abbrev pub judge : Ordered → Piece

@@ -1,5 +1,5 @@
 -- Waiting sets: which process is first, which one enters and which ones leave. One rule serves all sets.
-use Rattle.std.specs.Prelude.{◌≡◌, ◌⊎◌, ◌<◌, ℕ, List, [], ◌∷◌, ◌++◌, Option, Some, None, Bool, true, false, ℤ, pos, negsuc, nat_eq, nat_lt, ◌&&◌, ◌||◌, if◌then◌else◌, is_some, option_map, Contains}
+use Rattle.std.specs.Prelude.{◌≡◌, ◌⊎◌, ◌<◌, ℕ, zero, suc, List, [], ◌∷◌, ◌++◌, Option, Some, None, Bool, true, false, ℤ, pos, negsuc, nat_eq, nat_lt, ◌&&◌, ◌||◌, if◌then◌else◌, is_some, option_map, Contains}
 use Rattle.apex_types.specs.declared.code.Code.TheVariants as code
 use Rattle.apex_types.specs.declared.discipline.Discipline.{Discipline}
 use Rattle.apex_types.specs.declared.discipline.Discipline.TheVariants as discipline
@@ -7,7 +7,7 @@ use Rattle.apex_types.specs.declared.object_kind.KindServices.{KindServices}
 use Rattle.apex_types.specs.declared.object_kind.ObjectKind.{ObjectKind}
 use Rattle.apex_types.specs.declared.object_kind.ObjectKind.TheVariants as kind
 use Rattle.apex_types.specs.declared.record.Body.{Body}
-use Rattle.apex_types.specs.declared.record.Body.TheVariants.{Call, Ret, Disp, Tick}
+use Rattle.apex_types.specs.declared.record.Body.TheVariants.{Arrive, Call, Depart, Ret, Disp, Tick}
 use Rattle.apex_types.specs.declared.record.Call.{Call as CallRecord}
 use Rattle.apex_types.specs.declared.record.Out.{Out}
 use Rattle.apex_types.specs.declared.record.Out.TheVariants as out
@@ -29,7 +29,7 @@ use Rattle.apex_machine.specs.declared.state.Wait.TheVariants as wait
 use Rattle.apex_machine.specs.declared.state.WaitingSet.{WaitingSet}
 use Rattle.apex_machine.specs.Arguments.{natural_of, restart_given}
 pub use Rattle.apex_machine.specs.State.{is_same_set}
-use Rattle.apex_machine.specs.State.{is_named, set_at}
+use Rattle.apex_machine.specs.State.{is_named, is_same, set_at}
 
 -- the first of a set
 
@@ -48,6 +48,27 @@ sooner_entry discipline entry (Some other) = if precedes discipline other entry 
 abbrev pub first_waiter : Discipline → List Entry → Option Entry
 first_waiter discipline [] = None
 first_waiter discipline (entry ∷ entries) = sooner_entry discipline entry (first_waiter discipline entries)
+
+-- the entries of the processes that do not leave
+abbrev pub without : (Who → Bool) → List Entry → List Entry
+without leaves [] = []
+without leaves (entry ∷ entries) = if leaves entry.who then without leaves entries else entry ∷ without leaves entries
+
+-- the entries after the first has left
+abbrev pub after_first : Option Entry → List Entry → List Entry
+after_first None entries = []
+after_first (Some first) entries = without (is_same first.who) entries
+
+-- the first, if there is one, and those after it
+abbrev pub followed_by : Option Entry → List Entry → List Entry
+followed_by None others = []
+followed_by (Some first) others = first ∷ others
+
+-- the first entries of a set, as many as this number or all: each is the first of those that are left
+abbrev pub first_waiters : Discipline → ℕ → List Entry → List Entry
+first_waiters discipline zero entries = []
+first_waiters discipline (suc count) entries =
+    followed_by (first_waiter discipline entries) (first_waiters discipline count (after_first (first_waiter discipline entries) entries))
 
 -- one entry precedes another in a waiting set: by place if the set is first in, first out; by priority, and among equals by place, if it
 -- goes by priority   (QUEUING_DISCIPLINE, section 3)
@@ -160,16 +181,13 @@ restarts call number = is_some (restart_of call) && nat_eq number call.who.part
 abbrev pub ends_wait : CallRecord → Who → Bool
 ends_wait call who = restarts call who.part || (is_named who call.claim.woken || stops call who)
 
--- the entries of the processes that do not leave
-abbrev pub without : (Who → Bool) → List Entry → List Entry
-without leaves [] = []
-without leaves (entry ∷ entries) = if leaves entry.who then without leaves entries else entry ∷ without leaves entries
-
 -- a waiting set after a record: a process whose wait ends leaves it, and a caller that waits in it enters it
 abbrev pub set_after : ℕ → Body → WaitingSet → List Entry → List Entry
 set_after place (Disp who) wanted entries = entries
 set_after place (Ret ret) wanted entries = entries
 set_after place (Tick woken) wanted entries = without (λ who. is_named who woken) entries
+set_after place (Arrive crossing) wanted entries = without (λ who. is_named who crossing.woken) entries
+set_after place (Depart crossing) wanted entries = without (λ who. is_named who crossing.woken) entries
 set_after place (Call call) wanted entries =
     if enters call wanted
     then without (ends_wait call) entries ++ entry_of place call ∷ []

@@ -48,6 +48,13 @@ pub enum Condition {
     NotSource,
     NotDestination,
     NoSuchName,
+    TimeCapacityOutOfRange,
+    TimeCapacityAbovePeriod,
+    DelayNotBelowPeriod,
+    NoSuchProcess,
+    ProcessNotOwner,
+    LengthOutOfRange,
+    HandlerCreated,
 }
 
 // What is known about a condition.
@@ -70,7 +77,7 @@ macro_rules! row {
 }
 
 // The conditions, in the order of the enum.
-const CONDITIONS: [ConditionRow; 39] = [
+const CONDITIONS: [ConditionRow; 46] = [
     row!(NotCreated => InvalidParam, "nothing of this kind has this number"),
     row!(TimeOutOutOfRange => InvalidParam, "the time-out is below -1"),
     row!(MayNotWait => InvalidMode, "the caller is the initialising process or the owner of a mutex, which may not wait"),
@@ -110,6 +117,13 @@ const CONDITIONS: [ConditionRow; 39] = [
     row!(NotSource => InvalidMode, "the port is not a source"),
     row!(NotDestination => InvalidMode, "the port is not a destination"),
     row!(NoSuchName => InvalidConfig, "nothing of this kind has this name"),
+    row!(TimeCapacityOutOfRange => InvalidParam, "the time capacity is neither -1 nor above 0"),
+    row!(TimeCapacityAbovePeriod => InvalidParam, "the time capacity is above the period"),
+    row!(DelayNotBelowPeriod => InvalidParam, "the process is periodic, and the delay is not below its period"),
+    row!(NoSuchProcess => InvalidParam, "no process has this number"),
+    row!(ProcessNotOwner => InvalidMode, "the process is not the owner"),
+    row!(LengthOutOfRange => InvalidParam, "the length is not from 0 to 128"),
+    row!(HandlerCreated => NoAction, "the error handler is already created"),
 ];
 
 impl Condition {

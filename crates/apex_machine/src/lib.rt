@@ -15,4 +15,7 @@ mod condition;
 mod state;
 
 pub use condition::Condition;
-pub use state::{CoreState, Direction, Entry, Mode, Outcome, Process, Status, Wait, WaitingSet};
+pub use state::{
+    CoreState, Direction, Entry, ErrorPolicy, Mode, Outcome, Process, StartCondition, Status, Wait,
+    WaitingSet,
+};

@@ -15,6 +15,28 @@ pub enum Mode {
     Normal,
 }
 
+/// How a partition came into the mode from which it was last started: what GET_PARTITION_STATUS reports as its start condition.
+#[derive(Clone, Copy, Debug, PartialEq, Eq)]
+pub enum StartCondition {
+    /// The module started.
+    NormalStart,
+    /// SET_PARTITION_MODE restarted the partition.
+    PartitionRestart,
+}
+
+/// What is done about an error of a partition that no handler takes.
+#[derive(Clone, Copy, Debug, PartialEq, Eq)]
+pub enum ErrorPolicy {
+    /// Nothing.
+    Ignore,
+    /// The partition becomes idle.
+    Idle,
+    /// The partition is restarted into the mode COLD_START.
+    ColdStart,
+    /// The partition is restarted into the mode WARM_START.
+    WarmStart,
+}
+
 /// The direction of a port.
 #[derive(Clone, Copy, Debug, PartialEq, Eq)]
 pub enum Direction {
@@ -61,10 +83,12 @@ impl WaitingSet {
 pub enum Wait {
     /// It waits for nothing.
     Nothing,
-    /// It was started before its partition entered the mode NORMAL, and waits for that.
-    NormalMode,
+    /// It was started before its partition entered the mode NORMAL, and waits for that. Its caller gave this delay.
+    NormalMode(i64),
     /// It is periodic, and waits for its first release at this time.
     FirstRelease(u64),
+    /// It is aperiodic and was started with a delay, which is over at this time.
+    Delay(u64),
     /// It waits until this time.
     Until(u64),
     /// It waits for its next release at this time.
@@ -110,6 +134,8 @@ pub struct Process {
     pub affinity: CoreId,
     /// None if it is aperiodic.
     pub period: Option<u64>,
+    /// None if it has no deadlines.
+    pub time_capacity: Option<u64>,
     /// The release for which it last waited, or which it last found reached.
     pub last_release: u64,
     /// False if it is dormant.

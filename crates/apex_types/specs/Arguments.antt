@@ -3,6 +3,7 @@ use Rattle.std.specs.Prelude.{ℕ, ℤ, pos, ◌≡◌, ◌⊎◌, ◌+ℤ◌, �
 use Rattle.std.specs.Int.{int_div_euclid, int_rem_euclid}
 use Rattle.apex_types.specs.declared.service.Service.{Service}
 use Rattle.apex_types.specs.declared.service.Service.TheVariants as service
+use Rattle.apex_types.specs.declared.object_kind.NamedKind.TheVariants as named
 use Rattle.apex_types.specs.declared.object_kind.ObjectKind.TheVariants as kind
 use Rattle.apex_types.specs.declared.operation.{BlackboardOperation.BlackboardOperation, BufferOperation.BufferOperation, CallerOperation.CallerOperation, EventOperation.EventOperation, MutexOperation.MutexOperation, NewObject.NewObject, ProcessOperation.ProcessOperation, QueuingOperation.QueuingOperation, SamplingOperation.SamplingOperation, SemaphoreOperation.SemaphoreOperation}
 use Rattle.apex_types.specs.declared.request.Request.{Request}
@@ -24,7 +25,7 @@ DirectionAndDisciplineAreOneNumber = (number : ℤ) →
 
 -- the request of a service, from n1, n2, n3, the name and the message; arguments that the service does not take are not used
 unfoldable pub request_of : Service → ℤ → ℤ → ℤ → List ℕ → List ℕ → Request
-request_of service.CreateProcess n1 n2 n3 name message = request.CreateProcess name n1 n2
+request_of service.CreateProcess n1 n2 n3 name message = request.CreateProcess name n1 n2 n3
 request_of service.InitializeProcessCoreAffinity n1 n2 n3 name message = request.Process n1 (ProcessOperation.InitializeCoreAffinity n2)
 request_of service.Start n1 n2 n3 name message = request.Process n1 ProcessOperation.Start
 request_of service.Stop n1 n2 n3 name message = request.Process n1 ProcessOperation.Stop
@@ -61,17 +62,26 @@ request_of service.ReadSamplingMessage n1 n2 n3 name message = request.SamplingP
 request_of service.CreateQueuingPort n1 n2 n3 name message = request.Create name (NewObject.QueuingPort n1 n2 (direction_in n3) (discipline_in n3))
 request_of service.SendQueuingMessage n1 n2 n3 name message = request.QueuingPort n1 (QueuingOperation.Send n2 n3 message)
 request_of service.ReceiveQueuingMessage n1 n2 n3 name message = request.QueuingPort n1 (QueuingOperation.Receive n2)
-request_of service.GetBufferId n1 n2 n3 name message = request.GetId kind.Buffer name
+request_of service.GetBufferId n1 n2 n3 name message = request.GetId (named.Object kind.Buffer) name
 request_of service.GetBufferStatus n1 n2 n3 name message = request.GetStatus kind.Buffer n1
-request_of service.GetBlackboardId n1 n2 n3 name message = request.GetId kind.Blackboard name
+request_of service.GetBlackboardId n1 n2 n3 name message = request.GetId (named.Object kind.Blackboard) name
 request_of service.GetBlackboardStatus n1 n2 n3 name message = request.GetStatus kind.Blackboard n1
-request_of service.GetSemaphoreId n1 n2 n3 name message = request.GetId kind.Semaphore name
+request_of service.GetSemaphoreId n1 n2 n3 name message = request.GetId (named.Object kind.Semaphore) name
 request_of service.GetSemaphoreStatus n1 n2 n3 name message = request.GetStatus kind.Semaphore n1
-request_of service.GetEventId n1 n2 n3 name message = request.GetId kind.Event name
+request_of service.GetEventId n1 n2 n3 name message = request.GetId (named.Object kind.Event) name
 request_of service.GetEventStatus n1 n2 n3 name message = request.GetStatus kind.Event n1
-request_of service.GetMutexId n1 n2 n3 name message = request.GetId kind.Mutex name
+request_of service.GetMutexId n1 n2 n3 name message = request.GetId (named.Object kind.Mutex) name
 request_of service.GetMutexStatus n1 n2 n3 name message = request.GetStatus kind.Mutex n1
-request_of service.GetSamplingPortId n1 n2 n3 name message = request.GetId kind.SamplingPort name
+request_of service.GetSamplingPortId n1 n2 n3 name message = request.GetId (named.Object kind.SamplingPort) name
 request_of service.GetSamplingPortStatus n1 n2 n3 name message = request.GetStatus kind.SamplingPort n1
-request_of service.GetQueuingPortId n1 n2 n3 name message = request.GetId kind.QueuingPort name
+request_of service.GetQueuingPortId n1 n2 n3 name message = request.GetId (named.Object kind.QueuingPort) name
 request_of service.GetQueuingPortStatus n1 n2 n3 name message = request.GetStatus kind.QueuingPort n1
+request_of service.GetPartitionStatus n1 n2 n3 name message = request.Caller CallerOperation.GetPartitionStatus
+request_of service.GetProcessId n1 n2 n3 name message = request.GetId named.Process name
+request_of service.GetProcessStatus n1 n2 n3 name message = request.Process n1 ProcessOperation.GetStatus
+request_of service.DelayedStart n1 n2 n3 name message = request.Process n1 (ProcessOperation.DelayedStart n2)
+request_of service.ClearQueuingPort n1 n2 n3 name message = request.QueuingPort n1 QueuingOperation.Clear
+request_of service.ResetMutex n1 n2 n3 name message = request.Object n1 (on.Mutex (MutexOperation.Reset n2))
+request_of service.GetProcessMutexState n1 n2 n3 name message = request.Process n1 ProcessOperation.GetMutexState
+request_of service.ReportApplicationMessage n1 n2 n3 name message = request.ReportMessage n2 message
+request_of service.CreateErrorHandler n1 n2 n3 name message = request.CreateErrorHandler

@@ -1,6 +1,8 @@
 -- The service of a request, and the kind of what it creates.
 use Rattle.std.specs.Prelude.{Some, None}
 use Rattle.apex_types.specs.declared.object_kind.KindServices.{KindServices}
+use Rattle.apex_types.specs.declared.object_kind.NamedKind.{NamedKind}
+use Rattle.apex_types.specs.declared.object_kind.NamedKind.TheVariants as named
 use Rattle.apex_types.specs.declared.object_kind.ObjectKind.{ObjectKind}
 use Rattle.apex_types.specs.declared.object_kind.ObjectKind.TheVariants as kind
 use Rattle.apex_types.specs.declared.operation.{CallerOperation.CallerOperation, NewObject.NewObject, ProcessOperation.ProcessOperation, SamplingOperation.SamplingOperation}
@@ -73,14 +75,22 @@ services_of kind.QueuingPort = record {
   receiving = Some service.ReceiveQueuingMessage;
 }
 
+-- the service that reports the number of what has a name
+abbrev pub id_service : NamedKind → Service
+id_service named.Process = service.GetProcessId
+id_service (named.Object kind) = (services_of kind).id
+
 -- the service that requests this operation of a process
 abbrev pub process_service : ProcessOperation → Service
 process_service (ProcessOperation.InitializeCoreAffinity core) = service.InitializeProcessCoreAffinity
 process_service ProcessOperation.Start = service.Start
+process_service (ProcessOperation.DelayedStart delay) = service.DelayedStart
 process_service ProcessOperation.Stop = service.Stop
 process_service ProcessOperation.Suspend = service.Suspend
 process_service ProcessOperation.Resume = service.Resume
 process_service (ProcessOperation.SetPriority priority) = service.SetPriority
+process_service ProcessOperation.GetStatus = service.GetProcessStatus
+process_service ProcessOperation.GetMutexState = service.GetProcessMutexState
 
 -- the service by which a process requests this operation for itself
 abbrev pub caller_service : CallerOperation → Service
@@ -90,6 +100,7 @@ caller_service CallerOperation.GetMyId = service.GetMyId
 caller_service (CallerOperation.TimedWait delay) = service.TimedWait
 caller_service CallerOperation.PeriodicWait = service.PeriodicWait
 caller_service CallerOperation.GetTime = service.GetTime
+caller_service CallerOperation.GetPartitionStatus = service.GetPartitionStatus
 
 -- the service that requests this operation of a sampling port
 abbrev pub sampling_service : SamplingOperation → Service
@@ -98,7 +109,7 @@ sampling_service SamplingOperation.Read = service.ReadSamplingMessage
 
 -- the service of a request
 abbrev pub service_of : Request → Service
-service_of (request.CreateProcess name priority period) = service.CreateProcess
+service_of (request.CreateProcess name priority period time_capacity) = service.CreateProcess
 service_of (request.Process process operation) = process_service operation
 service_of (request.Caller operation) = caller_service operation
 service_of (request.SetPartitionMode mode) = service.SetPartitionMode
@@ -106,5 +117,7 @@ service_of (request.Create name object) = (services_of (kind_of object)).creatio
 service_of (request.Object number operation) = (shape_on operation).service
 service_of (request.SamplingPort port operation) = sampling_service operation
 service_of (request.QueuingPort port operation) = (shape_of_queuing operation).service
-service_of (request.GetId kind name) = (services_of kind).id
+service_of (request.GetId kind name) = id_service kind
 service_of (request.GetStatus kind object) = (services_of kind).status
+service_of (request.ReportMessage length message) = service.ReportApplicationMessage
+service_of request.CreateErrorHandler = service.CreateErrorHandler

@@ -1,13 +1,14 @@
 -- What is known about a service, from its row in the table.
-use Rattle.std.specs.Prelude.{ℕ, List, [], ◌∷◌, ◌+◌, Bool, true, false, if◌then◌else◌}
+use Rattle.std.specs.Prelude.{ℕ, List, [], ◌∷◌, ◌+◌, Bool, false, nat_le, if◌then◌else◌}
 use Rattle.apex_types.specs.declared.format.Format.{Format}
 use Rattle.apex_types.specs.declared.format.Format.TheVariants as format
 use Rattle.apex_types.specs.declared.service.Arguments.{Arguments}
 use Rattle.apex_types.specs.declared.service.Service.{Service}
+use Rattle.apex_types.specs.declared.service.Presence.TheVariants.{Absent}
 use Rattle.apex_types.specs.declared.service.ServiceRow.{ServiceRow}
 use Rattle.apex_types.specs.declared.service.TheConstants.{SERVICES}
-use Rattle.apex_types.specs.contracts.format.FormatPartialEq.TheImpl as formats
 use Rattle.apex_types.specs.contracts.service.ServicePartialEq.TheImpl as services
+use Rattle.apex_types.specs.Format.{format_number}
 
 -- a row of the table
 abbrev pub Row : Type 0
@@ -18,8 +19,8 @@ abbrev pub row_among : List Row → Service → Row
 row_among [] service = record {
   service = service;
   name = record { now = [] };
-  arguments = record { numbers = 0; name = false; message = false };
-  since = format.Two;
+  arguments = record { numbers = record { first = Absent; second = Absent; third = Absent }; name = false; message = false };
+  since = format.Three;
 }
 row_among (row ∷ rows) service = if services.eq-value.it row.service service then row else row_among rows service
 
@@ -35,10 +36,9 @@ name_of service = (row_of service).name.now
 abbrev pub arguments_of : Service → Arguments
 arguments_of service = (row_of service).arguments
 
--- whether rows of a format can name a service: rows of format 1 name the services that came with it, rows of format 2 all services
+-- whether rows of a format can name a service: they name the services that came with the format or with an earlier one
 abbrev pub is_in : Format → Service → Bool
-is_in format.One service = formats.eq-value.it (row_of service).since format.One
-is_in format.Two service = true
+is_in format service = nat_le (format_number (row_of service).since) (format_number format)
 
 -- the place among these rows, counted from 1, of the first row that is the service's
 abbrev pub place_among : List Row → Service → ℕ

@@ -44,11 +44,13 @@ shape_of_event (EventOperation.Wait time_out) = waiting service.WaitEvent Receiv
 abbrev pub shape_of_mutex : MutexOperation → Shape
 shape_of_mutex (MutexOperation.Acquire time_out) = waiting service.AcquireMutex Receivers time_out
 shape_of_mutex MutexOperation.Release = at_once service.ReleaseMutex
+shape_of_mutex (MutexOperation.Reset process) = at_once service.ResetMutex
 
 -- the operations on a queuing port, whose callers wait at an end of its channel
 abbrev pub shape_of_queuing : QueuingOperation → Shape
 shape_of_queuing (QueuingOperation.Send length time_out message) = waiting service.SendQueuingMessage Senders time_out
 shape_of_queuing (QueuingOperation.Receive time_out) = waiting service.ReceiveQueuingMessage Receivers time_out
+shape_of_queuing QueuingOperation.Clear = at_once service.ClearQueuingPort
 
 -- an operation on an object
 abbrev pub shape_on : ObjectOperation → Shape

@@ -31,15 +31,15 @@ pub use discipline::Discipline;
 pub use format::Format;
 pub use laws::direction_and_discipline_are_one_number;
 pub use number::{ChanId, CoreId, PartId, Place, ProcId};
-pub use object_kind::{KindServices, ObjectKind};
+pub use object_kind::{KindServices, NamedKind, ObjectKind};
 pub use operation::{
     BlackboardOperation, BufferOperation, CallerOperation, EventOperation, MutexOperation,
     NewObject, ObjectOperation, ProcessOperation, QueuingOperation, SamplingOperation,
     SemaphoreOperation,
 };
-pub use record::{Body, Call, Claim, Ordered, Out, Pair, Record, Return, Who, Woken};
+pub use record::{Body, Call, Claim, Crossing, Ordered, Out, Pair, Record, Return, Who, Woken};
 pub use request::{ArgumentValues, Request};
-pub use service::{Arguments, SERVICES, Service, ServiceRow};
+pub use service::{Arguments, Numbers, Presence, SERVICES, Service, ServiceRow};
 pub use shape::{AllowedWait, End, Shape};
 pub use text::{Message, Name};
 pub use view::{Field, View};

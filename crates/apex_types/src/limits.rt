@@ -24,6 +24,9 @@ pub const LONGEST_NAME: usize = 32;
 /// A message has at most this many bytes.
 pub const LONGEST_MESSAGE: usize = 8_192;
 
+/// A message to the maintenance has at most this many bytes.
+pub const LONGEST_REPORT: usize = 128;
+
 /// A buffer or a queuing channel holds at most this many messages.
 pub const MOST_MESSAGES: usize = 1_024;
 

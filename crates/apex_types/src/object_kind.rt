@@ -1,7 +1,7 @@
 // The kinds of objects and ports.
 
 ghost use Rattle.std.specs.Prelude.{◌≡◌};
-ghost use Rattle.apex_types.specs.Requested.{services_of};
+ghost use Rattle.apex_types.specs.Requested.{id_service, services_of};
 
 use crate::service::Service;
 
@@ -30,6 +30,25 @@ pub enum ObjectKind {
     Mutex,
     SamplingPort,
     QueuingPort,
+}
+
+/// A kind of what has names in a partition: processes, or objects or ports of a kind. Each has its own numbers and names.
+#[derive(Clone, Copy, Debug, PartialEq, Eq)]
+pub enum NamedKind {
+    Process,
+    Object(ObjectKind),
+}
+
+impl NamedKind {
+    /// The service that reports the number of what has a name.
+    pub fn id_service(self) -> Service
+        ensures { result ≡ id_service self }
+    {
+        match self {
+            NamedKind::Process => Service::GetProcessId,
+            NamedKind::Object(kind) => kind.services().id,
+        }
+    }
 }
 
 impl ObjectKind {

@@ -16,10 +16,16 @@ pub enum ProcessOperation {
     /// INITIALIZE_PROCESS_CORE_AFFINITY
     InitializeCoreAffinity { core: i64 },
     Start,
+    /// DELAYED_START, with the delay in ticks.
+    DelayedStart { delay: i64 },
     Stop,
     Suspend,
     Resume,
     SetPriority { priority: i64 },
+    /// GET_PROCESS_STATUS
+    GetStatus,
+    /// GET_PROCESS_MUTEX_STATE
+    GetMutexState,
 }
 
 /// What a process requests for itself.
@@ -31,6 +37,8 @@ pub enum CallerOperation {
     TimedWait { delay: i64 },
     PeriodicWait,
     GetTime,
+    /// GET_PARTITION_STATUS
+    GetPartitionStatus,
 }
 
 /// An object or port to be created, with the parameters that its caller gives. SOURCE is 0 and DESTINATION is 1; FIFO is 0 and PRIORITY is
@@ -109,6 +117,8 @@ pub enum EventOperation {
 pub enum MutexOperation {
     Acquire { time_out: i64 },
     Release,
+    /// RESET_MUTEX, with the number of the process whose ownership it ends.
+    Reset { process: i64 },
 }
 
 /// What a caller requests of an object, by its kind.
@@ -139,6 +149,8 @@ pub enum QueuingOperation {
     Receive {
         time_out: i64,
     },
+    /// CLEAR_QUEUING_PORT
+    Clear,
 }
 
 impl ProcessOperation {
@@ -150,10 +162,13 @@ impl ProcessOperation {
             ProcessOperation::InitializeCoreAffinity { .. } =>
                 Service::InitializeProcessCoreAffinity,
             ProcessOperation::Start => Service::Start,
+            ProcessOperation::DelayedStart { .. } => Service::DelayedStart,
             ProcessOperation::Stop => Service::Stop,
             ProcessOperation::Suspend => Service::Suspend,
             ProcessOperation::Resume => Service::Resume,
             ProcessOperation::SetPriority { .. } => Service::SetPriority,
+            ProcessOperation::GetStatus => Service::GetProcessStatus,
+            ProcessOperation::GetMutexState => Service::GetProcessMutexState,
         }
     }
 }
@@ -170,6 +185,7 @@ impl CallerOperation {
             CallerOperation::TimedWait { .. } => Service::TimedWait,
             CallerOperation::PeriodicWait => Service::PeriodicWait,
             CallerOperation::GetTime => Service::GetTime,
+            CallerOperation::GetPartitionStatus => Service::GetPartitionStatus,
         }
     }
 }
@@ -297,6 +313,7 @@ impl MutexOperation {
                 Shape::waiting(Service::AcquireMutex, End::Receivers, *time_out)
             }
             MutexOperation::Release => Shape::at_once(Service::ReleaseMutex),
+            MutexOperation::Reset { .. } => Shape::at_once(Service::ResetMutex),
         }
     }
 }
@@ -325,6 +342,7 @@ impl QueuingOperation {
             QueuingOperation::Receive { time_out } => {
                 Shape::waiting(Service::ReceiveQueuingMessage, End::Receivers, *time_out)
             }
+            QueuingOperation::Clear => Shape::at_once(Service::ClearQueuingPort),
         }
     }
 }

@@ -122,6 +122,14 @@ pub struct Return {
     pub bytes: Message,
 }
 
+/// A message that passes an end of a channel outside the module, with the processes whose waits end.
+#[derive(Debug, Drop)]
+pub struct Crossing {
+    pub chan: ChanId,
+    pub message: Message,
+    pub woken: Woken,
+}
+
 /// What happened on a core.
 #[derive(Debug, Drop)]
 pub enum Body {
@@ -131,6 +139,10 @@ pub enum Body {
     Disp(Option<Who>),
     /// The core's time rises by one tick, and the waits of these processes end.
     Tick(Woken),
+    /// A message arrives at a channel whose source is outside.
+    Arrive(Crossing),
+    /// A message departs from a queuing channel whose destination is outside.
+    Depart(Crossing),
 }
 
 /// A record of a core's recording, with its number there.

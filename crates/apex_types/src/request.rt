@@ -4,8 +4,10 @@ ghost use Rattle.std.specs.Prelude.{◌≡◌, []};
 ghost use Rattle.apex_types.specs.Arguments.{request_of};
 ghost use Rattle.apex_types.specs.Requested as requested;
 ghost use Rattle.apex_types.specs.Requested.{services_of};
+ghost use Rattle.apex_types.specs.declared.object_kind.NamedKind.TheVariants as named;
+ghost use Rattle.apex_types.specs.declared.request.Request.TheVariants as request;
 
-use crate::object_kind::ObjectKind;
+use crate::object_kind::{NamedKind, ObjectKind};
 use crate::operation::{
     BlackboardOperation, BufferOperation, CallerOperation, EventOperation, MutexOperation,
     NewObject, ObjectOperation, ProcessOperation, QueuingOperation, SamplingOperation,
@@ -22,6 +24,7 @@ pub enum Request {
         name: Name,
         priority: i64,
         period: i64,
+        time_capacity: i64,
     },
     /// START and all other services that name a process.
     Process(i64, ProcessOperation),
@@ -35,10 +38,16 @@ pub enum Request {
     Object(i64, ObjectOperation),
     SamplingPort(i64, SamplingOperation),
     QueuingPort(i64, QueuingOperation),
-    /// GET_BUFFER_ID and its counterparts, by kind.
-    GetId(ObjectKind, Name),
+    /// GET_PROCESS_ID, GET_BUFFER_ID and its counterparts, by kind.
+    GetId(NamedKind, Name),
     /// GET_BUFFER_STATUS and its counterparts, by kind.
     GetStatus(ObjectKind, i64),
+    /// REPORT_APPLICATION_MESSAGE
+    ReportMessage {
+        length: i64,
+        message: Message,
+    },
+    CreateErrorHandler,
 }
 
 /// The values of a service's arguments, as a record gives them.
@@ -69,6 +78,7 @@ impl Request {
                 name,
                 priority: n1,
                 period: n2,
+                time_capacity: n3,
             },
             Service::InitializeProcessCoreAffinity => Request::Process(
                 n1,
@@ -168,20 +178,38 @@ impl Request {
                 n1,
                 QueuingOperation::Receive { time_out: n2 },
             ),
-            Service::GetBufferId => Request::GetId(ObjectKind::Buffer, name),
+            Service::GetBufferId => id_of(ObjectKind::Buffer, name),
             Service::GetBufferStatus => Request::GetStatus(ObjectKind::Buffer, n1),
-            Service::GetBlackboardId => Request::GetId(ObjectKind::Blackboard, name),
+            Service::GetBlackboardId => id_of(ObjectKind::Blackboard, name),
             Service::GetBlackboardStatus => Request::GetStatus(ObjectKind::Blackboard, n1),
-            Service::GetSemaphoreId => Request::GetId(ObjectKind::Semaphore, name),
+            Service::GetSemaphoreId => id_of(ObjectKind::Semaphore, name),
             Service::GetSemaphoreStatus => Request::GetStatus(ObjectKind::Semaphore, n1),
-            Service::GetEventId => Request::GetId(ObjectKind::Event, name),
+            Service::GetEventId => id_of(ObjectKind::Event, name),
             Service::GetEventStatus => Request::GetStatus(ObjectKind::Event, n1),
-            Service::GetMutexId => Request::GetId(ObjectKind::Mutex, name),
+            Service::GetMutexId => id_of(ObjectKind::Mutex, name),
             Service::GetMutexStatus => Request::GetStatus(ObjectKind::Mutex, n1),
-            Service::GetSamplingPortId => Request::GetId(ObjectKind::SamplingPort, name),
+            Service::GetSamplingPortId => id_of(ObjectKind::SamplingPort, name),
             Service::GetSamplingPortStatus => Request::GetStatus(ObjectKind::SamplingPort, n1),
-            Service::GetQueuingPortId => Request::GetId(ObjectKind::QueuingPort, name),
+            Service::GetQueuingPortId => id_of(ObjectKind::QueuingPort, name),
             Service::GetQueuingPortStatus => Request::GetStatus(ObjectKind::QueuingPort, n1),
+            Service::GetPartitionStatus => Request::Caller(CallerOperation::GetPartitionStatus),
+            Service::GetProcessId => Request::GetId(NamedKind::Process, name),
+            Service::GetProcessStatus => Request::Process(n1, ProcessOperation::GetStatus),
+            Service::DelayedStart => Request::Process(
+                n1,
+                ProcessOperation::DelayedStart { delay: n2 },
+            ),
+            Service::ClearQueuingPort => Request::QueuingPort(n1, QueuingOperation::Clear),
+            Service::ResetMutex => Request::Object(
+                n1,
+                ObjectOperation::Mutex(MutexOperation::Reset { process: n2 }),
+            ),
+            Service::GetProcessMutexState => Request::Process(n1, ProcessOperation::GetMutexState),
+            Service::ReportApplicationMessage => Request::ReportMessage {
+                length: n2,
+                message,
+            },
+            Service::CreateErrorHandler => Request::CreateErrorHandler,
         }
     }
 
@@ -198,10 +226,19 @@ impl Request {
             Request::Object(_, operation) => operation.shape().service,
             Request::SamplingPort(_, operation) => operation.service(),
             Request::QueuingPort(_, operation) => operation.shape().service,
-            Request::GetId(kind, _) => kind.services().id,
+            Request::GetId(kind, _) => kind.id_service(),
             Request::GetStatus(kind, _) => kind.services().status,
+            Request::ReportMessage { .. } => Service::ReportApplicationMessage,
+            Request::CreateErrorHandler => Service::CreateErrorHandler,
         }
     }
+}
+
+// The request for the number of the object or port that has a name.
+fn id_of(kind: ObjectKind, name: Name) -> Request
+    ensures { result ≡ request.GetId (named.Object kind) name }
+{
+    Request::GetId(NamedKind::Object(kind), name)
 }
 
 // The request that creates one of a kind, from its name and its numbers.

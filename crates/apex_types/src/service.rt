@@ -59,13 +59,40 @@ pub enum Service {
     GetSamplingPortStatus,
     GetQueuingPortId,
     GetQueuingPortStatus,
+    GetPartitionStatus,
+    GetProcessId,
+    GetProcessStatus,
+    DelayedStart,
+    ClearQueuingPort,
+    ResetMutex,
+    GetProcessMutexState,
+    ReportApplicationMessage,
+    CreateErrorHandler,
+}
+
+/// Whether a call of a service fills a field.
+#[derive(Clone, Copy, Debug, PartialEq, Eq)]
+pub enum Presence {
+    /// The field is empty.
+    Absent,
+    /// The field is filled.
+    Required,
+    /// The field may be filled in format 3, and is empty before it. Empty, it means -1.
+    Optional,
+}
+
+/// Which numbers a call of a service fills.
+#[derive(Clone, Copy, Debug)]
+pub struct Numbers {
+    pub first: Presence,
+    pub second: Presence,
+    pub third: Presence,
 }
 
 /// The arguments of a service: the fields that a call of it fills.
 #[derive(Clone, Copy, Debug)]
 pub struct Arguments {
-    /// How many of n1, n2 and n3 it takes, from the first on.
-    pub numbers: u8,
+    pub numbers: Numbers,
     /// Whether it takes a name.
     pub name: bool,
     /// Whether it takes a message, whose length is n2.
@@ -84,8 +111,39 @@ pub struct ServiceRow<Name> {
     pub since: Format,
 }
 
+const ZERO: Numbers = Numbers {
+    first: Presence::Absent,
+    second: Presence::Absent,
+    third: Presence::Absent,
+};
+
+const ONE: Numbers = Numbers {
+    first: Presence::Required,
+    ..ZERO
+};
+
+const TWO: Numbers = Numbers {
+    second: Presence::Required,
+    ..ONE
+};
+
+const THREE: Numbers = Numbers {
+    third: Presence::Required,
+    ..TWO
+};
+
+const TWO_OR_THREE: Numbers = Numbers {
+    third: Presence::Optional,
+    ..TWO
+};
+
+const SECOND: Numbers = Numbers {
+    second: Presence::Required,
+    ..ZERO
+};
+
 const NOTHING: Arguments = Arguments {
-    numbers: 0,
+    numbers: ZERO,
     name: false,
     message: false,
 };
@@ -100,9 +158,9 @@ const MESSAGE: Arguments = Arguments {
     ..NOTHING
 };
 
-// A row: the service, its name, how many numbers a call fills, what else it fills, and the first format.
+// A row: the service, its name, which numbers a call fills, what else it fills, and the first format.
 macro_rules! row {
-    ($service:ident => $name:literal, $numbers:literal, $more:ident, $since:ident) => {
+    ($service:ident => $name:literal, $numbers:ident, $more:ident, $since:ident) => {
         ServiceRow {
             service: Service::$service,
             name: $name,
@@ -116,58 +174,67 @@ macro_rules! row {
 }
 
 /// The services, in the order of the enum. Views and rules identify a service by its place here, counted from 1.
-pub const SERVICES: [ServiceRow<&'static [u8]>; 51] = [
-    row!(CreateProcess => b"CREATE_PROCESS", 2, NAME, One),
-    row!(InitializeProcessCoreAffinity => b"INITIALIZE_PROCESS_CORE_AFFINITY", 2, NOTHING, One),
-    row!(Start => b"START", 1, NOTHING, One),
-    row!(Stop => b"STOP", 1, NOTHING, One),
-    row!(StopSelf => b"STOP_SELF", 0, NOTHING, One),
-    row!(Suspend => b"SUSPEND", 1, NOTHING, One),
-    row!(SuspendSelf => b"SUSPEND_SELF", 1, NOTHING, One),
-    row!(Resume => b"RESUME", 1, NOTHING, One),
-    row!(SetPriority => b"SET_PRIORITY", 2, NOTHING, One),
-    row!(GetMyId => b"GET_MY_ID", 0, NOTHING, One),
-    row!(TimedWait => b"TIMED_WAIT", 1, NOTHING, One),
-    row!(PeriodicWait => b"PERIODIC_WAIT", 0, NOTHING, One),
-    row!(GetTime => b"GET_TIME", 0, NOTHING, One),
-    row!(SetPartitionMode => b"SET_PARTITION_MODE", 1, NOTHING, One),
-    row!(CreateBuffer => b"CREATE_BUFFER", 3, NAME, One),
-    row!(SendBuffer => b"SEND_BUFFER", 3, MESSAGE, One),
-    row!(ReceiveBuffer => b"RECEIVE_BUFFER", 2, NOTHING, One),
-    row!(CreateBlackboard => b"CREATE_BLACKBOARD", 1, NAME, One),
-    row!(DisplayBlackboard => b"DISPLAY_BLACKBOARD", 2, MESSAGE, One),
-    row!(ReadBlackboard => b"READ_BLACKBOARD", 2, NOTHING, One),
-    row!(ClearBlackboard => b"CLEAR_BLACKBOARD", 1, NOTHING, One),
-    row!(CreateSemaphore => b"CREATE_SEMAPHORE", 3, NAME, One),
-    row!(WaitSemaphore => b"WAIT_SEMAPHORE", 2, NOTHING, One),
-    row!(SignalSemaphore => b"SIGNAL_SEMAPHORE", 1, NOTHING, One),
-    row!(CreateEvent => b"CREATE_EVENT", 0, NAME, One),
-    row!(SetEvent => b"SET_EVENT", 1, NOTHING, One),
-    row!(ResetEvent => b"RESET_EVENT", 1, NOTHING, One),
-    row!(WaitEvent => b"WAIT_EVENT", 2, NOTHING, One),
-    row!(CreateMutex => b"CREATE_MUTEX", 2, NAME, One),
-    row!(AcquireMutex => b"ACQUIRE_MUTEX", 2, NOTHING, One),
-    row!(ReleaseMutex => b"RELEASE_MUTEX", 1, NOTHING, One),
-    row!(CreateSamplingPort => b"CREATE_SAMPLING_PORT", 3, NAME, One),
-    row!(WriteSamplingMessage => b"WRITE_SAMPLING_MESSAGE", 2, MESSAGE, One),
-    row!(ReadSamplingMessage => b"READ_SAMPLING_MESSAGE", 1, NOTHING, One),
-    row!(CreateQueuingPort => b"CREATE_QUEUING_PORT", 3, NAME, One),
-    row!(SendQueuingMessage => b"SEND_QUEUING_MESSAGE", 3, MESSAGE, One),
-    row!(ReceiveQueuingMessage => b"RECEIVE_QUEUING_MESSAGE", 2, NOTHING, One),
-    row!(GetBufferId => b"GET_BUFFER_ID", 0, NAME, Two),
-    row!(GetBufferStatus => b"GET_BUFFER_STATUS", 1, NOTHING, Two),
-    row!(GetBlackboardId => b"GET_BLACKBOARD_ID", 0, NAME, Two),
-    row!(GetBlackboardStatus => b"GET_BLACKBOARD_STATUS", 1, NOTHING, Two),
-    row!(GetSemaphoreId => b"GET_SEMAPHORE_ID", 0, NAME, Two),
-    row!(GetSemaphoreStatus => b"GET_SEMAPHORE_STATUS", 1, NOTHING, Two),
-    row!(GetEventId => b"GET_EVENT_ID", 0, NAME, Two),
-    row!(GetEventStatus => b"GET_EVENT_STATUS", 1, NOTHING, Two),
-    row!(GetMutexId => b"GET_MUTEX_ID", 0, NAME, Two),
-    row!(GetMutexStatus => b"GET_MUTEX_STATUS", 1, NOTHING, Two),
-    row!(GetSamplingPortId => b"GET_SAMPLING_PORT_ID", 0, NAME, Two),
-    row!(GetSamplingPortStatus => b"GET_SAMPLING_PORT_STATUS", 1, NOTHING, Two),
-    row!(GetQueuingPortId => b"GET_QUEUING_PORT_ID", 0, NAME, Two),
-    row!(GetQueuingPortStatus => b"GET_QUEUING_PORT_STATUS", 1, NOTHING, Two),
+pub const SERVICES: [ServiceRow<&'static [u8]>; 60] = [
+    row!(CreateProcess => b"CREATE_PROCESS", TWO_OR_THREE, NAME, One),
+    row!(InitializeProcessCoreAffinity => b"INITIALIZE_PROCESS_CORE_AFFINITY", TWO, NOTHING, One),
+    row!(Start => b"START", ONE, NOTHING, One),
+    row!(Stop => b"STOP", ONE, NOTHING, One),
+    row!(StopSelf => b"STOP_SELF", ZERO, NOTHING, One),
+    row!(Suspend => b"SUSPEND", ONE, NOTHING, One),
+    row!(SuspendSelf => b"SUSPEND_SELF", ONE, NOTHING, One),
+    row!(Resume => b"RESUME", ONE, NOTHING, One),
+    row!(SetPriority => b"SET_PRIORITY", TWO, NOTHING, One),
+    row!(GetMyId => b"GET_MY_ID", ZERO, NOTHING, One),
+    row!(TimedWait => b"TIMED_WAIT", ONE, NOTHING, One),
+    row!(PeriodicWait => b"PERIODIC_WAIT", ZERO, NOTHING, One),
+    row!(GetTime => b"GET_TIME", ZERO, NOTHING, One),
+    row!(SetPartitionMode => b"SET_PARTITION_MODE", ONE, NOTHING, One),
+    row!(CreateBuffer => b"CREATE_BUFFER", THREE, NAME, One),
+    row!(SendBuffer => b"SEND_BUFFER", THREE, MESSAGE, One),
+    row!(ReceiveBuffer => b"RECEIVE_BUFFER", TWO, NOTHING, One),
+    row!(CreateBlackboard => b"CREATE_BLACKBOARD", ONE, NAME, One),
+    row!(DisplayBlackboard => b"DISPLAY_BLACKBOARD", TWO, MESSAGE, One),
+    row!(ReadBlackboard => b"READ_BLACKBOARD", TWO, NOTHING, One),
+    row!(ClearBlackboard => b"CLEAR_BLACKBOARD", ONE, NOTHING, One),
+    row!(CreateSemaphore => b"CREATE_SEMAPHORE", THREE, NAME, One),
+    row!(WaitSemaphore => b"WAIT_SEMAPHORE", TWO, NOTHING, One),
+    row!(SignalSemaphore => b"SIGNAL_SEMAPHORE", ONE, NOTHING, One),
+    row!(CreateEvent => b"CREATE_EVENT", ZERO, NAME, One),
+    row!(SetEvent => b"SET_EVENT", ONE, NOTHING, One),
+    row!(ResetEvent => b"RESET_EVENT", ONE, NOTHING, One),
+    row!(WaitEvent => b"WAIT_EVENT", TWO, NOTHING, One),
+    row!(CreateMutex => b"CREATE_MUTEX", TWO, NAME, One),
+    row!(AcquireMutex => b"ACQUIRE_MUTEX", TWO, NOTHING, One),
+    row!(ReleaseMutex => b"RELEASE_MUTEX", ONE, NOTHING, One),
+    row!(CreateSamplingPort => b"CREATE_SAMPLING_PORT", THREE, NAME, One),
+    row!(WriteSamplingMessage => b"WRITE_SAMPLING_MESSAGE", TWO, MESSAGE, One),
+    row!(ReadSamplingMessage => b"READ_SAMPLING_MESSAGE", ONE, NOTHING, One),
+    row!(CreateQueuingPort => b"CREATE_QUEUING_PORT", THREE, NAME, One),
+    row!(SendQueuingMessage => b"SEND_QUEUING_MESSAGE", THREE, MESSAGE, One),
+    row!(ReceiveQueuingMessage => b"RECEIVE_QUEUING_MESSAGE", TWO, NOTHING, One),
+    row!(GetBufferId => b"GET_BUFFER_ID", ZERO, NAME, Two),
+    row!(GetBufferStatus => b"GET_BUFFER_STATUS", ONE, NOTHING, Two),
+    row!(GetBlackboardId => b"GET_BLACKBOARD_ID", ZERO, NAME, Two),
+    row!(GetBlackboardStatus => b"GET_BLACKBOARD_STATUS", ONE, NOTHING, Two),
+    row!(GetSemaphoreId => b"GET_SEMAPHORE_ID", ZERO, NAME, Two),
+    row!(GetSemaphoreStatus => b"GET_SEMAPHORE_STATUS", ONE, NOTHING, Two),
+    row!(GetEventId => b"GET_EVENT_ID", ZERO, NAME, Two),
+    row!(GetEventStatus => b"GET_EVENT_STATUS", ONE, NOTHING, Two),
+    row!(GetMutexId => b"GET_MUTEX_ID", ZERO, NAME, Two),
+    row!(GetMutexStatus => b"GET_MUTEX_STATUS", ONE, NOTHING, Two),
+    row!(GetSamplingPortId => b"GET_SAMPLING_PORT_ID", ZERO, NAME, Two),
+    row!(GetSamplingPortStatus => b"GET_SAMPLING_PORT_STATUS", ONE, NOTHING, Two),
+    row!(GetQueuingPortId => b"GET_QUEUING_PORT_ID", ZERO, NAME, Two),
+    row!(GetQueuingPortStatus => b"GET_QUEUING_PORT_STATUS", ONE, NOTHING, Two),
+    row!(GetPartitionStatus => b"GET_PARTITION_STATUS", ZERO, NOTHING, Three),
+    row!(GetProcessId => b"GET_PROCESS_ID", ZERO, NAME, Three),
+    row!(GetProcessStatus => b"GET_PROCESS_STATUS", ONE, NOTHING, Three),
+    row!(DelayedStart => b"DELAYED_START", TWO, NOTHING, Three),
+    row!(ClearQueuingPort => b"CLEAR_QUEUING_PORT", ONE, NOTHING, Three),
+    row!(ResetMutex => b"RESET_MUTEX", TWO, NOTHING, Three),
+    row!(GetProcessMutexState => b"GET_PROCESS_MUTEX_STATE", ONE, NOTHING, Three),
+    row!(ReportApplicationMessage => b"REPORT_APPLICATION_MESSAGE", SECOND, MESSAGE, Three),
+    row!(CreateErrorHandler => b"CREATE_ERROR_HANDLER", ZERO, NOTHING, Three),
 ];
 
 impl Service {

@@ -6,7 +6,7 @@ ghost use Rattle.apex_types.specs.Fields.{field_of};
 /// A field of a view.
 #[derive(Clone, Copy, Debug, PartialEq, Eq)]
 pub enum Field {
-    /// The kind of the record: 0 a call, 1 a return, 2 a dispatch, 3 a tick.
+    /// The kind of the record: 0 a call, 1 a return, 2 a dispatch, 3 a tick, 4 an arrival, 5 a departure.
     Kind,
     /// The core of the record.
     Core,

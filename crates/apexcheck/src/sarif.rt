@@ -324,6 +324,8 @@ fn name_of_kind(kind: Kind) -> &'static str {
         Kind::Ret => "ret",
         Kind::Disp => "disp",
         Kind::Tick => "tick",
+        Kind::Arrive => "arrive",
+        Kind::Depart => "depart",
     }
 }
 

@@ -1,3 +1,6 @@
 pub mod Shared
 pub mod SampledCalls
 pub mod QueuedCalls
+pub mod Configured
+pub mod Arrivals
+pub mod Departures

@@ -1,13 +1,16 @@
 -- What calls through channels of both kinds have in common.
-use Rattle.std.proofs.Common.{◌≡◌, ◌||◌, ℕ, List, [], ◌∷◌, ◌++◌, Bool, true, false, ◌&&◌, nat_eq, IfErr, OnOk, Result, refl, sym, ap, subst, ◌∙◌, arith, inr}
+use Rattle.std.proofs.Common.{◌≡◌, ◌||◌, ℕ, List, [], ◌∷◌, ◌++◌, Bool, true, false, ◌&&◌, nat_eq, IfErr, OnOk, Ok, Err, Result, refl, sym, ap, subst, ◌∙◌, arith, inl, inr}
+use Rattle.std.proofs.lemmas.Bool.{cases_Bool}
 use Rattle.std.proofs.lemmas.Bool.Decides.{nat_tests}
 use Rattle.std.proofs.lemmas.Result.{IfErr-weaker, on_ok_weaker}
 use Rattle.apex_types.specs.declared.cause.Cause.TheVariants as cause
 use Rattle.apex_types.specs.declared.record.Call.{Call as CallRecord}
+use Rattle.apex_types.specs.declared.record.Who.{Who}
 use Rattle.apex_machine.specs.declared.state.Entry.{Entry}
 use Rattle.apex_machine.specs.Configuration.{Configuration}
 use Rattle.apex_machine.specs.Demands.{AllHold, Demand, has_entry_in, through_demands}
 use Rattle.apex_machine.specs.State.{Content}
+use Rattle.apex_machine.specs.Waiting.{without}
 use Rattle.channel.specs.Held.{Accepts, Held, IsConfigured, RefusesCall}
 use Rattle.wait_set.specs.declared.object.ObjFault.{ObjFault}
 use Rattle.wait_set.specs.declared.object.ObjFault.TheVariants.{Memory, Unlawful}
@@ -28,9 +31,23 @@ pub and_false : (b : Bool) → (b && false) ≡ false
 and_false true = refl
 and_false false = refl
 
+-- what holds holds if a result is Ok
+pub on_any_ok : {X E Fact : Type 0} (result : Result X E) → Fact → OnOk result Fact
+on_any_ok (Ok x) fact = fact
+on_any_ok (Err e) fact = tt
+
 -- a number is itself
 pub same_number : (n : ℕ) → nat_eq n n ≡ true
 same_number n = grind (arith, nat_tests)
+
+-- who has left does not leave again
+pub without-twice : (leaves : Who → Bool) (entries : List Entry) → without leaves (without leaves entries) ≡ without leaves entries
+without-twice leaves [] = refl
+without-twice leaves (entry ∷ entries) =
+    elim (cases_Bool (leaves entry.who)) [
+      | inl departed ↦ rw departed (without-twice leaves entries)
+      | inr stays ↦ rw (stays, stays) (ap (λ rest. entry ∷ rest) (without-twice leaves entries))
+    ]
 
 -- the demand that the caller waits at neither end
 abbrev pub apart : CallRecord → Held → Demand
@@ -46,7 +63,7 @@ all_hold [] demands before holds = holds
 all_hold (demand ∷ others) demands before holds = (before.0, all_hold others demands before.1 holds)
 
 -- demands refuse after others that hold
-still_refused : (first demands : List {1} Demand) (fault : ObjFault) → AllHold first → Refuses demands fault → Refuses (first ++ demands) fault
+pub still_refused : (first demands : List {1} Demand) (fault : ObjFault) → AllHold first → Refuses demands fault → Refuses (first ++ demands) fault
 still_refused first demands Memory before holds = all_hold first demands before holds
 still_refused [] demands (Unlawful cause) before refused = refused
 still_refused (demand ∷ others) demands (Unlawful cause) before refused = inr (before.0, still_refused others demands (Unlawful cause) before.1 refused)

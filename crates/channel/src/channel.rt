@@ -6,13 +6,14 @@ ghost use Rattle.apex_machine.specs.Demands.{has_entry_in};
 ghost use Rattle.apex_machine.specs.State.{is_named, is_same};
 ghost use Rattle.channel.specs.Held as rules;
 ghost use Rattle.channel.specs.Held.{Accepts, AllBelow, DoesNotServe, Gives, IsAfterCall, JudgesCall, RefusesCall};
-ghost use Rattle.channel.specs.Kinds.{destination_in, is_sampled, last_written, queuing_held, sampling_held, source_in};
+ghost use Rattle.channel.specs.Kinds.{destination_in, is_sampled, last_written, queuing_held, sampling_held, size_in, source_in};
 ghost use Rattle.message_queue.specs.Queues.{empty_queue};
 ghost use Rattle.wait_set.specs.Givens.{answer_given};
 
 use crate::queuing::QueuingChannel;
 use crate::sampling::{SamplingChannel, Stamped};
-use apex_types::{Call, Cause, ChanId, Discipline, ObjectKind, PartId, Place, Request, Who};
+use crate::settings::{QueuingSettings, SamplingSettings};
+use apex_types::{Call, Cause, ChanId, ObjectKind, PartId, Place, Request, Who};
 use message_queue::MessageQueue;
 use std::alloc::{AllocError, Global};
 use std::marker::Model;
@@ -21,13 +22,13 @@ use wait_set::{Actor, Given, ObjFault};
 /// A channel, which knows its number.
 #[derive(Drop)]
 pub struct Channel {
-    number: ChanId,
-    kind: Kind,
+    pub(crate) number: ChanId,
+    pub(crate) kind: Kind,
 }
 
 /// What a channel of either kind holds.
 #[derive(Clone, Drop)]
-enum Kind {
+pub(crate) enum Kind {
     Sampling(SamplingChannel),
     Queuing(QueuingChannel),
 }
@@ -42,44 +43,43 @@ impl Model for Channel {
 }
 
 impl Channel {
-    /// The sampling channel of this number, with no message. A message is valid for as many ticks as the refresh period has. Takes no
-    /// memory.
-    pub fn sampling(alloc: Global, number: ChanId, refresh: u64) -> Channel
-        ensures { result ≡ sampling_held number refresh None }
+    /// The sampling channel of this number, with no message. Takes no memory.
+    pub fn sampling(alloc: Global, number: ChanId, settings: SamplingSettings) -> Channel
+        ensures { result ≡ sampling_held number settings None }
     {
         Channel {
             number,
             kind: Kind::Sampling(SamplingChannel {
                 alloc,
-                refresh,
+                settings,
                 last: None,
             }),
         }
     }
 
-    /// The queuing channel of this number, with no message, at which no process waits. It holds at most `capacity` messages. Processes that
-    /// wait to send go by the first of the two disciplines, those that wait to receive by the second. `source` and `destination` are the
-    /// partitions at its ends.
+    /// The queuing channel of this number, with no message, at which no process waits.
     ///
     /// AllocError if memory for the places of its messages is refused. No other operation takes memory for a place.
     pub fn queuing(
         alloc: Global,
         number: ChanId,
-        capacity: u16,
-        sending: Discipline,
-        receiving: Discipline,
-        source: PartId,
-        destination: PartId,
+        settings: QueuingSettings,
     ) -> Result<Channel, AllocError>
-        ensures { IfOk result (λ channel. channel ≡ queuing_held number source destination (empty_queue capacity sending receiving)) }
+        ensures { IfOk result (λ channel. channel ≡ queuing_held number settings.size settings.source settings.destination (empty_queue settings.capacity settings.sending settings.receiving)) }
     {
-        let queue = MessageQueue::new(alloc, capacity, sending, receiving)?;
+        let queue = MessageQueue::new(
+            alloc,
+            settings.capacity,
+            settings.sending,
+            settings.receiving,
+        )?;
         Ok(Channel {
             number,
             kind: Kind::Queuing(QueuingChannel {
                 queue,
-                source,
-                destination,
+                size: settings.size,
+                source: settings.source,
+                destination: settings.destination,
             }),
         })
     }
@@ -93,7 +93,7 @@ impl Channel {
 
     /// The queue of a queuing channel; None for a sampling channel.
     pub fn queue(&self) -> Option<&MessageQueue>
-        ensures held { IfSome result (λ queue. self.now ≡ queuing_held self.now.number (source_in self.now.settings) (destination_in self.now.settings) queue.now) }
+        ensures held { IfSome result (λ queue. self.now ≡ queuing_held self.now.number (size_in self.now.settings) (source_in self.now.settings) (destination_in self.now.settings) queue.now) }
         ensures none { IfNone result (is_sampled self.now.channel.content ≡ true) }
     {
         match &self.kind {

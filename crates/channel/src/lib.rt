@@ -4,12 +4,14 @@
 //! it is accepted exactly if it meets what the definitions demand of it there, and leaves the channel that they give. Else nothing has
 //! changed, and the cause is that of the first demand that fails. All this holds for any configuration that gives the channel of this
 //! number these settings. A message is copied once, when the channel keeps it. Memory can be lacking only for that copy or for the entry of
-//! a caller that waits. Leaving takes no memory.
+//! a caller that waits; an arrival may lack it, a departure never does. Leaving takes no memory.
 //!
-//! A sampling channel has its refresh period and the message that was last written; a queuing channel is a queue of messages between two
-//! partitions. `apply` also judges whether the caller already waits there and whether the service is of the channel's kind. It requires the
-//! places of those who wait to be below the place of the call (`AllBelow`), and its result holds for each configuration in which
-//! `IsConfigured` holds. `release`, `leave` and `leave_all` take processes out of both its sets, as ticks, stops and restarts do.
+//! A sampling channel has the message that was last written; a queuing channel is a queue of messages between two partitions. An end of
+//! either may be outside the module: `arrive` and `depart` judge a message that passes it, and carry it out (`outside.rt`).
+//!
+//! `apply` also judges whether the caller already waits there and whether the service is of the channel's kind. It requires the places of
+//! those who wait to be below the place of the call (`AllBelow`), and its result holds for each configuration in which `IsConfigured` holds.
+//! `release`, `leave` and `leave_all` take processes out of both its sets, as ticks, stops and restarts do.
 //!
 //! A channel knows no port. Of partitions, it knows only the two numbers at the ends of a queue, because the status of a queuing port
 //! reports how many wait at the caller's end (`queuing.rt`).
@@ -19,7 +21,15 @@
 //!
 //! ```text
 //! // Channel 4 of partition 0 to partition 1 holds one message. Those who wait to receive go by priority.
-//! let mut channel = Channel::queuing(alloc, ChanId::new(4), 1, Discipline::Fifo, Discipline::Priority, PartId::new(0), PartId::new(1))?;
+//! let settings = QueuingSettings {
+//!     size: 8,
+//!     capacity: 1,
+//!     sending: Discipline::Fifo,
+//!     receiving: Discipline::Priority,
+//!     source: Some(PartId::new(0)),
+//!     destination: Some(PartId::new(1)),
+//! };
+//! let mut channel = Channel::queuing(alloc, ChanId::new(4), settings)?;
 //!
 //! // Process 1 of partition 0 fills the one place that there is, and process 2 waits. The places of their calls rise.
 //! channel.apply(Place::new(10), 3, &send_is_done)?;
@@ -35,8 +45,11 @@
 #![tactic(auto)]
 
 mod channel;
+mod outside;
 mod queuing;
 mod sampling;
+mod settings;
 
 pub use channel::Channel;
 pub use sampling::Stamped;
+pub use settings::{QueuingSettings, SamplingSettings};

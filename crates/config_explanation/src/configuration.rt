@@ -217,6 +217,10 @@ fn say_expected(words: &mut Words, module: Written<'_>, place: ConfigPlace) {
         ConfigKey::SourceDiscipline | ConfigKey::DestinationDiscipline => {
             words.say("\"FIFO\" or \"PRIORITY\"");
         }
+        ConfigKey::Outside => words.say("\"SOURCE\" or \"DESTINATION\""),
+        ConfigKey::OnError => {
+            words.say("\"IGNORE\", \"IDLE\", \"COLD_START\" or \"WARM_START\"");
+        }
         ConfigKey::Port => words.say("a string of 1 to 32 bytes from 0x20 to 0x7E"),
         list => words.say(format_args!(
             "a list of tables, each with the header [[{}]]",

@@ -10,7 +10,7 @@ use wording::{Count, Found, Words};
 const MOST_LISTED: usize = 32;
 
 /// The most keys that a table has.
-const MOST_KEYS: usize = 9;
+const MOST_KEYS: usize = 10;
 
 const MODULE: [ConfigKey; 7] = [
     ConfigKey::Cores,
@@ -32,6 +32,7 @@ const PARTITION: [ConfigKey; MOST_KEYS] = [
     ConfigKey::Semaphores,
     ConfigKey::Events,
     ConfigKey::Mutexes,
+    ConfigKey::OnError,
 ];
 
 const WINDOW: [ConfigKey; 4] = [
@@ -41,18 +42,20 @@ const WINDOW: [ConfigKey; 4] = [
     ConfigKey::Length,
 ];
 
-const SAMPLING: [ConfigKey; 5] = [
+const SAMPLING: [ConfigKey; 6] = [
     ConfigKey::Channel,
     ConfigKey::Size,
     ConfigKey::Refresh,
+    ConfigKey::Outside,
     ConfigKey::Source,
     ConfigKey::Destinations,
 ];
 
-const QUEUING: [ConfigKey; 7] = [
+const QUEUING: [ConfigKey; 8] = [
     ConfigKey::Channel,
     ConfigKey::Size,
     ConfigKey::Capacity,
+    ConfigKey::Outside,
     ConfigKey::Source,
     ConfigKey::SourceDiscipline,
     ConfigKey::Destination,

@@ -292,11 +292,24 @@ impl fmt::Display for Port<'_> {
     }
 }
 
+// An end of a channel under a key of its own; None if there is none, or if the key is not read because the end is outside the module.
+fn read_end<'a>(list: ConfigKey, channel: Written<'a>, key: ConfigKey) -> Option<Written<'a>> {
+    let outside = match channel.value(ConfigKey::Outside) {
+        Some(value) => value.as_str(),
+        None => None,
+    };
+    let is_read = match key {
+        ConfigKey::Source => outside != Some("SOURCE"),
+        _ => list == ConfigKey::Queuing && outside != Some("DESTINATION"),
+    };
+    if is_read { channel.under(key) } else { None }
+}
+
 // Lists the ends of a channel that are this port. Returns the line of the last one.
 fn say_ports(words: &mut Words, at: At, channel: Written<'_>, port: Port<'_>) -> Option<u64> {
     let mut last = None;
     for key in ENDS {
-        if let Some(end) = channel.under(key) {
+        if let Some(end) = read_end(at.list, channel, key) {
             if port.is_at(end) {
                 say_end(words, at, key.text());
                 say_line(words, end.line());
@@ -320,7 +333,7 @@ fn say_ports(words: &mut Words, at: At, channel: Written<'_>, port: Port<'_>) ->
 // Lists the ends of a channel, with their partitions.
 fn say_ends(words: &mut Words, module: Written<'_>, at: At, channel: Written<'_>) {
     for key in ENDS {
-        if let Some(end) = channel.under(key) {
+        if let Some(end) = read_end(at.list, channel, key) {
             say_end(words, at, key.text());
             say_partition(words, module, end);
         }

@@ -19,7 +19,7 @@ const FIELDS: [(Field, &str); 11] = [
     (Field::Woken, "woken"),
 ];
 
-const KINDS: [&str; 4] = ["call", "return", "dispatch", "tick"];
+const KINDS: [&str; 6] = ["call", "return", "dispatch", "tick", "arrival", "departure"];
 
 const OUTCOMES: [Out; 9] = [
     Out::Answer(Code::NoError),

@@ -65,7 +65,7 @@ fn tell_named(
 ) {
     match &refusal.ordered.rec.body {
         Body::Disp(Some(who)) => tell_dispatched(words, refusing, refusal.core(), who),
-        Body::Disp(None) => {}
+        Body::Disp(None) | Body::Arrive(_) | Body::Depart(_) => {}
         Body::Tick(_) => tell_occupant(words, refusal, refusing, occupant),
         Body::Call(call) => tell_actor(words, refusal, refusing, occupant, &call.who),
         Body::Ret(ret) => tell_actor(words, refusal, refusing, occupant, &ret.who),

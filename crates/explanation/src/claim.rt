@@ -5,11 +5,12 @@ use crate::claimed::{
     tell_recorded_values, tell_values,
 };
 use crate::conditions::{tell_codes, tell_conditions, tell_no_condition};
+use crate::ended::{EndedWaits, tell_expected_waits, tell_recorded_processes};
 use crate::judged::{tell_basis, tell_holder};
 use crate::refusal::{Refusal, Refusing};
 use apex_types::{Call, ChanId, Claim, Code, Out, Who};
 use piece_check::{Misnaming, misnamed_by};
-use wait_set::{Conditions, Given, WaitSet};
+use wait_set::{Conditions, Given};
 use wording::{Numbered, Part, Words, answer_rule, conditions_rule, out_name, tell_processes};
 
 /// Reports the error conditions that hold for a call, and where its claim is not the code of one of them alone.
@@ -23,8 +24,8 @@ pub fn tell_refused_outcome(words: &mut Words, refusal: &Refusal<'_>, conditions
         ClaimField::Channel => tell_no_channel(words, &call.claim),
         ClaimField::Outcome => tell_expected_codes(words, conditions, &call.claim),
         ClaimField::Values => tell_no_value(words, &call.claim),
-        ClaimField::Message => tell_bytes(words, &[], &call.claim),
-        ClaimField::Woken => tell_ended(words, None, None, call.claim.woken.as_slice()),
+        ClaimField::Message => tell_bytes(words, &[], call.claim.bytes.as_bytes()),
+        ClaimField::Woken => tell_ended(words, EndedWaits::NoWait, call.claim.woken.as_slice()),
     }
     words.rule(format_args!("part 6, {}", conditions_rule(&call.request)));
 }
@@ -96,7 +97,7 @@ pub fn tell_answer(words: &mut Words, refusal: &Refusal<'_>, given: &Given<'_>) 
     match field {
         ClaimField::Outcome => tell_outcome(words, given.out, &call.claim),
         ClaimField::Values => tell_values(words, given, &call.claim),
-        ClaimField::Message => tell_bytes(words, given.bytes, &call.claim),
+        ClaimField::Message => tell_bytes(words, given.bytes, call.claim.bytes.as_bytes()),
         ClaimField::Woken => tell_woken(words, refusal, given, call),
         // A partition reports it before it looks at what the call gives, and a channel demands no other.
         ClaimField::Channel => {}
@@ -176,8 +177,8 @@ fn tell_creation(words: &mut Words, claim: &Claim, field: ClaimField) {
             );
             tell_recorded_values(words, claim);
         }
-        ClaimField::Message => tell_bytes(words, &[], claim),
-        ClaimField::Woken => tell_ended(words, None, None, claim.woken.as_slice()),
+        ClaimField::Message => tell_bytes(words, &[], claim.bytes.as_bytes()),
+        ClaimField::Woken => tell_ended(words, EndedWaits::NoWait, claim.woken.as_slice()),
         // Reported before the piece looks at what the call gives.
         ClaimField::Channel => {}
     }
@@ -186,41 +187,34 @@ fn tell_creation(words: &mut Words, claim: &Claim, field: ClaimField) {
 // Reports whose waits the call ends, which processes the record names, and which of them it names wrongly.
 fn tell_woken(words: &mut Words, refusal: &Refusal<'_>, given: &Given<'_>, call: &Call) {
     let named = call.claim.woken.as_slice();
-    tell_ended(words, given.woken, given.woken_all, named);
-    if given.woken_all.is_none() {
-        return;
-    }
-    for who in named {
-        if misnamed_by(given, &call.claim.woken, who) == Some(Misnaming::Unexpected) {
-            words.say(format_args!("; {} does not wait there", Numbered(*who)));
+    let ended = EndedWaits::of(&given.woken);
+    tell_ended(words, ended, named);
+    match &ended {
+        EndedWaits::NoWait | EndedWaits::Of(_) => {}
+        EndedWaits::All(_) => {
+            tell_unexpected(words, given, call, "does not wait there");
+            if let Some(refusing) = refusal.partition() {
+                tell_missing(words, &refusing, given, call);
+            }
         }
+        EndedWaits::First(_) => tell_unexpected(words, given, call, "is not among them"),
     }
-    if let Some(refusing) = refusal.partition() {
-        tell_missing(words, &refusing, given, call);
+}
+
+// Reports which processes the record names, though the call does not end their waits.
+fn tell_unexpected(words: &mut Words, given: &Given<'_>, call: &Call, why: &str) {
+    for who in call.claim.woken.as_slice() {
+        if misnamed_by(given, &call.claim.woken, who) == Some(Misnaming::Unexpected) {
+            words.say(format_args!("; {} {why}", Numbered(*who)));
+        }
     }
 }
 
 // Reports whose waits the call ends, and which processes the record names.
-fn tell_ended(words: &mut Words, woken: Option<Who>, woken_all: Option<&WaitSet>, named: &[Who]) {
+fn tell_ended(words: &mut Words, ended: EndedWaits, named: &[Who]) {
     words.say("the call ends ");
-    words.begin_part(Part::Expected);
-    match (woken, woken_all) {
-        (Some(who), _) => words.say(format_args!("the wait of {}", Numbered(who))),
-        (None, Some(set)) => words.say(format_args!(
-            "the waits of all that wait there ({})",
-            set.len()
-        )),
-        (None, None) => words.say("no wait"),
-    }
-    words.end_part();
-    words.say(", but the record names ");
-    words.begin_part(Part::Recorded);
-    if named.is_empty() {
-        words.say("no process");
-    } else {
-        tell_processes(words, named);
-    }
-    words.end_part();
+    tell_expected_waits(words, ended);
+    tell_recorded_processes(words, named);
 }
 
 // Reports which processes of the partition are not named, though the call ends their waits.

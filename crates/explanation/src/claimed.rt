@@ -1,7 +1,7 @@
 // The fields of a claim, each as expected and as recorded.
 
 use apex_types::{Cause, Claim, Out};
-use wait_set::{Given, WaitSet};
+use wait_set::{Given, GivenValue};
 use wording::{Bytes, Part, Words, out_name};
 
 /// A field of what a call claims.
@@ -41,9 +41,9 @@ pub fn tell_values(words: &mut Words, given: &Given<'_>, claim: &Claim) {
     words.begin_part(Part::Expected);
     tell_numbers(
         words,
-        given.val.map(signed),
-        given.val2.map(signed),
-        given.val3.map(signed),
+        given.val.map(recorded_as),
+        given.val2.map(recorded_as),
+        given.val3.map(recorded_as),
     );
     words.end_part();
     tell_recorded_values(words, claim);
@@ -72,12 +72,12 @@ pub fn tell_recorded_outcome(words: &mut Words, claim: &Claim) {
     words.say_part(Part::Recorded, out_name(claim.out));
 }
 
-/// Reports the message that a call gives, and the one that is claimed.
-pub fn tell_bytes(words: &mut Words, bytes: &[u8], claim: &Claim) {
+/// Reports the message that is expected, and the one that is recorded.
+pub fn tell_bytes(words: &mut Words, bytes: &[u8], recorded: &[u8]) {
     words.say("expected ");
     words.say_part(Part::Expected, Bytes(bytes));
     words.say(", recorded ");
-    words.say_part(Part::Recorded, Bytes(claim.bytes.as_bytes()));
+    words.say_part(Part::Recorded, Bytes(recorded));
 }
 
 /// Reports the values that are claimed.
@@ -88,9 +88,12 @@ pub fn tell_recorded_values(words: &mut Words, claim: &Claim) {
     words.end_part();
 }
 
-// A number as a record gives it.
-fn signed(number: u64) -> i64 {
-    i64::try_from(number).unwrap_or(i64::MAX)
+// A value as a record gives it.
+fn recorded_as(value: GivenValue) -> i64 {
+    match value {
+        GivenValue::Natural(number) => i64::try_from(number).unwrap_or(i64::MAX),
+        GivenValue::BelowZero(number) => number,
+    }
 }
 
 // Reports the values that are expected or recorded, as far as there are any.

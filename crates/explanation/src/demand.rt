@@ -20,12 +20,10 @@ pub fn tell_demand(words: &mut Words, subject: Subject, body: &Body, cause: Caus
         Cause::Return => tell_return(words, body),
         Cause::OutsideProfile => words.say("this use of the service is outside the profile"),
         Cause::Prio => words.say("a call must show the current priority of its caller"),
-        Cause::Chan => words.say(
-            "a call must name the channel of its port, or none if an error condition holds or it uses no port",
-        ),
+        Cause::Chan => tell_channel(words, body),
         Cause::Out => words.say("the outcome must be the one that the rules give"),
         Cause::Val => words.say("the value must be the one that belongs to the outcome"),
-        Cause::Data => words.say("the message must be the one that belongs to the outcome"),
+        Cause::Data => tell_message(words, body),
         Cause::Woken => words.say("a record must name exactly the processes whose waits it ends"),
     }
 }
@@ -37,6 +35,33 @@ fn tell_idle(words: &mut Words, body: &Body) {
         ),
         Body::Disp(_) => words.say("outside every window, a dispatch must name no process"),
         Body::Tick(_) => words.say("outside every window, a core must be idle when it ticks"),
+        Body::Arrive(_) | Body::Depart(_) => {}
+    }
+}
+
+fn tell_channel(words: &mut Words, body: &Body) {
+    match body {
+        Body::Arrive(_) => words.say("a message must arrive at a channel whose source is outside"),
+        Body::Depart(_) => words.say(
+            "a message must depart from a queuing channel whose destination is outside",
+        ),
+        Body::Call(_) | Body::Ret(_) | Body::Disp(_) | Body::Tick(_) => words.say(
+            "a call must name the channel of its port, or none if an error condition holds or it uses no port",
+        ),
+    }
+}
+
+fn tell_message(words: &mut Words, body: &Body) {
+    match body {
+        Body::Arrive(_) => {
+            words.say("a message that arrives must be no longer than the channel's greatest size");
+        }
+        Body::Depart(_) => {
+            words.say("a message that departs must be the oldest of the channel");
+        }
+        Body::Call(_) | Body::Ret(_) | Body::Disp(_) | Body::Tick(_) => {
+            words.say("the message must be the one that belongs to the outcome");
+        }
     }
 }
 
@@ -55,6 +80,7 @@ fn tell_choice(words: &mut Words, subject: Subject, body: &Body) {
                 "a process that calls or returns must be the occupant of its core, and the choice",
             );
         }
+        Body::Arrive(_) | Body::Depart(_) => {}
     }
 }
 
@@ -64,6 +90,6 @@ fn tell_return(words: &mut Words, body: &Body) {
         Body::Call(_) => {
             words.say("a process must return from its last call before it makes another");
         }
-        Body::Disp(_) | Body::Tick(_) => {}
+        Body::Disp(_) | Body::Tick(_) | Body::Arrive(_) | Body::Depart(_) => {}
     }
 }

@@ -1,20 +1,52 @@
-// Processes whose waits end at a tick or by a call of another partition, and that a record names wrongly.
+// Processes whose waits end at a tick or by a record of others, and that a record names wrongly.
 
 use crate::processes::{tell_process, tell_standing};
 use crate::refusal::{Refusal, Refusing};
 use apex_machine::{Process, Wait};
-use apex_types::{Body, Call, Who, Woken};
+use apex_types::{Body, Who, Woken};
 use piece_check::Misnaming;
 use wording::{Numbered, Words};
 
-/// Reports the processes that a tick or a call of another partition names wrongly.
+/// Where the rule is of the processes that a message from or to the outside wakes.
+const CROSSING: &str = "part 11, cause Woken (AllWaitAt)";
+
+/// Reports the processes that a tick or a record of others names wrongly.
 pub fn tell_named(words: &mut Words, refusal: &Refusal<'_>) {
     let Some(refusing) = refusal.partition() else {
         return;
     };
     match &refusal.ordered.rec.body {
         Body::Tick(woken) => tell_tick(words, refusal, &refusing, woken),
-        Body::Call(call) => tell_foreign(words, refusal, &refusing, call),
+        Body::Call(call) => {
+            tell_foreign(
+                words,
+                refusal,
+                &refusing,
+                "call",
+                call.claim.woken.as_slice(),
+            );
+            words.rule("part 11, cause Woken (WakesHere)");
+        }
+        Body::Arrive(crossing) => {
+            tell_foreign(
+                words,
+                refusal,
+                &refusing,
+                "arrival",
+                crossing.woken.as_slice(),
+            );
+            words.rule(CROSSING);
+        }
+        Body::Depart(crossing) => {
+            tell_foreign(
+                words,
+                refusal,
+                &refusing,
+                "departure",
+                crossing.woken.as_slice(),
+            );
+            words.rule(CROSSING);
+        }
         Body::Ret(_) | Body::Disp(_) => {}
     }
 }
@@ -80,22 +112,28 @@ fn tell_nonexistent(words: &mut Words, who: Who) {
     words.say(format_args!("there is no {}, but the record names it", Numbered(who)));
 }
 
-// Reports the processes that a call of another partition names and that do not wait at its channel.
-fn tell_foreign(words: &mut Words, refusal: &Refusal<'_>, refusing: &Refusing<'_>, call: &Call) {
-    for who in call.claim.woken.as_slice() {
-        if who.part != refusing.number || refusal.piece.may_wake(call, who.proc) {
+// Reports the processes that a record of others names and that do not wait at its channel.
+fn tell_foreign(
+    words: &mut Words,
+    refusal: &Refusal<'_>,
+    refusing: &Refusing<'_>,
+    what: &str,
+    named: &[Who],
+) {
+    let body = &refusal.ordered.rec.body;
+    for who in named {
+        if who.part != refusing.number || refusal.piece.may_wake(body, who.proc) {
             continue;
         }
         match refusing.state.processes().proc(who.proc) {
             Some(process) => {
                 words.next_line();
                 tell_process(words, *who, process);
-                words.say(
-                    ": it does not wait where this call can end a wait, but the record names it",
-                );
+                words.say(format_args!(
+                    ": it does not wait where this {what} can end a wait, but the record names it"
+                ));
             }
             None => tell_nonexistent(words, *who),
         }
     }
-    words.rule("part 11, cause Woken (WakesHere)");
 }

@@ -2,6 +2,7 @@
 
 use crate::choice::tell_choice;
 use crate::claim::{tell_answer, tell_new_number, tell_refused_outcome, tell_through};
+use crate::crossing::{crossing_of, tell_crossing, tell_inside, tell_size};
 use crate::due::tell_named;
 use crate::module::{tell_left_back, tell_unknown_channel, tell_unknown_partition, tell_window};
 use crate::outside::{tell_initialising, tell_mutex_owner, tell_mutex_waiter};
@@ -39,10 +40,15 @@ pub fn tell_evidence(words: &mut Words, refusal: &Refusal<'_>, evidence: &Eviden
         }
         Evidence::Conditions(conditions) => tell_refused_outcome(words, refusal, conditions),
         Evidence::Through(channel) => tell_through(words, refusal, *channel),
-        Evidence::Answer(given) => tell_answer(words, refusal, given),
+        Evidence::Answer(given) => match crossing_of(refusal) {
+            Some(crossing) => tell_crossing(words, refusal, given, crossing),
+            None => tell_answer(words, refusal, given),
+        },
         Evidence::NewNumber => tell_new_number(words, refusal),
         Evidence::OtherKind => tell_other_kind(words),
         Evidence::AtNeitherEnd => tell_neither_end(words),
         Evidence::Named => tell_named(words, refusal),
+        Evidence::Inside => tell_inside(words, refusal),
+        Evidence::Size(size) => tell_size(words, refusal, *size),
     }
 }

@@ -119,7 +119,7 @@ pub fn tell_channel_held(words: &mut Words, channel: &Channel, now: u64, kind: &
             words.say(format_args!("holds {}", Bytes(last.message().as_bytes())));
             words.say(format_args!(", written at time {}", last.stamp()));
             words.say(format_args!(": its age at time {now} is {age}"));
-            if let ChannelKind::Sampling { refresh } = kind {
+            if let ChannelKind::Sampling { refresh, .. } = kind {
                 words.say(format_args!(", and the refresh period is {refresh}"));
             }
         }

@@ -2,8 +2,12 @@
 
 use crate::held::tell_object;
 use crate::processes::{peer_of, tell_numbered};
-use apex_types::{Call, CallerOperation, ObjectKind, ProcId, ProcessOperation, Request, Who};
+use apex_machine::{Mode, StartCondition};
+use apex_types::{
+    Call, CallerOperation, NamedKind, ObjectKind, ProcId, ProcessOperation, Request, Who,
+};
 use partition_state::PartitionState;
+use wait_set::GivenValue;
 use wording::Words;
 
 /// Reports by what a call is judged: the process or the object that it names, or the time.
@@ -12,6 +16,8 @@ pub fn tell_basis(words: &mut Words, state: &PartitionState, now: u64, call: &Ca
         Request::CreateProcess { .. }
         | Request::SetPartitionMode(..)
         | Request::Create(..)
+        | Request::ReportMessage { .. }
+        | Request::CreateErrorHandler
         // These go through a channel.
         | Request::SamplingPort(..)
         | Request::QueuingPort(..) => {}
@@ -24,10 +30,22 @@ pub fn tell_basis(words: &mut Words, state: &PartitionState, now: u64, call: &Ca
         }
         Request::GetId(kind, name) => {
             if let Some(number) = state.number_of(*kind, name) {
-                tell_object(words, state, *kind, i64::from(number));
+                tell_found(words, state, call.who, *kind, i64::from(number));
             }
         }
         Request::GetStatus(kind, object) => tell_object(words, state, *kind, *object),
+    }
+}
+
+// Reports the process, object or port that has a name.
+fn tell_found(words: &mut Words, state: &PartitionState, caller: Who, kind: NamedKind, found: i64) {
+    match kind {
+        NamedKind::Process => {
+            if let Some(peer) = peer_of(state, caller, found) {
+                tell_numbered(words, state, peer);
+            }
+        }
+        NamedKind::Object(kind) => tell_object(words, state, kind, found),
     }
 }
 
@@ -50,7 +68,9 @@ pub fn tell_holder(words: &mut Words, state: &PartitionState, call: &Call) {
         | Request::SamplingPort(..)
         | Request::QueuingPort(..)
         | Request::GetId(..)
-        | Request::GetStatus(..) => {}
+        | Request::GetStatus(..)
+        | Request::ReportMessage { .. }
+        | Request::CreateErrorHandler => {}
     }
 }
 
@@ -63,16 +83,32 @@ fn tell_target(
     operation: &ProcessOperation,
 ) {
     match operation {
-        ProcessOperation::Resume => {
+        ProcessOperation::Resume | ProcessOperation::GetStatus => {
             if let Some(peer) = peer_of(state, caller, process) {
                 tell_numbered(words, state, peer);
             }
         }
+        ProcessOperation::GetMutexState => tell_owned(words, state, process),
         ProcessOperation::InitializeCoreAffinity { .. }
         | ProcessOperation::Start
+        | ProcessOperation::DelayedStart { .. }
         | ProcessOperation::Stop
         | ProcessOperation::Suspend
         | ProcessOperation::SetPriority { .. } => {}
+    }
+}
+
+// Reports the mutex that a process owns, if it owns one.
+fn tell_owned(words: &mut Words, state: &PartitionState, process: i64) {
+    match state.mutex_owned(process) {
+        GivenValue::Natural(mutex) => {
+            let mutex = i64::try_from(mutex).unwrap_or(i64::MAX);
+            tell_object(words, state, ObjectKind::Mutex, mutex);
+        }
+        GivenValue::BelowZero(_) => {
+            words.next_line();
+            words.say(format_args!("process {process} owns no mutex"));
+        }
     }
 }
 
@@ -98,6 +134,19 @@ fn tell_time(
         CallerOperation::GetTime => {
             words.next_line();
             words.say(format_args!("the time of its core is {now}"));
+        }
+        CallerOperation::GetPartitionStatus => {
+            words.next_line();
+            words.say(match state.processes().mode() {
+                Mode::Idle => "the partition is in IDLE mode",
+                Mode::ColdStart => "the partition is in COLD_START mode",
+                Mode::WarmStart => "the partition is in WARM_START mode",
+                Mode::Normal => "the partition is in NORMAL mode",
+            });
+            words.say(match state.start_condition() {
+                StartCondition::NormalStart => ", and has run since the module started",
+                StartCondition::PartitionRestart => ", and was restarted by SET_PARTITION_MODE",
+            });
         }
         CallerOperation::StopSelf
         | CallerOperation::SuspendSelf { .. }

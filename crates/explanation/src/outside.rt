@@ -65,6 +65,8 @@ fn tell_target(words: &mut Words, refusal: &Refusal<'_>, what: &str) {
         | Request::SamplingPort(..)
         | Request::QueuingPort(..)
         | Request::GetId(..)
-        | Request::GetStatus(..) => {}
+        | Request::GetStatus(..)
+        | Request::ReportMessage { .. }
+        | Request::CreateErrorHandler => {}
     }
 }

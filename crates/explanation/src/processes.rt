@@ -65,7 +65,13 @@ fn tell_wait(words: &mut Words, process: &Process) {
                 tell_since(words, process.ready_position);
             }
         }
-        Wait::NormalMode => words.say(" waits for NORMAL mode"),
+        Wait::NormalMode(0) => words.say(" waits for NORMAL mode"),
+        Wait::NormalMode(delay) => {
+            words.say(format_args!(" waits for NORMAL mode, with a delay of {delay}"));
+        }
+        Wait::Delay(time) => {
+            words.say(format_args!(" waits in its delayed start until time {time}"));
+        }
         Wait::FirstRelease(time) => {
             words.say(format_args!(" waits for its first release at time {time}"));
         }

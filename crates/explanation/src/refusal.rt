@@ -62,7 +62,8 @@ impl<'a> Refusal<'a> {
     pub fn call(&self) -> Option<&'a Call> {
         match &self.ordered.rec.body {
             Body::Call(call) => Some(call),
-            Body::Ret(_) | Body::Disp(_) | Body::Tick(_) => None,
+            Body::Ret(_) | Body::Disp(_) | Body::Tick(_) | Body::Arrive(_) | Body::Depart(_) =>
+                None,
         }
     }
 
@@ -70,7 +71,8 @@ impl<'a> Refusal<'a> {
     pub fn runner(&self) -> Option<Who> {
         match &self.ordered.rec.body {
             Body::Disp(who) => *who,
-            Body::Call(_) | Body::Ret(_) | Body::Tick(_) => self.actor(),
+            Body::Call(_) | Body::Ret(_) => self.actor(),
+            Body::Tick(_) | Body::Arrive(_) | Body::Depart(_) => None,
         }
     }
 
@@ -79,7 +81,7 @@ impl<'a> Refusal<'a> {
         match &self.ordered.rec.body {
             Body::Call(call) => Some(call.who),
             Body::Ret(ret) => Some(ret.who),
-            Body::Disp(_) | Body::Tick(_) => None,
+            Body::Disp(_) | Body::Tick(_) | Body::Arrive(_) | Body::Depart(_) => None,
         }
     }
 }

@@ -81,7 +81,7 @@ fn is_record(fields: &RowFields) -> bool {
         Some(kind) => find_kind(kind).is_some(),
         None => false,
     };
-    has_kind && matches!(fields.len(), 16 | 18)
+    has_kind && matches!(fields.len(), 16 | 18 | 19)
 }
 
 // Whether a row is two numbers.

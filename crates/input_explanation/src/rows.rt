@@ -4,7 +4,9 @@ use crate::likeness::tell_recording_likeness;
 use apex_types::Format;
 use apex_types::limits::{LONGEST_MESSAGE, LONGEST_NAME};
 use csv_rows::RowFields;
-use record_read::{Column, Misread, RowFault, find_service, read_record_explained, text};
+use record_read::{
+    Column, Kind, Misread, RowFault, find_kind, find_service, read_record_explained, text,
+};
 use std::alloc::Global;
 use std::fmt::Display;
 use wording::{Count, Found, Part, Words};
@@ -58,17 +60,13 @@ fn tell_expected(words: &mut Words, fault: RowFault, column: Column, row: Row<'_
     match fault {
         RowFault::BadNumber => expect_number(words, column),
         RowFault::SeqGap => expect(words, row.number),
-        RowFault::BadKind => expect(words, "call, ret, disp or tick"),
+        RowFault::BadKind => expect(words, kinds_of(row.format)),
         RowFault::FieldNotForKind => words.say(if given.is_empty() {
             " and must be filled"
         } else {
             " and must be empty"
         }),
-        RowFault::BadService => words.say(if find_service(given).is_some() {
-            ", a service of format 2 only"
-        } else {
-            ", which is not the name of a service"
-        }),
+        RowFault::BadService => tell_service(words, given),
         RowFault::BadName => expect(
             words,
             format_args!("1 to {LONGEST_NAME} bytes from 0x20 to 0x7E"),
@@ -89,21 +87,41 @@ fn tell_expected(words: &mut Words, fault: RowFault, column: Column, row: Row<'_
     }
 }
 
+// The kinds of rows that a format has.
+fn kinds_of(format: Format) -> &'static str {
+    match format {
+        Format::One | Format::Two => "call, ret, disp or tick",
+        Format::Three => "call, ret, disp, tick, arrive or depart",
+    }
+}
+
+// Reports why a service may not be named: the format of the recording does not have it, or there is none of this name.
+fn tell_service(words: &mut Words, given: &[u8]) {
+    match find_service(given) {
+        Some(service) => match service.since() {
+            Format::Three => words.say(", a service of format 3 only"),
+            Format::One | Format::Two => words.say(", a service of format 2 and later"),
+        },
+        None => words.say(", which is not the name of a service"),
+    }
+}
+
 // Reports what was expected.
 fn expect(words: &mut Words, expected: impl Display + Drop) {
     words.say("; expected ");
     words.say_part(Part::Expected, expected);
 }
 
-// Reports how many fields a row must have: as many as the first row, which may have either number.
+// Reports how many fields a row must have: as many as the first row, which has the number of its format.
 fn expect_field_count(words: &mut Words, row: Row<'_>) {
     if row.number == 0 {
         expect(
             words,
             format_args!(
-                "{}, or {} in format 2",
+                "{}, {} in format 2, or {} in format 3",
                 Count(Format::One.field_count(), "field"),
-                Format::Two.field_count()
+                Format::Two.field_count(),
+                Format::Three.field_count()
             ),
         );
     } else {
@@ -127,7 +145,7 @@ fn expect_number(words: &mut Words, column: Column) {
 
 // Reports how many bytes the message in a column can have.
 fn expect_length(words: &mut Words, column: Column, fields: &RowFields) {
-    if column == Column::Message {
+    if column == Column::Message && find_kind(text(fields, Column::Kind)) == Some(Kind::Call) {
         let length = text(fields, Column::SecondNumber);
         expect(
             words,

@@ -1,12 +1,12 @@
 //! Queues of messages, with senders and receivers that wait: what buffers and queuing channels have in common.
 //!
 //! Promises: contracts see a queue as its capacity, its messages, and its two waiting sets, each with a discipline of its own. The queue
-//! answers what a send and a receive give their callers. Carried out by a claim that is that answer, they leave the queue that the
-//! definitions' rule leaves, including both waiting sets. If memory is refused, nothing has changed. Memory for the places of the messages
-//! is taken once, when the queue is made. A message is copied once, when the queue holds it or its sender waits with it; the message of a
-//! sender that moves up is not copied again.
+//! answers what a send, a receive and a clear give their callers, and what a message from or to the outside gives. Carried out by a claim
+//! that is that answer, they leave the queue that the definitions' rule leaves, including both waiting sets. If memory is refused, nothing
+//! has changed. Memory for the places of the messages is taken once, when the queue is made. A message is copied once, when the queue holds
+//! it or its sender waits with it; the message of a sender that moves up is not copied again.
 //!
-//! A send and a receive judge what a call claims against what the rule gives, and carry it out if the two agree.
+//! Each of them is judged against what the rule gives, and carried out if the two agree.
 //!
 //! A queue requires neither a partition nor a name:
 //!

@@ -1,7 +1,8 @@
 // Queues of messages.
 
-ghost use Rattle.std.specs.Prelude.{◌≡◌, ◌↔◌, ◌<◌, ◌||◌, ℕ, List, [], length, nat_eq, slice_get, IfOk, IsTrue, OnErr, OnOk};
+ghost use Rattle.std.specs.Prelude.{◌≡◌, ◌↔◌, ◌<◌, ◌||◌, ℕ, List, [], is_some, length, nat_eq, pos, slice_get, IfOk, IsTrue, OnErr, OnOk};
 ghost use Rattle.std.specs.Option.{option_copied};
+ghost use Rattle.apex_machine.specs.Answer.{NamesExactly};
 ghost use Rattle.apex_machine.specs.Demands.{AllHold, answer_demands, has_entry_in};
 ghost use Rattle.apex_machine.specs.State.{is_named, is_same};
 ghost use Rattle.wait_set.specs.Actors.{WaitsAlone, entry_with};
@@ -9,7 +10,7 @@ ghost use Rattle.wait_set.specs.Givens.{answer_given};
 ghost use Rattle.wait_set.specs.Sets.{IsNew};
 ghost use Rattle.message_queue.specs.Queues as rules;
 
-use apex_types::{Claim, Discipline, Message, PartId, Who};
+use apex_types::{Claim, Discipline, Message, PartId, Who, Woken};
 use circular_buffer::HeapCircularBuffer;
 use std::alloc::{AllocError, Global};
 use std::marker::Model;
@@ -167,13 +168,70 @@ impl MessageQueue {
         Ok(())
     }
 
-    // The message of the first sender that waits, if one waits, becomes the newest. There is room for it.
-    fn move_up(&mut self)
+    // The message of the first sender that waits, if one waits, becomes the newest. There is room for it. Returns whether one waited.
+    fn move_up(&mut self) -> bool
         requires room { length self.old.messages < self.old.capacity }
-        ensures { self.new ≡ rules.moved_up (rules.first_of self.old.senders) self.old }
+        ensures moved { self.new ≡ rules.moved_up (rules.first_of self.old.senders) self.old }
+        ensures waited { result ≡ is_some (rules.first_of self.old.senders) }
     {
-        if let Some(entry) = self.senders.take_first() {
-            self.messages.push_back(entry.message);
+        match self.senders.take_first() {
+            Some(entry) => {
+                self.messages.push_back(entry.message);
+                true
+            }
+            None => false,
+        }
+    }
+
+    /// What a clear gives its caller: the waits of the first senders end, of as many as there is room for.
+    pub fn answer_to_clear(&self) -> Given<'_>
+        ensures { answer_given result ≡ (rules.cleared_of self.now).answer }
+    {
+        Given::waking_first(&self.senders, self.messages.capacity())
+    }
+
+    /// Clears the queue, if the claim is what a clear gives. The messages are gone; those of the first senders that wait move up, as many as
+    /// there is room for. Takes no memory.
+    pub fn clear(&mut self, claim: &Claim)
+        requires given { AllHold (answer_demands (rules.cleared_of self.old).answer claim.now) }
+        ensures after { self.new ≡ rules.after_clear claim.now self.old }
+    {
+        self.messages.clear();
+        'senders: while self.has_room() && self.move_up() {}
+    }
+
+    /// What the arrival of a message from outside gives: the wait of the first receiver that waits ends, if one waits.
+    pub fn answer_to_arrival(&self) -> Given<'_>
+        ensures { (message : List ℕ) → answer_given result ≡ (rules.sent_to message (pos 0) self.now).answer }
+    {
+        self.answer_to_send(0)
+    }
+
+    /// A message arrives from outside. The first receiver that waits gets it, and is the only one that the list names; else, if there is
+    /// room, the queue holds it; else it is lost.
+    ///
+    /// AllocError if memory is refused for the message; nothing is changed then.
+    pub fn arrive(&mut self, message: &Message, woken: &Woken) -> Result<(), AllocError>
+        requires given { NamesExactly (rules.sent_to message.now (pos 0) self.old).answer.woken woken.now }
+        ensures after { OnOk result (self.new ≡ rules.after_arrival message.now woken.now self.old) }
+        ensures unchanged { OnErr result (self.new ≡ self.old) }
+    {
+        if self.receivers.first().is_none() && self.has_room() {
+            let bytes = Vec::from_slice(self.alloc, message.as_bytes())?;
+            self.messages.push_back(Message::new(bytes));
+        }
+        self.receivers.release(woken.as_slice());
+        Ok(())
+    }
+
+    /// The oldest message, if there is one, departs to the outside, and the message of the first sender that waits moves up. Takes no
+    /// memory.
+    pub fn depart(&mut self, woken: &Woken)
+        requires given { NamesExactly (rules.received_from (pos 0) self.old).answer.woken woken.now }
+        ensures { self.new ≡ rules.after_departure woken.now self.old }
+    {
+        if self.messages.pop_front().is_some() {
+            self.move_up();
         }
     }
 

@@ -1,8 +1,11 @@
 -- What the tables of channels configure, read key by key.
-use Rattle.std.specs.Prelude.{ℕ, List, Option, Result, Ok}
-use Rattle.toml.specs.Data.{Data, Items, Members}
+use Rattle.std.specs.Prelude.{ℕ, List, Option, Some, None, Result, Ok}
+use Rattle.toml.specs.Data.{Data, Items, no_items, Members}
 use Rattle.apex_types.specs.declared.discipline.Discipline.{Discipline}
+use Rattle.apex_types.specs.declared.discipline.Discipline.TheVariants as discipline
 use Rattle.apex_types.specs.declared.limits.TheConstants.{GREATEST_CHANNEL, GREATEST_PARTITION, LONGEST_MESSAGE, MOST_DESTINATIONS, MOST_MESSAGES}
+use Rattle.apex_machine.specs.declared.state.Direction.{Direction}
+use Rattle.apex_machine.specs.declared.state.Direction.TheVariants as direction
 use Rattle.apex_machine.specs.Configuration.{ChannelEnd, QueuingChannel, SamplingChannel}
 use Rattle.module_config.specs.declared.fault.ConfigFault.{ConfigFault}
 use Rattle.module_config.specs.declared.keys.ItemType.TheVariants as of
@@ -11,7 +14,7 @@ use Rattle.module_config.specs.declared.place.ConfigKey.TheVariants as key
 use Rattle.module_config.specs.declared.place.ConfigTable.{ConfigTable}
 use Rattle.module_config.specs.declared.place.ConfigTable.TheVariants as table
 use Rattle.module_config.specs.declared.refusal.ConfigRefusal.{ConfigRefusal}
-use Rattle.module_config.specs.Keys.{◌>>=◌, at_most, discipline_at, each_item, integer_at, name_at, some_at, table_at, table_in, ticks_at}
+use Rattle.module_config.specs.Keys.{◌>>=◌, at_most, discipline_at, each_item, integer_at, name_at, outside_at, some_at, table_at, table_in, ticks_at}
 use Rattle.module_config.specs.Places.{at, each_under, item_in, placed}
 
 -- the end of a channel that a table describes: a partition's number, and the name of its port
@@ -37,6 +40,25 @@ some_ends_at value = some_at of.Table value >>= at_most MOST_DESTINATIONS
 abbrev pub destinations_under : ℕ → Members → Result (List ChannelEnd) ConfigRefusal
 destinations_under channel keys = at (table.Item key.Sampling channel) keys key.Destinations some_ends_at >>= each_item (destination_in channel)
 
+-- a list of 1 to 32 tables, which may be missing
+abbrev pub ends_if_there_at : Option Data → Result Items ConfigFault
+ends_if_there_at None = Ok no_items
+ends_if_there_at (Some value) = some_ends_at (Some value)
+
+-- the destinations of the sampling channel at an index, whose list may be missing: there are none then
+abbrev pub destinations_if_there : ℕ → Members → Result (List ChannelEnd) ConfigRefusal
+destinations_if_there channel keys = at (table.Item key.Sampling channel) keys key.Destinations ends_if_there_at >>= each_item (destination_in channel)
+
+-- the source of a sampling channel, of which this end is outside
+abbrev pub source_beside : Option Direction → ℕ → Members → Result (Option ChannelEnd) ConfigRefusal
+source_beside (Some direction.Source) index keys = Ok None
+source_beside _ index keys = end_under key.Sampling index keys key.Source >>= (λ source. Ok (Some source))
+
+-- the destinations of a sampling channel, of which this end is outside
+abbrev pub destinations_beside : Option Direction → ℕ → Members → Result (List ChannelEnd) ConfigRefusal
+destinations_beside (Some direction.Destination) index keys = destinations_if_there index keys
+destinations_beside _ index keys = destinations_under index keys
+
 -- the number of a channel, and the greatest size of its messages
 abbrev pub number_and_size : ConfigTable → Members → Result (ℕ × ℕ) ConfigRefusal
 number_and_size own keys =
@@ -48,9 +70,10 @@ abbrev pub sampling_by : ℕ → Members → Result SamplingChannel ConfigRefusa
 sampling_by index keys =
     number_and_size (table.Item key.Sampling index) keys >>= (λ channel.
     at (table.Item key.Sampling index) keys key.Refresh ticks_at >>= (λ refresh.
-    end_under key.Sampling index keys key.Source >>= (λ source.
-    destinations_under index keys >>= (λ destinations.
-    Ok (record { number = channel.0; size = channel.1; refresh = refresh; source = source; destinations = destinations })))))
+    at (table.Item key.Sampling index) keys key.Outside outside_at >>= (λ outside.
+    source_beside outside index keys >>= (λ source.
+    destinations_beside outside index keys >>= (λ destinations.
+    Ok (record { number = channel.0; size = channel.1; refresh = refresh; source = source; destinations = destinations }))))))
 
 -- the sampling channel at an index of the list, which must be a table
 abbrev pub sampling_in : ℕ → Data → Result SamplingChannel ConfigRefusal
@@ -61,18 +84,29 @@ abbrev pub sampling_under : Members → Result (List SamplingChannel) ConfigRefu
 sampling_under keys = each_under table.Module keys key.Sampling sampling_in
 
 -- an end of a queuing channel and its port's discipline, each under its key
-abbrev pub queuing_end_under : ℕ → Members → ConfigKey → ConfigKey → Result (ChannelEnd × Discipline) ConfigRefusal
+abbrev pub queuing_end_under : ℕ → Members → ConfigKey → ConfigKey → Result (Option ChannelEnd × Discipline) ConfigRefusal
 queuing_end_under index keys end discipline =
     end_under key.Queuing index keys end >>= (λ place.
-    at (table.Item key.Queuing index) keys discipline discipline_at >>= (λ own. Ok (place, own)))
+    at (table.Item key.Queuing index) keys discipline discipline_at >>= (λ own. Ok (Some place, own)))
+
+-- the source of a queuing channel, of which this end is outside; no process waits at an end outside
+abbrev pub queuing_source_beside : Option Direction → ℕ → Members → Result (Option ChannelEnd × Discipline) ConfigRefusal
+queuing_source_beside (Some direction.Source) index keys = Ok (None, discipline.Fifo)
+queuing_source_beside _ index keys = queuing_end_under index keys key.Source key.SourceDiscipline
+
+-- the destination of a queuing channel, of which this end is outside
+abbrev pub queuing_destination_beside : Option Direction → ℕ → Members → Result (Option ChannelEnd × Discipline) ConfigRefusal
+queuing_destination_beside (Some direction.Destination) index keys = Ok (None, discipline.Fifo)
+queuing_destination_beside _ index keys = queuing_end_under index keys key.Destination key.DestinationDiscipline
 
 -- what the keys of a queuing channel's table configure, at an index of the list
 abbrev pub queuing_by : ℕ → Members → Result QueuingChannel ConfigRefusal
 queuing_by index keys =
     number_and_size (table.Item key.Queuing index) keys >>= (λ channel.
     at (table.Item key.Queuing index) keys key.Capacity (integer_at 1 MOST_MESSAGES) >>= (λ capacity.
-    queuing_end_under index keys key.Source key.SourceDiscipline >>= (λ source.
-    queuing_end_under index keys key.Destination key.DestinationDiscipline >>= (λ destination.
+    at (table.Item key.Queuing index) keys key.Outside outside_at >>= (λ outside.
+    queuing_source_beside outside index keys >>= (λ source.
+    queuing_destination_beside outside index keys >>= (λ destination.
     Ok (record {
       number = channel.0;
       size = channel.1;
@@ -81,7 +115,7 @@ queuing_by index keys =
       source_discipline = source.1;
       destination = destination.0;
       destination_discipline = destination.1;
-    })))))
+    }))))))
 
 -- the queuing channel at an index of the list, which must be a table
 abbrev pub queuing_in : ℕ → Data → Result QueuingChannel ConfigRefusal

@@ -7,6 +7,10 @@ use Rattle.toml.specs.Text.{has_items}
 use Rattle.apex_types.specs.declared.limits.TheConstants.{GREATEST_SPAN, LONGEST_NAME}
 use Rattle.apex_types.specs.declared.discipline.Discipline.{Discipline}
 use Rattle.apex_types.specs.declared.discipline.Discipline.TheVariants as discipline
+use Rattle.apex_machine.specs.declared.state.Direction.{Direction}
+use Rattle.apex_machine.specs.declared.state.Direction.TheVariants as direction
+use Rattle.apex_machine.specs.declared.state.ErrorPolicy.{ErrorPolicy}
+use Rattle.apex_machine.specs.declared.state.ErrorPolicy.TheVariants as policy
 use Rattle.module_config.specs.declared.fault.ConfigFault.{ConfigFault}
 use Rattle.module_config.specs.declared.fault.ConfigFault.TheVariants.{Missing, WrongType, OutOfRange, Memory}
 use Rattle.module_config.specs.declared.keys.ItemType.{ItemType}
@@ -96,6 +100,32 @@ discipline_in text =
 -- the discipline under a key
 abbrev pub discipline_at : Option Data → Result Discipline ConfigFault
 discipline_at value = text_at value >>= discipline_in
+
+-- the end of this name
+abbrev pub end_named : List ℕ → Result (Option Direction) ConfigFault
+end_named text =
+    if bytes_eq text (codes "SOURCE") then Ok (Some direction.Source)
+    else if bytes_eq text (codes "DESTINATION") then Ok (Some direction.Destination)
+    else Err OutOfRange
+
+-- which end of a channel is outside the module: none if the key is missing
+abbrev pub outside_at : Option Data → Result (Option Direction) ConfigFault
+outside_at None = Ok None
+outside_at (Some value) = text_in value >>= end_named
+
+-- the policy of this name
+abbrev pub policy_named : List ℕ → Result ErrorPolicy ConfigFault
+policy_named text =
+    if bytes_eq text (codes "IGNORE") then Ok policy.Ignore
+    else if bytes_eq text (codes "IDLE") then Ok policy.Idle
+    else if bytes_eq text (codes "COLD_START") then Ok policy.ColdStart
+    else if bytes_eq text (codes "WARM_START") then Ok policy.WarmStart
+    else Err OutOfRange
+
+-- what is done about an error that no handler takes: it is ignored if the key is missing
+abbrev pub error_policy_at : Option Data → Result ErrorPolicy ConfigFault
+error_policy_at None = Ok policy.Ignore
+error_policy_at (Some value) = text_in value >>= policy_named
 
 -- a table
 abbrev pub table_in : Data → Result Members ConfigFault

@@ -12,7 +12,7 @@ use Rattle.module_config.specs.declared.place.ConfigTable.{ConfigTable}
 use Rattle.module_config.specs.declared.place.ConfigTable.TheVariants as table
 use Rattle.module_config.specs.declared.refusal.ConfigRefusal.{ConfigRefusal}
 use Rattle.module_config.specs.ChannelWalk.{queuing_under, sampling_under}
-use Rattle.module_config.specs.Keys.{◌>>=◌, integer_at, natural_at, ticks_at, some_at, each_item}
+use Rattle.module_config.specs.Keys.{◌>>=◌, error_policy_at, integer_at, natural_at, ticks_at, some_at, each_item}
 use Rattle.module_config.specs.Order.{comes_before, begins_before}
 use Rattle.module_config.specs.Places.{at, each_under, item_in}
 
@@ -52,6 +52,7 @@ partition_by count own keys =
     at own keys key.Semaphores objects_at >>= (λ semaphores.
     at own keys key.Events objects_at >>= (λ events.
     at own keys key.Mutexes objects_at >>= (λ mutexes.
+    at own keys key.OnError error_policy_at >>= (λ on_error.
     Ok (record {
       number = number;
       period = period;
@@ -62,7 +63,8 @@ partition_by count own keys =
       semaphores = semaphores;
       events = events;
       mutexes = mutexes;
-    }))))))))))
+      on_error = on_error;
+    })))))))))))
 
 -- the partition at an index of the list, which must be a table
 abbrev pub partition_in : ℕ → ℕ → Data → Result PartitionLimits ConfigRefusal

@@ -43,16 +43,19 @@ impl Config {
     {
         if let Some(channel) = find(&self.layout.queuing, chan.number()) {
             return Some(ChannelKind::Queuing {
+                size: channel.size,
                 capacity: channel.capacity,
                 sending: channel.source_discipline,
                 receiving: channel.destination_discipline,
-                source: channel.source.partition,
-                destination: channel.destination.partition,
+                source: channel.source.as_ref().map(|end| end.partition),
+                destination: channel.destination.as_ref().map(|end| end.partition),
             });
         }
         let channel = find(&self.layout.sampling, chan.number())?;
         Some(ChannelKind::Sampling {
+            size: channel.size,
             refresh: channel.refresh,
+            from_outside: channel.source.is_none(),
         })
     }
 

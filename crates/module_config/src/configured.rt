@@ -1,13 +1,14 @@
 // What channels of both kinds have in common: a number, a source and destinations.
 
-ghost use Rattle.std.specs.Prelude.{◌≡◌, ◌+◌, ◌*◌, ◌≤◌, ◌&&◌, ◌∷◌, List, length, nat_eq, not, option_map};
+ghost use Rattle.std.specs.Prelude.{◌≡◌, ◌+◌, ◌*◌, ◌≤◌, ◌&&◌, ◌++◌, List, Option, length, nat_eq, not, option_map};
 ghost use Rattle.std.specs.List.{find, flat_map, list_any};
 ghost use Rattle.apex_types.specs.declared.limits.TheConstants.{MOST_CHANNELS, MOST_DESTINATIONS};
-ghost use Rattle.apex_machine.specs.Channels.{end_among};
+ghost use Rattle.std.specs.Option.{option_copied};
+ghost use Rattle.apex_machine.specs.Channels.{end_among, ends_inside};
 ghost use Rattle.apex_machine.specs.Configuration.{ChannelEnd};
 ghost use Rattle.module_config.specs.Ends.{count_alike, is_joined};
 
-use crate::ends::{Likeness, PortEnd, has_end_of, has_port};
+use crate::ends::{Likeness, PortEnd, has_end_of, has_port, is_joined};
 use crate::number::Numbered;
 use crate::partition::Partition;
 use apex_machine::Direction;
@@ -15,17 +16,17 @@ use apex_types::{ChanId, Name, PartId};
 
 /// A channel of one kind, by its ends.
 pub(crate) trait ConfiguredChannel {
-    // The end that sends.
-    ghost source_of: { Self → ChannelEnd };
+    // The end that sends, unless it is outside.
+    ghost source_of: { Self → Option ChannelEnd };
 
-    // The ends that receive.
+    // The ends inside that receive.
     ghost destinations_of: { Self → List ChannelEnd };
 
-    /// The end that sends.
-    fn source(&self) -> &PortEnd
-        ensures { result.now ≡ source_of self.now };
+    /// The end that sends, unless it is outside.
+    fn source(&self) -> Option<&PortEnd>
+        ensures { option_copied result ≡ source_of self.now };
 
-    /// The ends that receive.
+    /// The ends inside that receive.
     fn destinations(&self) -> &[PortEnd]
         ensures value { result.now ≡ destinations_of self.now }
         ensures most { length result.now ≤ MOST_DESTINATIONS };
@@ -37,14 +38,13 @@ fn count_of<Channel: ConfiguredChannel>(
     likeness: Likeness,
     end: &PortEnd,
 ) -> usize
-    ensures value { result ≡ count_alike likeness end.now (Channel.source_of channel.now ∷ Channel.destinations_of channel.now) }
+    ensures value { result ≡ count_alike likeness end.now (ends_inside (Channel.source_of channel.now) ++ Channel.destinations_of channel.now) }
     ensures most { result ≤ MOST_DESTINATIONS + 1 }
 {
     let others = end.count_alike(likeness, channel.destinations());
-    if end.is_alike(likeness, channel.source()) {
-        others + 1
-    } else {
-        others
+    match channel.source() {
+        Some(source) if end.is_alike(likeness, source) => others + 1,
+        Some(_) | None => others,
     }
 }
 
@@ -55,7 +55,7 @@ pub(crate) fn count_alike<Channel: ConfiguredChannel>(
     end: &PortEnd,
 ) -> usize
     requires { length channels.now ≤ MOST_CHANNELS }
-    ensures value { result ≡ count_alike likeness end.now (flat_map (λ channel. Channel.source_of channel ∷ Channel.destinations_of channel) channels.now) }
+    ensures value { result ≡ count_alike likeness end.now (flat_map (λ channel. ends_inside (Channel.source_of channel) ++ Channel.destinations_of channel) channels.now) }
     ensures most { result ≤ (MOST_DESTINATIONS + 1) * MOST_CHANNELS }
 {
     let mut count = 0;
@@ -73,9 +73,7 @@ pub(crate) fn find_unjoined<'a, Channel: ConfiguredChannel>(
     ensures { option_map (λ channel. channel.now) result ≡ find (λ channel. not (is_joined partitions.now (Channel.source_of channel) (Channel.destinations_of channel))) channels.now }
 {
     channels.iter().find(|channel| {
-        !channel
-            .source()
-            .is_joined(partitions, channel.destinations())
+        !is_joined(partitions, channel.source(), channel.destinations())
     })
 }
 
@@ -88,7 +86,10 @@ pub(crate) fn find_end<'a, Channel: ConfiguredChannel>(
     ensures { option_map (λ found. (found.0.now, found.1)) result ≡ end_among Channel.source_of Channel.destinations_of part name.now channels.now }
 {
     for channel in channels {
-        if channel.source().is_port(part, name) {
+        if channel
+            .source()
+            .is_some_and(|source| source.is_port(part, name))
+        {
             return Some((channel, Direction::Source));
         }
         if has_port(channel.destinations(), part, name) {
@@ -104,14 +105,17 @@ pub(crate) fn has_end<Channel: Numbered + ConfiguredChannel>(
     number: ChanId,
     part: PartId,
 ) -> bool
-    ensures { result ≡ list_any (λ channel. nat_eq (Channel.number_of channel) number && list_any (λ place. nat_eq place.partition part) (Channel.source_of channel ∷ Channel.destinations_of channel)) channels.now }
+    ensures { result ≡ list_any (λ channel. nat_eq (Channel.number_of channel) number && list_any (λ place. nat_eq place.partition part) (ends_inside (Channel.source_of channel) ++ Channel.destinations_of channel)) channels.now }
 {
     channels.iter().any(|channel| channel.number() == number.number() && is_at_end(channel, part))
 }
 
 // Whether a partition is at an end of a channel.
 fn is_at_end<Channel: ConfiguredChannel>(channel: &Channel, part: PartId) -> bool
-    ensures { result ≡ list_any (λ place. nat_eq place.partition part) (Channel.source_of channel.now ∷ Channel.destinations_of channel.now) }
+    ensures { result ≡ list_any (λ place. nat_eq place.partition part) (ends_inside (Channel.source_of channel.now) ++ Channel.destinations_of channel.now) }
 {
-    channel.source().partition() == part || has_end_of(channel.destinations(), part)
+    channel
+        .source()
+        .is_some_and(|source| source.partition() == part)
+        || has_end_of(channel.destinations(), part)
 }

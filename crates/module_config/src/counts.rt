@@ -1,10 +1,10 @@
 // The numbers of the channels, and their ends, counted over both kinds.
 
-ghost use Rattle.std.specs.Prelude.{◌≡◌, ◌+◌, ◌≤◌, ◌∷◌, length, map, nat_lt, option_map};
+ghost use Rattle.std.specs.Prelude.{◌≡◌, ◌+◌, ◌≤◌, ◌++◌, length, map, nat_lt, option_map};
 ghost use Rattle.std.specs.List.{find, flat_map};
 ghost use Rattle.arrayvec.specs.ArrayVec.{array_vec_len};
 ghost use Rattle.apex_types.specs.declared.limits.TheConstants.{MOST_CHANNELS};
-ghost use Rattle.apex_machine.specs.Channels.{channel_numbers, in_order};
+ghost use Rattle.apex_machine.specs.Channels.{channel_numbers, ends_inside, in_order};
 ghost use Rattle.module_config.specs.Ends.{ends_of, is_exceeded};
 ghost use Rattle.module_config.specs.Laid.{laid_out};
 
@@ -67,7 +67,7 @@ impl<'a> EndCount<'a> {
         channels: &'a [Channel],
     ) -> Option<&'a PortEnd>
         requires { length self.now.sampling.now + length self.now.queuing.now ≤ MOST_CHANNELS }
-        ensures { option_map (λ end. end.now) result ≡ find (is_exceeded self.now.likeness self.now.most (ends_of self.now.sampling.now self.now.queuing.now)) (flat_map (λ channel. Channel.source_of channel ∷ Channel.destinations_of channel) channels.now) }
+        ensures { option_map (λ end. end.now) result ≡ find (is_exceeded self.now.likeness self.now.most (ends_of self.now.sampling.now self.now.queuing.now)) (flat_map (λ channel. ends_inside (Channel.source_of channel) ++ Channel.destinations_of channel) channels.now) }
     {
         for channel in channels {
             if let Some(end) = self.find_exceeded_of(channel) {
@@ -83,12 +83,12 @@ impl<'a> EndCount<'a> {
         channel: &'a Channel,
     ) -> Option<&'a PortEnd>
         requires { length self.now.sampling.now + length self.now.queuing.now ≤ MOST_CHANNELS }
-        ensures { option_map (λ end. end.now) result ≡ find (is_exceeded self.now.likeness self.now.most (ends_of self.now.sampling.now self.now.queuing.now)) (Channel.source_of channel.now ∷ Channel.destinations_of channel.now) }
+        ensures { option_map (λ end. end.now) result ≡ find (is_exceeded self.now.likeness self.now.most (ends_of self.now.sampling.now self.now.queuing.now)) (ends_inside (Channel.source_of channel.now) ++ Channel.destinations_of channel.now) }
     {
-        if self.is_exceeded_at(channel.source()) {
-            return Some(channel.source());
+        match channel.source() {
+            Some(source) if self.is_exceeded_at(source) => Some(source),
+            Some(_) | None => self.find_exceeded_among(channel.destinations()),
         }
-        self.find_exceeded_among(channel.destinations())
     }
 
     // The first of these ends that has more than `most` ends alike it, if there is one.

@@ -2,16 +2,17 @@
 
 ghost use Rattle.std.specs.Prelude.{◌≡◌, ◌≤◌, IfOk, length, nat_eq};
 ghost use Rattle.std.specs.List.{list_all, list_any};
+ghost use Rattle.std.specs.Option.{option_copied};
 ghost use Rattle.toml.specs.Data.{get_member};
 ghost use Rattle.toml.specs.View.{view, table_view, items_view};
 ghost use Rattle.apex_types.specs.declared.limits.TheConstants.{MOST_DESTINATIONS};
 ghost use Rattle.apex_machine.specs.Channels.{is_port};
-ghost use Rattle.module_config.specs.ChannelWalk.{destination_in, destinations_under, end_by, end_under, some_ends_at};
-ghost use Rattle.module_config.specs.Ends.{count_alike, goes_to, is_alike, is_joined};
+ghost use Rattle.module_config.specs.ChannelWalk.{destination_in, destinations_if_there, destinations_under, end_by, end_under, ends_if_there_at, some_ends_at};
+ghost use Rattle.module_config.specs.Ends.{count_alike, goes_to, has_number, is_alike, is_joined};
 ghost use Rattle.module_config.specs.Keys.{Reads, each_item};
 
 use crate::fault::ConfigFault;
-use crate::keys::{ItemType, short_bytes, some_items, table};
+use crate::keys::{ItemType, member, short_bytes, some_items, table};
 use crate::partition::Partition;
 use crate::place::{ConfigKey, ConfigTable};
 use crate::placed::{PlacedKeys, placed};
@@ -149,27 +150,46 @@ impl PortEnd {
             .count()
     }
 
-    /// Whether a channel from this end may go to another: the other end is of another partition, which is configured.
-    pub(crate) fn goes_to(&self, partitions: &[Partition], other: &PortEnd) -> bool
-        ensures { result ≡ goes_to partitions.now self.now other.now }
-    {
-        find_partition(partitions, other.partition).is_some() && self.partition != other.partition
-    }
-
-    /// Whether this end's partition is configured, and a channel from it may go to each of the others.
-    pub(crate) fn is_joined(&self, partitions: &[Partition], others: &[PortEnd]) -> bool
-        ensures { result ≡ is_joined partitions.now self.now others.now }
+    // Whether the end's partition is configured.
+    fn is_configured(&self, partitions: &[Partition]) -> bool
+        ensures { result ≡ has_number self.now.partition partitions.now }
     {
         find_partition(partitions, self.partition).is_some()
-            && self.goes_to_each(partitions, others)
     }
+}
 
-    // Whether a channel from this end may go to each of these.
-    fn goes_to_each(&self, partitions: &[Partition], others: &[PortEnd]) -> bool
-        ensures { result ≡ list_all (goes_to partitions.now self.now) others.now }
-    {
-        others.iter().all(|other| self.goes_to(partitions, other))
-    }
+/// Whether a channel between these ends joins configured partitions: the partition of each end is configured, and no destination is of the
+/// source's partition. A source is None if it is outside.
+pub(crate) fn is_joined(
+    partitions: &[Partition],
+    source: Option<&PortEnd>,
+    destinations: &[PortEnd],
+) -> bool
+    ensures { result ≡ is_joined partitions.now (option_copied source.entry) destinations.now }
+{
+    source.is_none_or(|end| end.is_configured(partitions))
+        && goes_to_each(partitions, source, destinations)
+}
+
+// Whether a channel from this source may go to each of these.
+fn goes_to_each(
+    partitions: &[Partition],
+    source: Option<&PortEnd>,
+    destinations: &[PortEnd],
+) -> bool
+    ensures { result ≡ list_all (goes_to partitions.now (option_copied source.entry)) destinations.now }
+{
+    destinations
+        .iter()
+        .all(|destination| goes_to(partitions, source, destination))
+}
+
+// Whether a channel from this source may go to a destination: its partition is configured, and is not the source's.
+fn goes_to(partitions: &[Partition], source: Option<&PortEnd>, destination: &PortEnd) -> bool
+    ensures { result ≡ goes_to partitions.now (option_copied source.entry) destination.now }
+{
+    destination.is_configured(partitions)
+        && !source.is_some_and(|end| end.partition == destination.partition)
 }
 
 /// Whether a partition is at one of these ends.
@@ -184,6 +204,19 @@ pub(crate) fn has_port(ends: &[PortEnd], part: PartId, name: &Name) -> bool
     ensures { result ≡ list_any (is_port part name.now) ends.now }
 {
     ends.iter().any(|end| end.is_port(part, name))
+}
+
+/// The destinations of the sampling channel at an index, whose list may be missing: there are none then.
+pub(crate) fn destinations_if_there(
+    keys: &Table,
+    channel: usize,
+) -> Result<ArrayVec<PortEnd, MOST_DESTINATIONS>, ConfigRefusal>
+    ensures { Reads (λ ends. ends.items) result (destinations_if_there channel (table_view keys.now)) }
+{
+    if member(keys, ConfigKey::Destinations.text()).is_none() {
+        return Ok(ArrayVec::new());
+    }
+    destinations_under(keys, channel)
 }
 
 /// The destinations of the sampling channel at an index: a list of 1 to 32 tables.

@@ -5,10 +5,11 @@ ghost use Rattle.std.specs.List.{list_all};
 ghost use Rattle.toml.specs.Data.{get_member};
 ghost use Rattle.toml.specs.View.{view, table_view, items_view};
 ghost use Rattle.apex_types.specs.declared.limits.TheConstants.{GREATEST_SPAN, LONGEST_NAME};
-ghost use Rattle.module_config.specs.Keys.{Reads, required, natural_at, integer_at, ticks_at, text_at, name_at, discipline_at, is_name, is_printable, is_of, all_items, list_of, some_at, table_at, table_in, tables_at};
+ghost use Rattle.module_config.specs.Keys.{Reads, required, text_in, natural_at, integer_at, ticks_at, text_at, name_at, discipline_at, error_policy_at, outside_at, is_name, is_printable, is_of, all_items, list_of, some_at, table_at, table_in, tables_at};
 ghost use Rattle.module_config.specs.Walk.{objects_at};
 
 use crate::fault::ConfigFault;
+use apex_machine::{Direction, ErrorPolicy};
 use apex_types::Discipline;
 use apex_types::limits::{GREATEST_SPAN, LONGEST_NAME, MOST_OBJECTS};
 use arrayvec::ArrayVec;
@@ -71,14 +72,21 @@ pub(crate) fn objects(table: &Table, key: &str) -> Result<u32, ConfigFault>
     Ok(number as u32)
 }
 
+// The string that a value is.
+fn text_in<'a>(value: &'a Value) -> Result<&'a str, ConfigFault>
+    ensures { Reads (λ text. text.now) result (text_in (view value.now)) }
+{
+    match value.as_str() {
+        Some(text) => Ok(text),
+        None => Err(ConfigFault::WrongType),
+    }
+}
+
 // The string under a required key.
 fn text<'a>(table: &'a Table, key: &str) -> Result<&'a str, ConfigFault>
     ensures { Reads (λ text. text.now) result (text_at (get_member key.now (table_view table.now))) }
 {
-    match required(table, key)?.as_str() {
-        Some(text) => Ok(text),
-        None => Err(ConfigFault::WrongType),
-    }
+    text_in(required(table, key)?)
 }
 
 /// The name under a required key, which must have 1 to 32 bytes, all printable ASCII.
@@ -129,6 +137,47 @@ pub(crate) fn discipline(table: &Table, key: &str) -> Result<Discipline, ConfigF
     }
     if name == "PRIORITY" {
         return Ok(Discipline::Priority);
+    }
+    Err(ConfigFault::OutOfRange)
+}
+
+/// The end of a channel that is outside the module, by the value under a key: "SOURCE" or "DESTINATION"; none if the key is missing.
+pub(crate) fn outside(table: &Table, key: &str) -> Result<Option<Direction>, ConfigFault>
+    ensures { result ≡ outside_at (get_member key.now (table_view table.now)) }
+{
+    let Some(value) = member(table, key) else {
+        return Ok(None);
+    };
+    let name = text_in(value)?;
+    if name == "SOURCE" {
+        return Ok(Some(Direction::Source));
+    }
+    if name == "DESTINATION" {
+        return Ok(Some(Direction::Destination));
+    }
+    Err(ConfigFault::OutOfRange)
+}
+
+/// What is done about an error that no handler takes, by the value under a key: "IGNORE", which also holds if the key is missing, "IDLE",
+/// "COLD_START" or "WARM_START".
+pub(crate) fn error_policy(table: &Table, key: &str) -> Result<ErrorPolicy, ConfigFault>
+    ensures { result ≡ error_policy_at (get_member key.now (table_view table.now)) }
+{
+    let Some(value) = member(table, key) else {
+        return Ok(ErrorPolicy::Ignore);
+    };
+    let name = text_in(value)?;
+    if name == "IGNORE" {
+        return Ok(ErrorPolicy::Ignore);
+    }
+    if name == "IDLE" {
+        return Ok(ErrorPolicy::Idle);
+    }
+    if name == "COLD_START" {
+        return Ok(ErrorPolicy::ColdStart);
+    }
+    if name == "WARM_START" {
+        return Ok(ErrorPolicy::WarmStart);
     }
     Err(ConfigFault::OutOfRange)
 }

@@ -6,12 +6,14 @@ use crate::number::Numbered;
 use crate::place::{ConfigKey, ConfigTable};
 use crate::placed::{PlacedKeys, item};
 use crate::refusal::ConfigRefusal;
+use apex_machine::ErrorPolicy;
 use apex_types::PartId;
 use apex_types::limits::{GREATEST_PARTITION, MOST_PROCESSES};
 use std::marker::Model;
 use toml::Value;
 
-/// A partition: its number, period and cores, and how many processes and objects of each kind it may create.
+/// A partition: its number, period and cores, how many processes and objects of each kind it may create, and what is done about an error
+/// that no handler takes.
 #[derive(Debug, Drop)]
 pub(crate) struct Partition {
     pub(crate) number: PartId,
@@ -23,6 +25,7 @@ pub(crate) struct Partition {
     pub(crate) semaphores: u32,
     pub(crate) events: u32,
     pub(crate) mutexes: u32,
+    pub(crate) on_error: ErrorPolicy,
 }
 
 impl Model for Partition {
@@ -42,6 +45,7 @@ impl Model for Partition {
       semaphores = own.semaphores;
       events = own.events;
       mutexes = own.mutexes;
+      on_error = own.on_error;
     } };
 
     ghost invariant = { λ own. AreLimits own.number own.period own.processes };
@@ -78,6 +82,7 @@ impl Described for Partition {
         let semaphores = keys.objects(ConfigKey::Semaphores)?;
         let events = keys.objects(ConfigKey::Events)?;
         let mutexes = keys.objects(ConfigKey::Mutexes)?;
+        let on_error = keys.error_policy(ConfigKey::OnError)?;
         Ok(Partition {
             number: PartId::new(number as u8),
             period,
@@ -88,6 +93,7 @@ impl Described for Partition {
             semaphores,
             events,
             mutexes,
+            on_error,
         })
     }
 }

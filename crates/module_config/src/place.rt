@@ -21,6 +21,7 @@ pub enum ConfigKey {
     Semaphores,
     Events,
     Mutexes,
+    OnError,
     Core,
     Start,
     Length,
@@ -28,6 +29,7 @@ pub enum ConfigKey {
     Size,
     Refresh,
     Capacity,
+    Outside,
     Source,
     SourceDiscipline,
     Destination,
@@ -37,7 +39,7 @@ pub enum ConfigKey {
 }
 
 /// The keys with their texts, in the order of the enum.
-pub const KEYS: [(ConfigKey, &'static str); 28] = [
+pub const KEYS: [(ConfigKey, &'static str); 30] = [
     (ConfigKey::Cores, "cores"),
     (ConfigKey::Frame, "frame"),
     (ConfigKey::Skew, "skew"),
@@ -53,6 +55,7 @@ pub const KEYS: [(ConfigKey, &'static str); 28] = [
     (ConfigKey::Semaphores, "semaphores"),
     (ConfigKey::Events, "events"),
     (ConfigKey::Mutexes, "mutexes"),
+    (ConfigKey::OnError, "on_error"),
     (ConfigKey::Core, "core"),
     (ConfigKey::Start, "start"),
     (ConfigKey::Length, "length"),
@@ -60,6 +63,7 @@ pub const KEYS: [(ConfigKey, &'static str); 28] = [
     (ConfigKey::Size, "size"),
     (ConfigKey::Refresh, "refresh"),
     (ConfigKey::Capacity, "capacity"),
+    (ConfigKey::Outside, "outside"),
     (ConfigKey::Source, "source"),
     (ConfigKey::SourceDiscipline, "source_discipline"),
     (ConfigKey::Destination, "destination"),

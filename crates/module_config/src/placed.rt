@@ -3,17 +3,18 @@
 ghost use Rattle.std.specs.Prelude.{◌≡◌, ◌≤◌, IfOk, length};
 ghost use Rattle.toml.specs.View.{view, table_view, items_view};
 ghost use Rattle.apex_types.specs.declared.limits.TheConstants.{GREATEST_SPAN};
-ghost use Rattle.module_config.specs.Keys.{Reads, discipline_at, integer_at, name_at, natural_at, some_at, table_at, tables_at, ticks_at};
+ghost use Rattle.module_config.specs.Keys.{Reads, discipline_at, error_policy_at, integer_at, name_at, natural_at, outside_at, some_at, table_at, tables_at, ticks_at};
 ghost use Rattle.module_config.specs.Places.{at, item_in, placed};
 ghost use Rattle.module_config.specs.Walk.{objects_at};
 
 use crate::fault::ConfigFault;
 use crate::keys::{
-    ItemType, discipline, integer, name, natural, objects, some_items, table, table_under,
-    tables_under, ticks,
+    ItemType, discipline, error_policy, integer, name, natural, objects, outside, some_items,
+    table, table_under, tables_under, ticks,
 };
 use crate::place::{ConfigKey, ConfigPlace, ConfigTable};
 use crate::refusal::ConfigRefusal;
+use apex_machine::{Direction, ErrorPolicy};
 use apex_types::Discipline;
 use apex_types::limits::LONGEST_NAME;
 use arrayvec::ArrayVec;
@@ -100,6 +101,21 @@ impl<'a> PlacedKeys<'a> {
         ensures { result ≡ at self.now.table (table_view self.now.keys.now) key discipline_at }
     {
         placed(self.table, key, discipline(self.keys, key.text()))
+    }
+
+    /// The end of a channel that is outside the module: "SOURCE" or "DESTINATION" under a key; none if the key is missing.
+    pub(crate) fn outside(&self, key: ConfigKey) -> Result<Option<Direction>, ConfigRefusal>
+        ensures { result ≡ at self.now.table (table_view self.now.keys.now) key outside_at }
+    {
+        placed(self.table, key, outside(self.keys, key.text()))
+    }
+
+    /// What is done about an error that no handler takes, by the value under a key: "IGNORE", which also holds if the key is missing,
+    /// "IDLE", "COLD_START" or "WARM_START".
+    pub(crate) fn error_policy(&self, key: ConfigKey) -> Result<ErrorPolicy, ConfigRefusal>
+        ensures { result ≡ at self.now.table (table_view self.now.keys.now) key error_policy_at }
+    {
+        placed(self.table, key, error_policy(self.keys, key.text()))
     }
 
     /// The table under a required key.

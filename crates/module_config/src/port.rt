@@ -27,16 +27,20 @@ pub struct QueuingPort {
 /// What is configured of a channel, by its kind.
 #[derive(Clone, Copy, Debug, PartialEq, Eq)]
 pub enum ChannelKind {
-    /// A message is valid for this many ticks.
+    /// The greatest size of its message in bytes, for how many ticks a message is valid, and whether its source is outside.
     Sampling {
+        size: u16,
         refresh: u64,
+        from_outside: bool,
     },
-    /// How many messages it holds, the disciplines of the processes that wait to send and to receive, and the partitions at its two ends.
+    /// The greatest size of its messages in bytes, how many it holds, the disciplines of the processes that wait to send and to receive, and
+    /// the partitions at its two ends; None for an end that is outside.
     Queuing {
+        size: u16,
         capacity: u16,
         sending: Discipline,
         receiving: Discipline,
-        source: PartId,
-        destination: PartId,
+        source: Option<PartId>,
+        destination: Option<PartId>,
     },
 }

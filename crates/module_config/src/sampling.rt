@@ -2,24 +2,26 @@
 
 use crate::configured::ConfiguredChannel;
 use crate::described::{Described, ModuleSize};
-use crate::ends::{PortEnd, destinations_under};
+use crate::ends::{PortEnd, destinations_if_there, destinations_under};
 use crate::number::Numbered;
 use crate::place::{ConfigKey, ConfigTable};
 use crate::placed::{PlacedKeys, item};
 use crate::refusal::ConfigRefusal;
+use apex_machine::Direction;
 use apex_types::ChanId;
 use apex_types::limits::{GREATEST_CHANNEL, LONGEST_MESSAGE, MOST_DESTINATIONS};
 use arrayvec::ArrayVec;
 use std::marker::Model;
 use toml::Value;
 
-/// A sampling channel: the greatest size of its message in bytes, its refresh period in ticks, and its ends.
+/// A sampling channel: the greatest size of its message in bytes, its refresh period in ticks, its source, unless that is outside the
+/// module, and its destinations inside.
 #[derive(Debug, Drop)]
 pub(crate) struct SampledChannel {
     pub(crate) number: ChanId,
     pub(crate) size: u16,
     pub(crate) refresh: u64,
-    pub(crate) source: PortEnd,
+    pub(crate) source: Option<PortEnd>,
     pub(crate) destinations: ArrayVec<PortEnd, MOST_DESTINATIONS>,
 }
 
@@ -67,8 +69,17 @@ impl Described for SampledChannel {
         let number = keys.integer(ConfigKey::Channel, 0, GREATEST_CHANNEL as u64)?;
         let size = keys.integer(ConfigKey::Size, 1, LONGEST_MESSAGE as u64)?;
         let refresh = keys.ticks(ConfigKey::Refresh)?;
-        let source = PortEnd::under(table, list, index, ConfigKey::Source)?;
-        let destinations = destinations_under(table, index)?;
+        let outside = keys.outside(ConfigKey::Outside)?;
+        let source = match outside {
+            Some(Direction::Source) => None,
+            Some(Direction::Destination) | None => {
+                Some(PortEnd::under(table, list, index, ConfigKey::Source)?)
+            }
+        };
+        let destinations = match outside {
+            Some(Direction::Destination) => destinations_if_there(table, index)?,
+            Some(Direction::Source) | None => destinations_under(table, index)?,
+        };
         Ok(SampledChannel {
             number: ChanId::new(number as u16),
             size: size as u16,
@@ -84,8 +95,8 @@ impl ConfiguredChannel for SampledChannel {
 
     ghost destinations_of = { λ channel. channel.destinations };
 
-    fn source(&self) -> &PortEnd {
-        &self.source
+    fn source(&self) -> Option<&PortEnd> {
+        self.source.as_ref()
     }
 
     fn destinations(&self) -> &[PortEnd] {

@@ -13,11 +13,13 @@ use Rattle.wait_set.specs.Actors.{joined_by, left_by}
 abbrev pub Owes : Actor → MutexOperation → Mutex → Type 0
 Owes actor (MutexOperation.Acquire time_out) found = found.count ≤ actor.place
 Owes actor MutexOperation.Release found = Unit {0}
+Owes actor (MutexOperation.Reset process) found = Unit {0}
 
 -- the processes that wait after an operation: ACQUIRE_MUTEX adds a caller that waits
 abbrev pub waiters_after : Actor → MutexOperation → Claim → List Entry → List Entry
 waiters_after actor (MutexOperation.Acquire time_out) claim entries = joined_by actor claim [] entries
 waiters_after actor MutexOperation.Release claim entries = left_by claim entries
+waiters_after actor (MutexOperation.Reset process) claim entries = left_by claim entries
 
 -- the mutex after an operation
 abbrev pub after : Actor → MutexOperation → Claim → Mutex → Mutex

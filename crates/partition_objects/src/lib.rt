@@ -10,8 +10,8 @@
 //! - An operation takes memory only for a caller that waits, and for a message that a blackboard shows or a buffer holds. A buffer takes the
 //!   memory for the places of its messages once, when it is made. It copies a message once, when it holds the message or its sender waits
 //!   with it; the message of a sender that moves up is not copied again.
-//! - An acquisition of a mutex requires that its count is not above the place of the call, so that the count can rise by one. `acquire` and
-//!   `release` carry out what has been judged; their contracts also say how far the count rises, and when memory is needed.
+//! - An acquisition of a mutex requires that its count is not above the place of the call, so that the count can rise by one. `acquire`,
+//!   `release` and `reset` carry out what has been judged; their contracts also say how far the count rises, and when memory is needed.
 //! - What an object reports of itself is a `Status` (`status`). A caller that is killed leaves by `leave`.
 //! - In a table, `judge_creation` judges a creation, and `add` adds what it creates. A mark (`Marked`) is what a call that was judged
 //!   elsewhere leaves at its object. A pass over the objects finds the one that has a given name (`number_named`). `keeps_numbers` states

@@ -4,7 +4,7 @@ ghost use Rattle.std.specs.Prelude.{ℤ, ◌≡◌, ◌≤◌, ◌<◌, ◌+◌,
 ghost use Rattle.apex_types.specs.declared.operation.MutexOperation.TheVariants as on_mutex;
 ghost use Rattle.apex_types.specs.declared.limits.TheConstants.{PLACE_COUNT};
 ghost use Rattle.apex_machine.specs.Demands.{AllHold, answer_demands};
-ghost use Rattle.apex_machine.specs.Objects.{is_owner, mutex_effect, mutex_released, owned_by};
+ghost use Rattle.apex_machine.specs.Objects.{handed_on, is_owner, mutex_effect, mutex_released, owned_by};
 ghost use Rattle.apex_machine.specs.Statuses.{mutex_status};
 ghost use Rattle.apex_machine.specs.Waiting.{first_waiter, is_waiting};
 ghost use Rattle.wait_set.specs.Actors.{WaitsAlone, entry_with, left_by};
@@ -155,14 +155,35 @@ impl Mutex653 {
         self.owners_since(before)
     }
 
+    /// RESET_MUTEX by a claim that is what it gives: the first waiter becomes the owner, or the mutex becomes free, whatever its count is.
+    /// Returns the owner before and the owner after. Takes no memory.
+    pub fn reset(&mut self, claim: &Claim) -> Owners
+        ensures after { self.new ≡ record (handed_on (first_waiter self.old.discipline self.old.waiters) self.old).next { waiters = left_by claim.now self.old.waiters } }
+        ensures counted { self.new.count ≤ self.old.count + 1 }
+        ensures owners { result ≡ rules.owners_from self.old (handed_on (first_waiter self.old.discipline self.old.waiters) self.old).next }
+    {
+        let before = self.owner;
+        self.hand_on();
+        let named = claim.woken.as_slice();
+        self.waiters.release(named);
+        self.owners_since(before)
+    }
+
     // The mutex after RELEASE_MUTEX, except for the processes that wait.
     fn give_up(&mut self)
         ensures { self.new ≡ (mutex_released (first_waiter self.old.discipline self.old.waiters) self.old).next }
     {
         if self.count > 1 {
             self.count -= 1;
-            return;
+        } else {
+            self.hand_on();
         }
+    }
+
+    // The mutex after its owner has given it up, except for the processes that wait.
+    fn hand_on(&mut self)
+        ensures { self.new ≡ (handed_on (first_waiter self.old.discipline self.old.waiters) self.old).next }
+    {
         let first = self.waiters.first().map(|entry| entry.who.proc);
         match first {
             Some(process) => self.give_to(process),
@@ -227,9 +248,11 @@ impl ApexObject for Mutex653 {
             MutexOperation::Acquire { .. } if self.owner.is_none() => Given::done(),
             MutexOperation::Acquire { .. } if self.is_owned_by(actor.who.proc) => Given::done(),
             MutexOperation::Acquire { time_out } => Given::unmet(*time_out),
-            // The last release ends the wait of the first waiter.
+            // The last release ends the wait of the first waiter, and so does a reset.
             MutexOperation::Release if self.count > 1 => Given::done(),
-            MutexOperation::Release => Given::waking(self.waiters.first().map(|entry| entry.who)),
+            MutexOperation::Release | MutexOperation::Reset { .. } => {
+                Given::waking(self.waiters.first().map(|entry| entry.who))
+            }
         }
     }
 
@@ -243,6 +266,7 @@ impl ApexObject for Mutex653 {
         match operation {
             MutexOperation::Acquire { time_out } => self.acquire(actor, *time_out, claim),
             MutexOperation::Release => Ok(self.release(claim)),
+            MutexOperation::Reset { .. } => Ok(self.reset(claim)),
         }
     }
 

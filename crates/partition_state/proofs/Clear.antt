@@ -17,7 +17,7 @@ use Rattle.apex_machine.specs.ObjectConditions.{message_conditions}
 use Rattle.apex_machine.specs.Ports.{channel_by, channel_of}
 use Rattle.apex_machine.specs.ServiceConditions.{conditions_of}
 use Rattle.apex_machine.specs.Services.{Answer, answer_of}
-use Rattle.apex_machine.specs.State.{Mutex, Partition, Port, created, given_object, item_at, time_of}
+use Rattle.apex_machine.specs.State.{Mutex, Partition, Port, created, given_object, item_at}
 use Rattle.apex_laws.specs.PartLaws.{IsOwnCall}
 use Rattle.apex_laws.proofs.SoundParts.{demands_none, running_is_in_no_set}
 use Rattle.partition_state.specs.Calls.{IsAtWork, IsClear, ReadsAtPort, served_demands}
@@ -82,6 +82,7 @@ pub mutex_found : (configuration : Configuration) (who : Who) (partition : Parti
 mutex_found configuration who partition mutex (MutexOperation.Acquire time_out) none =
     is_first (given_object partition.mutexes mutex) _ (time_out_conditions time_out) (nil_left _ _ (nil_left _ _ none))
 mutex_found configuration who partition mutex MutexOperation.Release none = is_there (given_object partition.mutexes mutex) _ none
+mutex_found configuration who partition mutex (MutexOperation.Reset process) none = is_first (given_object partition.mutexes mutex) _ _ (nil_left _ _ none)
 
 -- a call through a port goes to a channel
 
@@ -102,6 +103,8 @@ queuing_goes_through configuration who partition port (QueuingOperation.Send len
     goes_through (given_object partition.queuing_ports port) (is_there (given_object partition.queuing_ports port) _ (nil_left _ _ (nil_left _ (time_out_conditions time_out) (nil_left _ (waiting_conditions who partition time_out) none))))
 queuing_goes_through configuration who partition port (QueuingOperation.Receive time_out) none =
     goes_through (given_object partition.queuing_ports port) (is_first (given_object partition.queuing_ports port) _ (time_out_conditions time_out) (nil_left _ (waiting_conditions who partition time_out) none))
+queuing_goes_through configuration who partition port QueuingOperation.Clear none =
+    goes_through (given_object partition.queuing_ports port) (is_there (given_object partition.queuing_ports port) _ none)
 
 pub target_found : (configuration : Configuration) (who : Who) (partition : Partition) (process : ℤ)
     → conditions_of configuration who partition (request.Process process ProcessOperation.Stop) ≡ [] → created partition.table process ≢ None
@@ -115,7 +118,7 @@ port_found configuration number place core cores partition call own = by call.re
     by : (asked : Request) → call.request ≡ asked → ReadsAtPort call asked partition
     by (request.SamplingPort port SamplingOperation.Read) is = λ done.
         let none = demands_none (conditions_of configuration call.who partition call.request) (channel_of partition call.request) number call.request
-        (answer_of (time_of cores core) call.who partition call.request) call.claim
+        (answer_of cores core call.who partition call.request) call.claim
         own.demands.1.1.1.1.1 done in
         is_there (given_object partition.sampling_ports port) _ (rw is at none)
     by _ is = tt
@@ -137,17 +140,17 @@ outcome_holds conditions channel number asked answer claim none nowhere apart ho
 
 -- if its claim is what its service gives, all that is demanded of the call holds
 pub all_hold : (configuration : Configuration) (cores : List CoreState) (place core : ℕ) (partition : Partition) (call : CallRecord)
-    → IsClear configuration cores place core partition call → AllHold (served_demands (time_of cores core) partition call)
+    → IsClear configuration cores place core partition call → AllHold (served_demands cores core partition call)
     → AllHold (own_call_demands configuration call.who.part cores partition core call)
 all_hold configuration cores place core partition call clear served =
     let caller = clear.caller in
     let outcome = outcome_holds (conditions_of configuration call.who partition call.request) (channel_of partition call.request) call.who.part call.request
-    (answer_of (time_of cores core) call.who partition call.request) call.claim clear.conditions clear.through clear.apart served in
+    (answer_of cores core call.who partition call.request) call.claim clear.conditions clear.through clear.apart served in
     (caller.0, (caller.1.0, (caller.1.1.0, (caller.1.1.1.0, (caller.1.1.1.1.0, outcome)))))
 
 -- so it is a lawful call of one of the partition's own processes
 pub own_call : (configuration : Configuration) (cores : List CoreState) (place core : ℕ) (partition : Partition) (call : CallRecord)
-    → IsClear configuration cores place core partition call → AllHold (served_demands (time_of cores core) partition call)
+    → IsClear configuration cores place core partition call → AllHold (served_demands cores core partition call)
     → IsOwnCall configuration call.who.part place core cores partition call
 own_call configuration cores place core partition call clear served = record {
   sound = clear.sound;

@@ -3,16 +3,15 @@ use Rattle.std.proofs.Common.{◌≡◌, ℕ, List, [], ◌∷◌, ◌++◌, if�
 use Rattle.std.proofs.lemmas.Bool.{and_parts, cases_Bool}
 use Rattle.apex_types.specs.declared.object_kind.ObjectKind.TheVariants as kind
 use Rattle.apex_types.specs.declared.record.Who.{Who}
-use Rattle.apex_types.specs.declared.shape.End.TheVariants.{Senders, Receivers}
 use Rattle.apex_machine.specs.declared.state.Entry.{Entry}
 use Rattle.apex_machine.specs.declared.state.Wait.{Wait}
 use Rattle.apex_machine.specs.declared.state.Wait.TheVariants as wait
 use Rattle.apex_machine.specs.declared.state.WaitingSet.{WaitingSet}
 use Rattle.apex_machine.specs.After.{each_set}
 use Rattle.apex_machine.specs.Demands.{has_entry_in}
-use Rattle.apex_machine.specs.State.{Buffer, Partition, Table, change_at, is_named, is_same, item_at, set_at, is_of_object, is_same_end, entries_at_end, with_ends, with_objects, objects_of, ObjectOf}
+use Rattle.apex_machine.specs.State.{Partition, Table, change_at, is_named, is_same, item_at, set_at, is_of_object, is_same_end, entries_at_end, with_ends, with_objects, objects_of, ObjectOf}
 use Rattle.apex_machine.specs.Waiting.{is_in, waits_at, without}
-use Rattle.apex_laws.specs.Laws.{AllEntries, are_distinct, entries_at}
+use Rattle.apex_laws.specs.Laws.{AllEntries, entries_at}
 use Rattle.apex_laws.specs.PartLaws.{HasDistinctObjects}
 use Rattle.apex_laws.specs.PartObjects.{left_by, without_one, at_end, with_set}
 use Rattle.apex_laws.specs.PartSets.{left_if_there, named_left}
@@ -22,7 +21,6 @@ use Rattle.apex_laws.proofs.PartSets.{AllWaitThere, all_named_leave}
 use Rattle.apex_laws.proofs.SoundParts.{sets_distinct}
 use Rattle.apex_laws.proofs.Waiters.{all_without}
 use Rattle.apex_laws.proofs.WaitersOf.{same_is, same_itself}
-use Rattle.partition_objects.specs.Buffers as buffers
 use Rattle.partition_objects.proofs.Tables.{change-absent}
 use Rattle.partition_state.specs.Leaving.{HasEntryOnlyAt, HasEntryWhereItWaits}
 use Rattle.partition_state.proofs.Sets.{change_found}

@@ -35,9 +35,10 @@ use Rattle.wait_set.specs.declared.object.Actor.{Actor}
 use Rattle.wait_set.specs.declared.object.ObjFault.{ObjFault}
 use Rattle.wait_set.specs.Actors.{entry_with, joined_by}
 use Rattle.wait_set.specs.Sets.{IsNewInEach}
-use Rattle.partition_state.specs.Calls.{IsAtWork, IsClear, actor_of, objects_served, used_demands}
+use Rattle.partition_state.specs.Calls.{IsAtWork, IsClear, actor_of, objects_served, served, used_demands}
 use Rattle.partition_state.proofs.Clear.{at_work, blackboard_found, buffer_found, event_found, mutex_found, semaphore_found}
 use Rattle.partition_state.proofs.Found.{with_false, with_true}
+use Rattle.partition_state.proofs.Served.{one_is_served}
 use Rattle.partition_state.proofs.Sets.{change_given, either_way, in_order, is_new, same_number, set_joined, set_joined_plainly, set_left, set_left_plainly}
 use Rattle.apex_types.specs.declared.operation.ObjectOperation.{ObjectOperation}
 
@@ -90,6 +91,7 @@ pub owes_there : (actor : Actor) (operation : MutexOperation) (given : Option Mu
 owes_there actor operation None counted = tt
 owes_there actor (MutexOperation.Acquire time_out) (Some found) counted = counted
 owes_there actor MutexOperation.Release (Some found) counted = tt
+owes_there actor (MutexOperation.Reset process) (Some found) counted = tt
 
 -- if the call is not done, its rule leaves the object, and so each part of it
 whole : {Part Object : Type 0} (with_part : Part → Object) (done : Bool) (part next : Part) → cond done next part ≡ next
@@ -175,24 +177,26 @@ done_acquired out (Some owner) caller time_out found is = by (nat_eq owner calle
     by true e = let there = rw e at is in rw (e, there) refl
     by false e = rw e (either_way (is_done out) found found refl)
 
+-- the mutex after it is handed on by a call that is claimed as it is answered
+done_handed : (out : Out) (first : Option Entry) (found : Mutex) → out ≡ (handed_on first found).answer.out
+    → cond (is_done out) (handed_on first found).next found ≡ (handed_on first found).next
+done_handed out None found is = rw is refl
+done_handed out (Some waiter) found is = rw is refl
+
 -- the mutex after a release that is claimed as it is answered
 done_released : (out : Out) (first : Option Entry) (found : Mutex) → out ≡ (mutex_released first found).answer.out
     → cond (is_done out) (mutex_released first found).next found ≡ (mutex_released first found).next
 done_released out first found is = by (nat_lt 1 found.count) refl
   where
-    handed : (first : Option Entry) → out ≡ (handed_on first found).answer.out
-        → cond (is_done out) (handed_on first found).next found ≡ (handed_on first found).next
-    handed None is = rw is refl
-    handed (Some waiter) is = rw is refl
-
     by : (b : Bool) → nat_lt 1 found.count ≡ b → cond (is_done out) (mutex_released first found).next found ≡ (mutex_released first found).next
     by true e = let there = rw e at is in rw (e, there) refl
-    by false e = let there = rw e at is in rw e (handed first there)
+    by false e = let there = rw e at is in rw e (done_handed out first found there)
 
 pub mutex_whole : (out : Out) (caller : ℕ) (operation : MutexOperation) (found : Mutex) → out ≡ (mutex_effect caller operation found).answer.out
     → cond (is_done out) (mutex_effect caller operation found).next found ≡ (mutex_effect caller operation found).next
 mutex_whole out caller (MutexOperation.Acquire time_out) found is = done_acquired out found.owner caller time_out found is
 mutex_whole out caller MutexOperation.Release found is = done_released out (first_waiter found.discipline found.waiters) found is
+mutex_whole out caller (MutexOperation.Reset process) found is = done_handed out (first_waiter found.discipline found.waiters) found is
 
 -- the object after the call, by its kind
 
@@ -295,6 +299,7 @@ mutex_becomes place call mutex operation found asked order is =
     waiting (MutexOperation.Acquire time_out) asked =
         set_joined_plainly place call wanted found.waiters (rw asked refl) (rw asked refl) (rw asked refl) (rw (asked, same_number (natural_of mutex)) refl) order
     waiting MutexOperation.Release asked = set_left_plainly place call wanted found.waiters (rw asked refl) (rw asked refl) (rw asked refl)
+    waiting (MutexOperation.Reset process) asked = set_left_plainly place call wanted found.waiters (rw asked refl) (rw asked refl) (rw asked refl)
 
 -- so the objects of a kind are after the call
 
@@ -379,6 +384,7 @@ in_any configuration place call given operation partition new (Err fault) is = t
 
 pub of_any : (configuration : Configuration) (place : ℕ) (call : CallRecord) (given : ℤ) (operation : ObjectOperation) (partition new : Partition) (result : Result Transfer ObjFault)
     → OnOk result ((any : Configuration) → new ≡ objects_changed any place call (request.Object given operation) partition)
-    → OnOk result (new ≡ objects_served configuration place call (request.Object given operation) partition)
-of_any configuration place call given operation partition new (Ok transfer) is = is configuration
+    → OnOk result (new ≡ served configuration place call (request.Object given operation) partition)
+of_any configuration place call given operation partition new (Ok transfer) is =
+    one_is_served configuration place call (request.Object given operation) partition new refl refl (is configuration)
 of_any configuration place call given operation partition new (Err fault) is = tt

@@ -1,22 +1,21 @@
 -- What a call that was served makes of the objects is what it makes of the partition's.
-use Rattle.std.proofs.Common.{◌≡◌, ℕ, List, Option, Some, None, Result, Ok, Err, Bool, true, false, IfErr, OnOk, refl}
+use Rattle.std.proofs.Common.{◌≡◌, ℕ, List, Option, Some, None, Result, Ok, Err, Bool, true, false, IfErr, OnOk, refl, sym, ap, ◌∙◌, cond}
 use Rattle.apex_types.specs.declared.object_kind.ObjectKind.TheVariants as kind
 use Rattle.apex_types.specs.declared.cause.Cause.{Cause}
-use Rattle.apex_types.specs.declared.operation.{NewObject.NewObject, ProcessOperation.ProcessOperation, SamplingOperation.SamplingOperation}
+use Rattle.apex_types.specs.declared.operation.{ProcessOperation.ProcessOperation, SamplingOperation.SamplingOperation}
 use Rattle.apex_types.specs.declared.record.Call.{Call as CallRecord}
 use Rattle.apex_types.specs.declared.record.Who.{Who}
 use Rattle.apex_types.specs.declared.request.Request.{Request}
 use Rattle.apex_types.specs.declared.request.Request.TheVariants as request
-use Rattle.apex_types.specs.declared.shape.End.TheVariants.{Senders, Receivers}
 use Rattle.apex_machine.specs.declared.state.CoreState.{CoreState}
 use Rattle.apex_machine.specs.declared.state.Process.{Process}
 use Rattle.apex_machine.specs.declared.state.Wait.{Wait}
 use Rattle.apex_machine.specs.declared.state.Wait.TheVariants as wait
-use Rattle.apex_machine.specs.After.{objects_called, partition_called}
+use Rattle.apex_machine.specs.After.{has_handler_by, is_done, objects_called, partition_called}
 use Rattle.apex_machine.specs.Configuration.{Configuration}
 use Rattle.apex_machine.specs.Demands.{AllHold, Demand, Judges}
 use Rattle.apex_machine.specs.Services.{peer}
-use Rattle.apex_machine.specs.State.{Partition, created, time_of, channel_set, set_at, with_objects, ObjectOf}
+use Rattle.apex_machine.specs.State.{Partition, created, with_objects, ObjectOf}
 use Rattle.apex_machine.specs.Waiting.{is_no_error, restart_of}
 use Rattle.apex_laws.specs.PartLaws.{IsOwnCall}
 use Rattle.apex_laws.specs.PartObjects.{left_by, objects_changed}
@@ -28,8 +27,9 @@ use Rattle.process_state.specs.declared.transfer.Transfer.{Transfer}
 use Rattle.wait_set.specs.declared.object.ObjFault.{ObjFault}
 use Rattle.wait_set.specs.declared.object.ObjFault.TheVariants.{Unlawful, Memory}
 use Rattle.wait_set.specs.Actors.{Refuses}
-use Rattle.partition_state.specs.Calls.{IsClear, IsJudged, ReadsAtPort, RefusesOrWants, objects_noted, objects_served, served_demands}
+use Rattle.partition_state.specs.Calls.{IsClear, IsJudged, ReadsAtPort, RefusesOrWants, objects_noted, objects_served, served, served_demands}
 use Rattle.partition_state.proofs.Clear.{own_call, target_found}
+use Rattle.partition_state.proofs.Sets.{either_way}
 use Rattle.apex_types.specs.Shapes.{kind_used}
 use Rattle.apex_types.specs.Requested.{kind_of}
 use Rattle.apex_types.specs.declared.object_kind.ObjectKind.{ObjectKind}
@@ -39,38 +39,93 @@ abbrev pub is_stop : Request → Bool
 is_stop (request.Process process ProcessOperation.Stop) = true
 is_stop _ = false
 
+-- whether a request creates an error handler
+abbrev pub is_handler_creation : Request → Bool
+is_handler_creation request.CreateErrorHandler = true
+is_handler_creation _ = false
+
 -- the objects after a call
 
-pub served_is_called : (configuration : Configuration) (cores : List CoreState) (place core : ℕ) (partition : Partition) (call : CallRecord)
-    → IsClear configuration cores place core partition call → AllHold (served_demands (time_of cores core) partition call) → restart_of call ≡ None
+objects_are_called : (configuration : Configuration) (cores : List CoreState) (place core : ℕ) (partition : Partition) (call : CallRecord)
+    → IsClear configuration cores place core partition call → AllHold (served_demands cores core partition call) → restart_of call ≡ None
     → (asked : Request) → call.request ≡ asked
     → objects_called configuration place call partition ≡ objects_served configuration place call asked partition
-served_is_called configuration cores place core partition call clear served goes_on (request.Process process ProcessOperation.Stop) is =
+objects_are_called configuration cores place core partition call clear holds goes_on (request.Process process ProcessOperation.Stop) is =
     by (created partition.table process) refl
   where
     own : IsOwnCall configuration call.who.part place core cores partition call
-    own = own_call configuration cores place core partition call clear served
+    own = own_call configuration cores place core partition call clear holds
 
     by : (target : Option Process) → created partition.table process ≡ target
         → objects_called configuration place call partition ≡ left_if_there (peer call.who process) target partition
     by None e = absurd (target_found configuration call.who partition process (rw is at clear.conditions) e)
     by (Some target) e =
-        let served_now = rw is at served in
-        let done : is_no_error call.claim.out ≡ true = rw served_now.0 refl in
+        let held = rw is at holds in
+        let done : is_no_error call.claim.out ≡ true = rw held.0 refl in
         (stopped_leaves configuration call.who.part place core cores partition call own process is done target e).2
-served_is_called configuration cores place core partition call clear served goes_on asked is =
+objects_are_called configuration cores place core partition call clear holds goes_on asked is =
     one_object_changes configuration call.who.part place core cores partition call
-    (own_call configuration cores place core partition call clear served) (rw (goes_on, is) refl) asked is
+    (own_call configuration cores place core partition call clear holds) (rw (goes_on, is) refl) asked is
 
--- a service other than STOP changes the one object that it names
-pub changed_is_served : (configuration : Configuration) (place : ℕ) (call : CallRecord) (partition new : Partition) → is_stop call.request ≡ false
-    → new ≡ objects_changed configuration place call call.request partition → new ≡ objects_served configuration place call call.request partition
-changed_is_served configuration place call partition new = by call.request
+-- the error handler after a call
+
+-- whether there is one is decided by the request of a call alone: CREATE_ERROR_HANDLER is done
+handler_is_called : (cores : List CoreState) (core : ℕ) (partition : Partition) (call : CallRecord) → AllHold (served_demands cores core partition call)
+    → (asked : Request) → call.request ≡ asked
+    → cond (is_done call.claim.out) (has_handler_by asked partition.has_handler) partition.has_handler ≡ has_handler_by asked partition.has_handler
+handler_is_called cores core partition call holds request.CreateErrorHandler is = let held = rw is at holds in rw held.0 refl
+handler_is_called cores core partition call holds _ is = either_way (is_done call.claim.out) partition.has_handler partition.has_handler refl
+
+-- a partition after a call, except for its mode and its processes
+abbrev pub all_but_processes : Configuration → ℕ → CallRecord → Partition → Partition
+all_but_processes configuration place call partition = record (objects_called configuration place call partition) {
+  has_handler = cond (is_done call.claim.out) (has_handler_by call.request partition.has_handler) partition.has_handler;
+}
+
+pub served_is_called : (configuration : Configuration) (cores : List CoreState) (place core : ℕ) (partition : Partition) (call : CallRecord)
+    → IsClear configuration cores place core partition call → AllHold (served_demands cores core partition call) → restart_of call ≡ None
+    → all_but_processes configuration place call partition ≡ served configuration place call call.request partition
+served_is_called configuration cores place core partition call clear holds goes_on =
+    ap (λ (one : Partition). record one { has_handler = cond (is_done call.claim.out) (has_handler_by call.request partition.has_handler) partition.has_handler })
+    (objects_are_called configuration cores place core partition call clear holds goes_on call.request refl)
+    ∙ ap (λ has_handler. record (objects_served configuration place call call.request partition) { has_handler = has_handler })
+    (handler_is_called cores core partition call holds call.request refl)
+
+-- the objects leave the error handler as it is
+
+put_leaves_handler : (kind : ObjectKind) (objects : List (ℕ × ObjectOf kind)) (partition : Partition) → (with_objects kind objects partition).has_handler ≡ partition.has_handler
+put_leaves_handler kind.Buffer objects partition = refl
+put_leaves_handler _ objects partition = refl
+
+changed_leaves_handler : (configuration : Configuration) (place : ℕ) (call : CallRecord) (partition : Partition) (asked : Request)
+    → (objects_changed configuration place call asked partition).has_handler ≡ partition.has_handler
+changed_leaves_handler configuration place call partition (request.Create name object) = put_leaves_handler (kind_of object) _ partition
+changed_leaves_handler configuration place call partition (request.Object number operation) = put_leaves_handler (kind_used operation) _ partition
+changed_leaves_handler configuration place call partition (request.SamplingPort port SamplingOperation.Read) = refl
+changed_leaves_handler configuration place call partition _ = refl
+
+-- so a partition is as it was served, if it is so but for a handler that stays
+with_handler : (asked : Request) (before : Bool) (objects new : Partition) → is_handler_creation asked ≡ false → objects.has_handler ≡ before → new ≡ objects
+    → new ≡ record objects { has_handler = has_handler_by asked before }
+with_handler asked before objects new other stays is = is ∙ ap (λ has_handler. record objects { has_handler = has_handler }) (stays ∙ sym (by asked other))
   where
-    by : (asked : Request) → is_stop asked ≡ false → new ≡ objects_changed configuration place call asked partition
-        → new ≡ objects_served configuration place call asked partition
-    by (request.Process process ProcessOperation.Stop) other e = let never : ◌≡◌ {A = Bool} true false = other in cc
-    by _ other e = e
+    by : (asked : Request) → is_handler_creation asked ≡ false → has_handler_by asked before ≡ before
+    by request.CreateErrorHandler other = let never : ◌≡◌ {A = Bool} true false = other in cc
+    by _ other = refl
+
+-- a service other than STOP and CREATE_ERROR_HANDLER changes the one object that it names
+pub one_is_served : (configuration : Configuration) (place : ℕ) (call : CallRecord) (asked : Request) (partition new : Partition) → is_stop asked ≡ false
+    → is_handler_creation asked ≡ false → new ≡ objects_changed configuration place call asked partition → new ≡ served configuration place call asked partition
+one_is_served configuration place call (request.Process process ProcessOperation.Stop) partition new other no_handler is =
+    let never : ◌≡◌ {A = Bool} true false = other in cc
+one_is_served configuration place call asked partition new other no_handler is =
+    with_handler asked partition.has_handler (objects_changed configuration place call asked partition) new no_handler
+    (changed_leaves_handler configuration place call partition asked) is
+
+pub changed_is_served : (configuration : Configuration) (place : ℕ) (call : CallRecord) (partition new : Partition) → is_stop call.request ≡ false
+    → is_handler_creation call.request ≡ false
+    → new ≡ objects_changed configuration place call call.request partition → new ≡ served configuration place call call.request partition
+changed_is_served configuration place call partition new = one_is_served configuration place call call.request partition new
 
 -- what is accepted or refused as it is judged holds, or its cause is that of the first demand that fails
 
@@ -130,6 +185,6 @@ reads_with processes call _ partition reads = tt
 
 -- with the objects and the processes after a call it is the partition after it
 pub is_called : (configuration : Configuration) (cores : List CoreState) (place core : ℕ) (call : CallRecord) (old new : Partition) (processes : Processes)
-    → new ≡ objects_called configuration place call old → processes ≡ processes_of (partition_called configuration cores place core call old)
+    → new ≡ all_but_processes configuration place call old → processes ≡ processes_of (partition_called configuration cores place core call old)
     → with_processes processes new ≡ partition_called configuration cores place core call old
 is_called configuration cores place core call old new processes objects become = rw (objects, become) refl

@@ -2,7 +2,7 @@
 use Rattle.std.proofs.Common.{◌≡◌, ◌<◌, ◌≤◌, ℕ, ℤ, pos, negsuc, List, [], ◌∷◌, ◌||◌, Bool, true, false, IsTrue, refl, arith}
 use Rattle.std.proofs.lemmas.Bool.Decides.{nat_tests}
 use Rattle.apex_types.specs.declared.limits.TheConstants.{MOST_CORES, PLACE_COUNT}
-use Rattle.apex_types.specs.declared.operation.{BlackboardOperation.BlackboardOperation, CallerOperation.CallerOperation, EventOperation.EventOperation, MutexOperation.MutexOperation, ProcessOperation.ProcessOperation, SemaphoreOperation.SemaphoreOperation}
+use Rattle.apex_types.specs.declared.operation.{CallerOperation.CallerOperation, ProcessOperation.ProcessOperation}
 use Rattle.apex_types.specs.declared.record.Call.{Call as CallRecord}
 use Rattle.apex_types.specs.declared.record.Out.{Out}
 use Rattle.apex_types.specs.declared.record.Out.TheVariants as out
@@ -16,7 +16,7 @@ use Rattle.apex_machine.specs.Answer.{NamesExactly}
 use Rattle.apex_machine.specs.Configuration.{Configuration, is_core}
 use Rattle.apex_machine.specs.Demands.{AllHold}
 use Rattle.apex_machine.specs.ServiceConditions.{conditions_of}
-use Rattle.apex_machine.specs.State.{Partition, is_named, is_same, time_of}
+use Rattle.apex_machine.specs.State.{Partition, is_named, is_same}
 use Rattle.apex_machine.specs.Waiting.{is_waiting}
 use Rattle.apex_laws.specs.PartBounds.{IsBoundedPart}
 use Rattle.apex_laws.proofs.BoundedParts.{releases_fit}
@@ -53,15 +53,15 @@ gives_soundly configuration who partition process (ProcessOperation.InitializeCo
     core_is configuration who.part core few of_module (when_not _ _ (nil_right _ _ none))
 gives_soundly configuration who partition process _ few of_module none = tt
 
-asks_soundly : (configuration : Configuration) (now : ℕ) (partition : Partition) (call : CallRecord) (asked : Request)
+asks_soundly : (configuration : Configuration) (cores : List CoreState) (core : ℕ) (partition : Partition) (call : CallRecord) (asked : Request)
     → configuration.cores ≤ MOST_CORES → CoresAreOfModule configuration → conditions_of configuration call.who partition asked ≡ [] → call.request ≡ asked
-    → AllHold (served_demands now partition call) → AsksSoundly partition.table call asked
-asks_soundly configuration now partition call (request.CreateProcess name priority period) few of_module none is served =
+    → AllHold (served_demands cores core partition call) → AsksSoundly partition.table call asked
+asks_soundly configuration cores core partition call (request.CreateProcess name priority period time_capacity) few of_module none is served =
     λ done. let given = rw is at served in
-    (given.1.0.val, when_not _ _ (nil_right _ _ (nil_left _ _ (nil_left _ _ none))), nobody call.claim.woken given.1.1.1.0)
-asks_soundly configuration now partition call (request.Process process operation) few of_module none is served =
+    (given.1.0.val, when_not _ _ (nil_right _ _ (nil_left _ _ (nil_left _ _ (nil_left _ _ (nil_left _ _ none))))), nobody call.claim.woken given.1.1.1.0)
+asks_soundly configuration cores core partition call (request.Process process operation) few of_module none is served =
     λ done. gives_soundly configuration call.who partition process operation few of_module none
-asks_soundly configuration now partition call _ few of_module none is served = tt
+asks_soundly configuration cores core partition call _ few of_module none is served = tt
 
 -- waits
 
@@ -90,10 +90,10 @@ releases_soundly place partition caller _ bounded below = tt
 -- calls that are served
 
 pub sound_served : (configuration : Configuration) (cores : List CoreState) (place core : ℕ) (partition : Partition) (call : CallRecord)
-    → IsClear configuration cores place core partition call → AllHold (served_demands (time_of cores core) partition call)
+    → IsClear configuration cores place core partition call → AllHold (served_demands cores core partition call)
     → configuration.cores ≤ MOST_CORES → CoresAreOfModule configuration → NumbersAreKept partition → place < PLACE_COUNT → IsSound partition.table call
 sound_served configuration cores place core partition call clear served few of_module kept below = record {
-  asks = asks_soundly configuration (time_of cores core) partition call call.request few of_module clear.conditions refl served;
+  asks = asks_soundly configuration cores core partition call call.request few of_module clear.conditions refl served;
   waits = λ waiting. waits_soundly configuration call.who partition call.request kept clear.conditions;
   releases = releases_soundly place partition call.who.proc call.request clear.bounded below;
 }
@@ -110,7 +110,7 @@ not_done_and_done true not_done is = let never : ◌≡◌ {A = Bool} true false
 not_done_and_done false not_done is = let never : ◌≡◌ {A = Bool} false true = is in cc
 
 asks_nothing : (partition : Partition) (call : CallRecord) (asked : Request) → is_done call.claim.out ≡ false → AsksSoundly partition.table call asked
-asks_nothing partition call (request.CreateProcess name priority period) not_done = λ done. absurd (not_done_and_done (is_done call.claim.out) not_done done)
+asks_nothing partition call (request.CreateProcess name priority period time_capacity) not_done = λ done. absurd (not_done_and_done (is_done call.claim.out) not_done done)
 asks_nothing partition call (request.Process process operation) not_done = λ done. absurd (not_done_and_done (is_done call.claim.out) not_done done)
 asks_nothing partition call _ not_done = tt
 

@@ -7,7 +7,7 @@ use Rattle.apex_types.specs.declared.record.Call.{Call as CallRecord}
 use Rattle.apex_types.specs.declared.request.Request.{Request}
 use Rattle.apex_types.specs.declared.request.Request.TheVariants as request
 use Rattle.apex_machine.specs.declared.state.CoreState.{CoreState}
-use Rattle.apex_machine.specs.After.{is_done, objects_called}
+use Rattle.apex_machine.specs.After.{has_handler_by, is_done, objects_called}
 use Rattle.apex_machine.specs.Arguments.{natural_of}
 use Rattle.apex_machine.specs.Configuration.{Configuration}
 use Rattle.apex_machine.specs.Ports.{use_of}
@@ -24,6 +24,8 @@ use Rattle.process_state.specs.Sound.{AsksSoundly, IsSound, WaitsSoundly}
 use Rattle.process_state.specs.Transfers.{IsTransferOf}
 use Rattle.partition_state.specs.Calls.{LeavesObjects, objects_noted}
 use Rattle.ports.specs.Ports.{read_at}
+use Rattle.partition_state.proofs.Served.{all_but_processes}
+use Rattle.partition_state.proofs.Sets.{either_way}
 use Rattle.partition_state.proofs.Sounds.{not_done_and_done, releases_soundly, sound_refused}
 
 -- what holds of each use of a channel
@@ -44,7 +46,7 @@ nothing_noted call (request.SamplingPort port SamplingOperation.Read) partition 
 nothing_noted call _ partition not_done = refl
 
 -- a call that is not done, or that uses a channel, leaves all objects, and of ports all but what a read says of the last sample
-pub leaves_objects : (configuration : Configuration) (number place core : ℕ) (cores : List CoreState) (partition : Partition) (call : CallRecord)
+leaves_objects : (configuration : Configuration) (number place core : ℕ) (cores : List CoreState) (partition : Partition) (call : CallRecord)
     → IsOwnCall configuration number place core cores partition call → LeavesObjects call → objects_called configuration place call partition ≡ objects_noted call call.request partition
 leaves_objects configuration number place core cores partition call own (inl not_done) =
     refused_leaves_objects configuration number place core cores partition call own not_done ∙ sym (nothing_noted call call.request partition not_done)
@@ -59,6 +61,31 @@ leaves_objects configuration number place core cores partition call own (inr use
         → objects_changed configuration place call (request.SamplingPort port operation) partition ≡ objects_noted call (request.SamplingPort port operation) partition
     sampled port (SamplingOperation.Write length message) = refl
     sampled port SamplingOperation.Read = refl
+
+-- and it creates no error handler
+
+handler_left : (call : CallRecord) → LeavesObjects call → (before : Bool) → cond (is_done call.claim.out) (has_handler_by call.request before) before ≡ before
+handler_left call (inl not_done) before = rw not_done refl
+handler_left call (inr uses) before =
+    by_use (λ asked. cond (is_done call.claim.out) (has_handler_by asked before) before ≡ before)
+    (λ port operation. stays) (λ port operation. stays) (λ port. stays) call.request uses
+  where
+    stays : cond (is_done call.claim.out) before before ≡ before
+    stays = either_way (is_done call.claim.out) before before refl
+
+noted_handler : (call : CallRecord) (asked : Request) (partition : Partition) → (objects_noted call asked partition).has_handler ≡ partition.has_handler
+noted_handler call (request.SamplingPort port SamplingOperation.Read) partition = refl
+noted_handler call _ partition = refl
+
+-- so of the partition all but its mode and its processes is as noted
+pub leaves_all : (configuration : Configuration) (number place core : ℕ) (cores : List CoreState) (partition : Partition) (call : CallRecord)
+    → IsOwnCall configuration number place core cores partition call → LeavesObjects call
+    → all_but_processes configuration place call partition ≡ objects_noted call call.request partition
+leaves_all configuration number place core cores partition call own leaves =
+    ap (λ (one : Partition). record one { has_handler = cond (is_done call.claim.out) (has_handler_by call.request partition.has_handler) partition.has_handler })
+    (leaves_objects configuration number place core cores partition call own leaves)
+    ∙ ap (λ has_handler. record (objects_noted call call.request partition) { has_handler = has_handler })
+    (handler_left call leaves partition.has_handler ∙ sym (noted_handler call call.request partition))
 
 -- it restarts no partition
 pub noted_goes_on : (call : CallRecord) → LeavesObjects call → restart_of call ≡ None

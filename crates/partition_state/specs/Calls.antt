@@ -9,7 +9,7 @@ use Rattle.apex_types.specs.declared.request.Request.{Request}
 use Rattle.apex_types.specs.declared.request.Request.TheVariants as request
 use Rattle.apex_machine.specs.declared.state.CoreState.{CoreState}
 use Rattle.apex_machine.specs.declared.state.WaitingSet.{WaitingSet}
-use Rattle.apex_machine.specs.After.{is_done}
+use Rattle.apex_machine.specs.After.{has_handler_by, is_done}
 use Rattle.apex_machine.specs.Answer.{Answer}
 use Rattle.apex_machine.specs.Arguments.{natural_of}
 use Rattle.apex_machine.specs.Configuration.{Configuration}
@@ -61,13 +61,13 @@ abbrev pub IsReady : ℕ → Partition → CallRecord → Type 0
 IsReady place partition call = (configuration : Configuration) × (cores : List CoreState) × (core : ℕ) × IsClear configuration cores place core partition call
 
 -- what is demanded of the claim of a call on which no error condition holds and that goes through no channel: it is what the service gives
--- its caller, at this time of its core
-abbrev pub served_demands : ℕ → Partition → CallRecord → List {1} Demand
-served_demands now partition call = answer_demands (answer_of now call.who partition call.request) call.claim
+-- its caller, by the cores and the caller's core
+abbrev pub served_demands : List CoreState → ℕ → Partition → CallRecord → List {1} Demand
+served_demands cores core partition call = answer_demands (answer_of cores core call.who partition call.request) call.claim
 
 -- whether a request creates a process, an object or a port
 abbrev pub creates : Request → Bool
-creates (request.CreateProcess name priority period) = true
+creates (request.CreateProcess name priority period time_capacity) = true
 creates (request.Create name object) = true
 creates _ = false
 
@@ -119,3 +119,9 @@ abbrev pub objects_served : Configuration → ℕ → CallRecord → Request →
 objects_served configuration place call (request.Process process ProcessOperation.Stop) partition =
     left_if_there (peer call.who process) (created partition.table process) partition
 objects_served configuration place call asked partition = objects_changed configuration place call asked partition
+
+-- a partition after a call that was served, except for its mode and its processes: its objects change, and CREATE_ERROR_HANDLER creates the
+-- error handler
+abbrev pub served : Configuration → ℕ → CallRecord → Request → Partition → Partition
+served configuration place call asked partition =
+    record (objects_served configuration place call asked partition) { has_handler = has_handler_by asked partition.has_handler }

@@ -1,8 +1,9 @@
 // What each service gives its caller.
 
-ghost use Rattle.std.specs.Prelude.{◌≡◌, ◌↔◌, ℕ, true, IfNone, IfSome, IsTrue};
+ghost use Rattle.std.specs.Prelude.{◌≡◌, ◌↔◌, ℕ, List, true, IfNone, IfSome, IsTrue};
 ghost use Rattle.apex_types.specs.declared.record.Who.{Who as WhoValue};
 ghost use Rattle.apex_types.specs.declared.request.Request.TheVariants as request;
+ghost use Rattle.apex_machine.specs.declared.state.CoreState.{CoreState};
 ghost use Rattle.apex_machine.specs.Answer.{HasValue, is_new};
 ghost use Rattle.apex_machine.specs.Demands.{Judges};
 ghost use Rattle.apex_machine.specs.DueTimes as due_times;
@@ -17,31 +18,35 @@ use crate::objects::caller_of;
 use crate::state::PartitionState;
 use apex_machine::Wait;
 use apex_types::{
-    Call, CallerOperation, Cause, Name, ObjectKind, ObjectOperation, Place, ProcessOperation,
+    Call, CallerOperation, Cause, Name, NamedKind, ObjectKind, ObjectOperation, ProcessOperation,
     Request, Who,
 };
 use partition_objects::ObjectTable;
+use process_state::Moment;
 use wait_set::{Actor, ApexObject, Given, judge_value};
 
 impl PartitionState {
-    /// What a call that meets no error condition and goes through no channel gives its caller, at this place and at this time of its core,
-    /// in ticks. None for a creation, which gives any number that nothing of its kind has. Takes no memory.
-    pub fn answer(&self, now: u64, place: Place, call: &Call) -> Option<Given<'_>>
-        ensures given { IfSome result (λ given. answer_given given ≡ services.answer_of now call.now.who self.now call.now.request) }
+    /// What a call that meets no error condition and goes through no channel gives its caller at this moment. None for a creation, which
+    /// gives any number that nothing of its kind has. Takes no memory.
+    pub fn answer(&self, moment: &Moment<'_>, call: &Call) -> Option<Given<'_>>
+        ensures given { IfSome result (λ given. answer_given given ≡ services.answer_of moment.now.cores.now moment.now.core call.now.who self.now call.now.request) }
         ensures none { IfNone result (creates call.now.request ≡ true) }
     {
-        let caller = caller_of(place, call);
+        let caller = caller_of(moment.place, call);
         match &call.request {
             Request::CreateProcess { .. } | Request::Create(..) => None,
             Request::Process(process, operation) => {
-                Some(self.answer_on(call.who, *process, operation))
+                Some(self.answer_on(moment, call.who, *process, operation))
             }
-            Request::Caller(operation) => Some(self.own_answer(now, call.who, operation)),
+            Request::Caller(operation) => Some(self.own_answer(moment, call.who, operation)),
             Request::SetPartitionMode(..) => Some(Given::never()),
             Request::Object(number, operation) => {
                 Some(self.object_answer(*number, &caller, operation))
             }
-            Request::SamplingPort(..) | Request::QueuingPort(..) => Some(Given::done()),
+            Request::SamplingPort(..)
+            | Request::QueuingPort(..)
+            | Request::ReportMessage { .. }
+            | Request::CreateErrorHandler => Some(Given::done()),
             Request::GetId(kind, name) => Some(self.id_answer(*kind, name)),
             Request::GetStatus(kind, object) => {
                 Some(Given::reporting(self.status_of(*kind, *object)))
@@ -49,14 +54,14 @@ impl PartitionState {
         }
     }
 
-    /// Judges the claim of a call that meets no error condition and goes through no channel, at this place and at this time of its core, in
-    /// ticks. The claim must be what the service gives, which for a creation is a new number. Takes no memory.
+    /// Judges the claim of a call that meets no error condition and goes through no channel, at this moment. The claim must be what the
+    /// service gives, which for a creation is a new number. Takes no memory.
     ///
     /// Refused with the cause of the first demand that fails.
-    pub fn judge(&self, now: u64, place: Place, call: &Call) -> Result<(), Cause>
-        ensures { Judges (served_demands now self.now call.now) result }
+    pub fn judge(&self, moment: &Moment<'_>, call: &Call) -> Result<(), Cause>
+        ensures { Judges (served_demands moment.now.cores.now moment.now.core self.now call.now) result }
     {
-        match self.answer(now, place, call) {
+        match self.answer(moment, call) {
             Some(given) => given.judge(&call.claim),
             None => judge_value(self.is_new(&call.request, call.claim.val), &call.claim),
         }
@@ -64,7 +69,7 @@ impl PartitionState {
 
     // Whether a claimed value is a number that a creation may give. A request that creates nothing has none.
     fn is_new(&self, request: &Request, claimed: Option<i64>) -> bool
-        ensures { (now : ℕ) (who : WhoValue) → creates request.now ≡ true → IsTrue result ↔ HasValue (services.answer_of now who self.now request.now).val claimed }
+        ensures { (cores : List CoreState) (core : ℕ) (who : WhoValue) → creates request.now ≡ true → IsTrue result ↔ HasValue (services.answer_of cores core who self.now request.now).val claimed }
     {
         match request {
             Request::CreateProcess { .. } => self.processes.is_new_number(claimed),
@@ -76,7 +81,9 @@ impl PartitionState {
             | Request::SamplingPort(..)
             | Request::QueuingPort(..)
             | Request::GetId(..)
-            | Request::GetStatus(..) => false,
+            | Request::GetStatus(..)
+            | Request::ReportMessage { .. }
+            | Request::CreateErrorHandler => false,
         }
     }
 
@@ -97,7 +104,7 @@ impl PartitionState {
 
     // What an operation on the object of this number gives its caller; done, if there is none.
     fn object_answer(&self, number: i64, caller: &Actor, operation: &ObjectOperation) -> Given<'_>
-        ensures { (now : ℕ) → answer_given result ≡ services.answer_of now caller.now.who self.now (request.Object number operation.now) }
+        ensures { (cores : List CoreState) (core : ℕ) → answer_given result ≡ services.answer_of cores core caller.now.who self.now (request.Object number operation.now) }
     {
         match operation {
             ObjectOperation::Buffer(operation) => {
@@ -118,8 +125,8 @@ impl PartitionState {
         }
     }
 
-    // What GET_BUFFER_ID and its counterparts give: the number of what has this name.
-    fn id_answer<'a>(&self, kind: ObjectKind, name: &Name) -> Given<'a>
+    // What GET_PROCESS_ID, GET_BUFFER_ID and its counterparts give: the number of what has this name.
+    fn id_answer<'a>(&self, kind: NamedKind, name: &Name) -> Given<'a>
         ensures { answer_given result ≡ services.done_with (number_found (number_of self.now kind name.now)) }
     {
         match self.number_of(kind, name) {
@@ -128,30 +135,48 @@ impl PartitionState {
         }
     }
 
-    // What a service that this process requests for itself gives, at this time of its core.
-    fn own_answer<'a>(&self, now: u64, who: Who, operation: &CallerOperation) -> Given<'a>
-        ensures { answer_given result ≡ services.answer_of now who self.now (request.Caller operation.now) }
+    // What a service that this process requests for itself gives, at this moment.
+    fn own_answer<'a>(
+        &self,
+        moment: &Moment<'_>,
+        who: Who,
+        operation: &CallerOperation,
+    ) -> Given<'a>
+        ensures { answer_given result ≡ services.answer_of moment.now.cores.now moment.now.core who self.now (request.Caller operation.now) }
     {
         match operation {
             CallerOperation::StopSelf => Given::never(),
             CallerOperation::TimedWait { delay: time }
             | CallerOperation::SuspendSelf { time_out: time } => Given::done_if(*time == 0),
             CallerOperation::PeriodicWait => {
-                Given::done_if(self.processes.is_released(now, who.proc))
+                Given::done_if(self.processes.is_released(moment.time(), who.proc))
             }
             CallerOperation::GetMyId => Given::valued(who.proc.number().into()),
-            CallerOperation::GetTime => Given::valued(now),
+            CallerOperation::GetTime => Given::valued(moment.time()),
+            CallerOperation::GetPartitionStatus => self.status_answer(),
         }
     }
 
-    // What a service that names the process of this number gives: RESUME ends the wait of a process that suspended itself.
-    fn answer_on<'a>(&self, who: Who, process: i64, operation: &ProcessOperation) -> Given<'a>
-        ensures { (now : ℕ) → answer_given result ≡ services.answer_of now who self.now (request.Process process operation.now) }
+    // What a service that names the process of this number gives, at this moment: RESUME ends the wait of a process that suspended itself,
+    // and a status is reported.
+    fn answer_on<'a>(
+        &self,
+        moment: &Moment<'_>,
+        who: Who,
+        process: i64,
+        operation: &ProcessOperation,
+    ) -> Given<'a>
+        ensures { answer_given result ≡ services.answer_of moment.now.cores.now moment.now.core who self.now (request.Process process operation.now) }
     {
         match operation {
             ProcessOperation::Resume => self.resuming(who, process),
+            ProcessOperation::GetStatus => self.process_answer(moment, who, process),
+            ProcessOperation::GetMutexState => {
+                Given::values(self.mutex_owned(process), None, None)
+            }
             ProcessOperation::InitializeCoreAffinity { .. }
             | ProcessOperation::Start
+            | ProcessOperation::DelayedStart { .. }
             | ProcessOperation::Stop
             | ProcessOperation::Suspend
             | ProcessOperation::SetPriority { .. } => Given::done(),

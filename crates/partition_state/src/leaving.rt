@@ -1,9 +1,9 @@
-// Waits that end, and the processes that leave a waiting set then: by a STOP, at a tick, by a call of another partition; and returns.
+// Waits that end, and the processes that leave a waiting set then: by a STOP, at a tick, by a record of others; and returns.
 
 ghost use Rattle.std.specs.Prelude.{◌≡◌, ◌≢◌, ℕ, List, None, IfErr, OnErr, OnOk};
 ghost use Rattle.apex_types.specs.declared.record.Body.TheVariants.{Tick};
 ghost use Rattle.apex_machine.specs.declared.state.CoreState.{CoreState};
-ghost use Rattle.apex_machine.specs.After.{each_set, partition_by, returned, woken_if_named};
+ghost use Rattle.apex_machine.specs.After.{each_set, partition_by, partition_woken, returned};
 ghost use Rattle.apex_machine.specs.Configuration.{Configuration};
 ghost use Rattle.apex_machine.specs.Demands.{AllHold, answer_demands};
 ghost use Rattle.apex_machine.specs.Services.{done, peer};
@@ -107,14 +107,19 @@ impl PartitionState {
         self.processes.ret(number);
     }
 
-    /// A call of another partition, at this place, that ends the waits of the processes of this partition that it names: each gets the
-    /// message that the call hands over.
+    /// A record of others, at this place, that ends the waits of the processes of this partition that it names: each gets this message.
     ///
     /// AllocError if memory for the messages is refused; nothing has changed then.
-    pub fn wake_named(&mut self, part: PartId, place: Place, call: &Call) -> Result<(), AllocError>
-        ensures ok { OnOk result (self.new ≡ record self.old { table = each_item (λ number process. woken_if_named place call.now (record { part = part; proc = number }) process) self.old.table }) }
+    pub fn wake_named(
+        &mut self,
+        part: PartId,
+        place: Place,
+        message: &[u8],
+        woken: &Woken,
+    ) -> Result<(), AllocError>
+        ensures ok { OnOk result (self.new ≡ partition_woken place part message.now woken.now self.old) }
         ensures unchanged { OnErr result (self.new ≡ self.old) }
     {
-        self.processes.wake_named(part, place, call)
+        self.processes.wake_named(part, place, message, woken)
     }
 }

@@ -9,8 +9,8 @@
 //!   claim and changes, and then the processes change. `judge` judges the claim of any call that `serve` takes, and changes nothing.
 //! - `note` changes the processes for a call that leaves all objects as they are: a call for which a condition holds, or one that goes
 //!   through a channel. A read marks its port. `channel_of` says which channel a request goes to.
-//! - `number_of` and `status_of` say what is reported of an object or a port, by its kind (`telling.rt`). They judge a call that only
-//!   reports, and such a call changes its caller alone.
+//! - `number_of` and `status_of` say what is reported of a name and of an object or a port, by its kind (`telling.rt`); `statuses.rt` says
+//!   what is reported of processes and of the partition. They judge a call that only reports, and such a call changes its caller alone.
 //! - A call that restarts the partition (`restart_of`) leaves it as it starts, and takes no memory.
 //! - `tick` takes each named process out of the one waiting set that its wait names, and ends its wait.
 //!
@@ -28,6 +28,7 @@ mod port_calls;
 mod restarting;
 mod serving;
 mod state;
+mod statuses;
 mod telling;
 
 pub use restarting::restart_of;

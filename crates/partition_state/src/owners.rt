@@ -5,10 +5,13 @@ ghost use Rattle.apex_machine.specs.Arguments.{natural_of};
 ghost use Rattle.apex_machine.specs.Conditions.{owns_mutex};
 ghost use Rattle.apex_machine.specs.ObjectConditions.{owns_another};
 ghost use Rattle.apex_machine.specs.Objects.{is_owner};
+ghost use Rattle.apex_machine.specs.Statuses.{mutex_owned};
+ghost use Rattle.wait_set.specs.GivenNumbers.{value_given};
 
 use crate::state::PartitionState;
 use apex_types::ProcId;
 use partition_objects::Mutex653;
+use wait_set::GivenValue;
 
 impl PartitionState {
     /// Whether this process owns a mutex.
@@ -27,6 +30,21 @@ impl PartitionState {
         self.mutexes
             .iter()
             .any(|(_, mutex)| is_owned_by_numbered(mutex, process))
+    }
+
+    /// GET_PROCESS_MUTEX_STATE: the number of the mutex that the process of the number that a caller gives owns, or -2 if it owns none; a
+    /// number below 0 is read as 0.
+    pub fn mutex_owned(&self, process: i64) -> GivenValue
+        ensures { value_given result ≡ mutex_owned self.now.mutexes (natural_of process) }
+    {
+        let owned = self
+            .mutexes
+            .iter()
+            .find(|(_, mutex)| is_owned_by_numbered(mutex, process));
+        match owned {
+            Some((number, _)) => GivenValue::Natural(u64::from(*number)),
+            None => GivenValue::BelowZero(-2),
+        }
     }
 
     /// Whether this process owns a mutex other than the one of the number that a caller gives.

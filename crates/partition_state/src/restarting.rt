@@ -5,9 +5,10 @@ ghost use Rattle.apex_machine.specs.Arguments as arguments;
 ghost use Rattle.apex_machine.specs.Configuration.{Configuration, first_core as first_core_of};
 ghost use Rattle.apex_machine.specs.State.{started_partition};
 ghost use Rattle.apex_machine.specs.Waiting as waiting;
+ghost use Rattle.apex_machine.specs.declared.state.StartCondition.TheVariants.{PartitionRestart};
 
 use crate::state::PartitionState;
-use apex_machine::Mode;
+use apex_machine::{Mode, StartCondition};
 use apex_types::{Call, CoreId, Out, Place, Request};
 use partition_objects::ObjectTable;
 use ports::PortTable;
@@ -36,11 +37,13 @@ fn restart_given(mode: i64) -> Option<Mode>
 }
 
 impl PartitionState {
-    /// The partition as it starts in this mode, at this place: it has no object and no port, and of its processes only the initialising
-    /// one, which IDLE does not have. Takes no memory.
+    /// The partition as SET_PARTITION_MODE starts it in this mode, at this place: it has no error handler, no object and no port, and of its
+    /// processes only the initialising one, which IDLE does not have. Takes no memory.
     pub(crate) fn restart(&mut self, mode: Mode, first_core: CoreId, place: Place)
-        ensures { (configuration : Configuration) (number : ℕ) → first_core_of configuration number ≡ first_core → self.new ≡ started_partition mode configuration number place }
+        ensures { (configuration : Configuration) (number : ℕ) → first_core_of configuration number ≡ first_core → self.new ≡ started_partition PartitionRestart mode configuration number place }
     {
+        self.start = StartCondition::PartitionRestart;
+        self.has_handler = false;
         self.processes.restart(mode, first_core, place);
         self.buffers = ObjectTable::new(self.alloc);
         self.blackboards = ObjectTable::new(self.alloc);

@@ -6,7 +6,6 @@ ghost use Rattle.apex_types.specs.declared.request.Request.TheVariants as reques
 ghost use Rattle.apex_machine.specs.After.{own_partition, partition_called};
 ghost use Rattle.apex_machine.specs.Demands.{AllHold, Judges, own_call_demands};
 ghost use Rattle.apex_machine.specs.Configuration.{Configuration};
-ghost use Rattle.apex_machine.specs.State.{time_of};
 ghost use Rattle.apex_machine.specs.Waiting.{restart_of as restarted_by};
 ghost use Rattle.apex_laws.specs.PartBounds.{IsBoundedPart};
 ghost use Rattle.apex_laws.specs.PartLaws.{IsSoundPart};
@@ -14,7 +13,7 @@ ghost use Rattle.apex_laws.specs.PartObjects.{objects_changed};
 ghost use Rattle.process_state.specs.Timely.{TimesFit};
 ghost use Rattle.process_state.specs.Transfers.{IsTransferOf};
 ghost use Rattle.wait_set.specs.Actors.{Refuses};
-ghost use Rattle.partition_state.specs.Calls.{IsClear, IsJudged, IsReady, LeavesObjects, RefusesOrWants, object_demands, objects_served, served_demands};
+ghost use Rattle.partition_state.specs.Calls.{IsClear, IsJudged, IsReady, LeavesObjects, RefusesOrWants, object_demands, served, served_demands};
 
 use crate::objects::{caller_of, use_object};
 use crate::restarting::restart_of;
@@ -33,16 +32,14 @@ impl PartitionState {
     pub fn serve(
         &mut self,
         config: &Config,
-        now: u64,
         moment: &Moment<'_>,
         call: &Call,
     ) -> Result<(), ObjFault>
         requires clear { IsClear config.now moment.now.cores.now moment.now.place moment.now.core self.old call.now }
         requires times { TimesFit moment.now.cores.now }
-        requires now { now ≡ time_of moment.now.cores.now moment.now.core }
-        ensures ok { OnOk result (AllHold (served_demands now self.old call.now)) }
+        ensures ok { OnOk result (AllHold (served_demands moment.now.cores.now moment.now.core self.old call.now)) }
         ensures after { OnOk result (self.new ≡ own_partition (restarted_by call.now) config.now moment.now.cores.now moment.now.place moment.now.core call.now self.old) }
-        ensures refused { IfErr result (RefusesOrWants (served_demands now self.old call.now)) }
+        ensures refused { IfErr result (RefusesOrWants (served_demands moment.now.cores.now moment.now.core self.old call.now)) }
         ensures unchanged { OnErr result (self.new ≡ self.old) }
     {
         match restart_of(call) {
@@ -51,7 +48,7 @@ impl PartitionState {
                 self.restart(mode, config.first_core(call.who.part), moment.place);
                 Ok(())
             }
-            None => self.carry_out(config, now, moment, call),
+            None => self.carry_out(config, moment, call),
         }
     }
 
@@ -60,17 +57,15 @@ impl PartitionState {
     fn carry_out(
         &mut self,
         config: &Config,
-        now: u64,
         moment: &Moment<'_>,
         call: &Call,
     ) -> Result<(), ObjFault>
         requires goes_on { restarted_by call.now ≡ None }
         requires clear { IsClear config.now moment.now.cores.now moment.now.place moment.now.core self.old call.now }
         requires times { TimesFit moment.now.cores.now }
-        requires now { now ≡ time_of moment.now.cores.now moment.now.core }
-        ensures ok { OnOk result (AllHold (served_demands now self.old call.now)) }
+        ensures ok { OnOk result (AllHold (served_demands moment.now.cores.now moment.now.core self.old call.now)) }
         ensures after { OnOk result (self.new ≡ partition_called config.now moment.now.cores.now moment.now.place moment.now.core call.now self.old) }
-        ensures refused { IfErr result (RefusesOrWants (served_demands now self.old call.now)) }
+        ensures refused { IfErr result (RefusesOrWants (served_demands moment.now.cores.now moment.now.core self.old call.now)) }
         ensures unchanged { OnErr result (self.new ≡ self.old) }
     {
         config.keeps_limits();
@@ -81,7 +76,7 @@ impl PartitionState {
         let Ok(prepared) = self.processes.prepare(call) else {
             return Err(ObjFault::Memory);
         };
-        let transfer = self.operate(config, now, moment, call)?;
+        let transfer = self.operate(config, moment, call)?;
         match self
             .processes
             .call(first_core, period, moment, transfer, prepared, call)
@@ -120,21 +115,20 @@ impl PartitionState {
         Ok(())
     }
 
-    // Judges what a call claims against what its service gives, and changes the objects accordingly. Returns what becomes of the owner of a
-    // mutex. A call through a port goes through a channel.
+    // Judges what a call claims against what its service gives, and changes the objects and the error handler accordingly. Returns what
+    // becomes of the owner of a mutex. A call through a port goes through a channel.
     #[tactic(auto, using(crate::proofs::Clear::at_work, crate::proofs::Served::accepted_ok, crate::proofs::Served::accepted_refused, crate::proofs::Served::changed_is_served))]
     fn operate(
         &mut self,
         config: &Config,
-        now: u64,
         moment: &Moment<'_>,
         call: &Call,
     ) -> Result<Transfer, ObjFault>
         requires clear { IsClear config.now moment.now.cores.now moment.now.place moment.now.core self.old call.now }
-        ensures ok { OnOk result (AllHold (served_demands now self.old call.now)) }
-        ensures after { OnOk result (self.new ≡ objects_served config.now moment.now.place call.now call.now.request self.old) }
+        ensures ok { OnOk result (AllHold (served_demands moment.now.cores.now moment.now.core self.old call.now)) }
+        ensures after { OnOk result (self.new ≡ served config.now moment.now.place call.now call.now.request self.old) }
         ensures transfer { IfOk result (λ transfer. IsTransferOf self.old call.now.who.proc call.now.request transfer) }
-        ensures refused { IfErr result (Refuses (served_demands now self.old call.now)) }
+        ensures refused { IfErr result (Refuses (served_demands moment.now.cores.now moment.now.core self.old call.now)) }
         ensures unchanged { OnErr result (self.new ≡ self.old) }
     {
         match &call.request {
@@ -149,13 +143,19 @@ impl PartitionState {
             Request::Object(number, operation) => {
                 self.use_one(moment.place, call, *number, operation)
             }
+            Request::CreateErrorHandler => {
+                self.judge(moment, call).map_err(ObjFault::Unlawful)?;
+                self.has_handler = true;
+                Ok(Transfer::none())
+            }
             Request::SamplingPort(..) | Request::QueuingPort(..) => unreachable!(),
             Request::CreateProcess { .. }
             | Request::Process(..)
             | Request::Caller(..)
             | Request::SetPartitionMode(..)
             | Request::GetId(..)
-            | Request::GetStatus(..) => accepted(self.judge(now, moment.place, call)),
+            | Request::GetStatus(..)
+            | Request::ReportMessage { .. } => accepted(self.judge(moment, call)),
         }
     }
 

@@ -1,11 +1,13 @@
 // A partition, and its parts.
 
-ghost use Rattle.std.specs.Prelude.{◌≡◌, ℕ, [], IfOk, OnOk};
+ghost use Rattle.std.specs.Prelude.{◌≡◌, ℕ, [], false, IfOk, OnOk};
+ghost use Rattle.apex_machine.specs.declared.state.StartCondition.TheVariants.{NormalStart};
 ghost use Rattle.apex_machine.specs.Configuration.{Configuration, first_core as first_core_of};
 ghost use Rattle.apex_machine.specs.State.{cold_partition};
 ghost use Rattle.process_state.specs.Processes.{processes_of};
 ghost use Rattle.partition_state.specs.Calls.{NumbersAreKept};
 
+use apex_machine::StartCondition;
 use apex_types::CoreId;
 use partition_objects::{Blackboard, Buffer, Event, Mutex653, ObjectTable, Semaphore};
 use ports::PortTable;
@@ -13,11 +15,13 @@ use process_state::ProcTable;
 use std::alloc::{AllocError, Global};
 use std::marker::Model;
 
-/// The state of a partition: its mode and its processes, and its objects and ports of each kind under their numbers, in the
-/// order of their creation.
+/// The state of a partition: its mode and its processes, its start condition, whether it has an error handler, and its objects and ports of
+/// each kind under their numbers, in the order of their creation.
 #[derive(Drop)]
 pub struct PartitionState {
     pub(crate) alloc: Global,
+    pub(crate) start: StartCondition,
+    pub(crate) has_handler: bool,
     pub(crate) processes: ProcTable,
     pub(crate) buffers: ObjectTable<Buffer>,
     pub(crate) blackboards: ObjectTable<Blackboard>,
@@ -33,7 +37,7 @@ impl Model for PartitionState {
 
     ghost Value = { Partition };
 
-    ghost view = { λ state. record { mode = state.processes.mode; table = state.processes.table; buffers = state.buffers; blackboards = state.blackboards; semaphores = state.semaphores; events = state.events; mutexes = state.mutexes; sampling_ports = state.sampling_ports; queuing_ports = state.queuing_ports } };
+    ghost view = { λ state. record { mode = state.processes.mode; start = state.start; has_handler = state.has_handler; table = state.processes.table; buffers = state.buffers; blackboards = state.blackboards; semaphores = state.semaphores; events = state.events; mutexes = state.mutexes; sampling_ports = state.sampling_ports; queuing_ports = state.queuing_ports } };
 }
 
 impl PartitionState {
@@ -47,12 +51,14 @@ impl PartitionState {
         Ok(PartitionState::without_objects(alloc, processes))
     }
 
-    // The partition of this mode and these processes, without an object or a port. Takes no memory.
+    // The partition of this mode and these processes as the module starts it, without an error handler, an object or a port. Takes no memory.
     fn without_objects(alloc: Global, processes: ProcTable) -> PartitionState
-        ensures { result ≡ record { mode = processes.mode; table = processes.table; buffers = []; blackboards = []; semaphores = []; events = []; mutexes = []; sampling_ports = []; queuing_ports = [] } }
+        ensures { result ≡ record { mode = processes.mode; start = NormalStart; has_handler = false; table = processes.table; buffers = []; blackboards = []; semaphores = []; events = []; mutexes = []; sampling_ports = []; queuing_ports = [] } }
     {
         PartitionState {
             alloc,
+            start: StartCondition::NormalStart,
+            has_handler: false,
             processes,
             buffers: ObjectTable::new(alloc),
             blackboards: ObjectTable::new(alloc),
@@ -85,10 +91,12 @@ impl PartitionState {
         Ok(())
     }
 
-    // Replaces its objects and ports by copies of another partition's.
-    fn copy_objects_and_ports(&mut self, other: &PartitionState) -> Result<(), AllocError>
+    // Replaces everything but its mode and its processes by copies of what another partition has.
+    fn copy_all_but_processes(&mut self, other: &PartitionState) -> Result<(), AllocError>
         ensures { OnOk result (self.new ≡ record other.now { mode = self.old.mode; table = self.old.table }) }
     {
+        self.start = other.start;
+        self.has_handler = other.has_handler;
         self.copy_objects(other)?;
         self.copy_ports(other)
     }
@@ -109,6 +117,20 @@ impl PartitionState {
         ensures { result.now ≡ processes_of self.now }
     {
         &self.processes
+    }
+
+    /// Its start condition.
+    pub fn start_condition(&self) -> StartCondition
+        ensures { result ≡ self.now.start }
+    {
+        self.start
+    }
+
+    /// Whether it has created an error handler.
+    pub fn has_handler(&self) -> bool
+        ensures { result ≡ self.now.has_handler }
+    {
+        self.has_handler
     }
 
     /// The buffers.
@@ -167,7 +189,7 @@ impl Clone for PartitionState {
     fn clone(&self) -> Result<PartitionState, AllocError> {
         let processes = self.processes.clone()?;
         let mut copy = PartitionState::without_objects(self.alloc, processes);
-        match copy.copy_objects_and_ports(self) {
+        match copy.copy_all_but_processes(self) {
             Ok(()) => Ok(copy),
             Err(refused) => {
                 // A call drops the copy as one value; a drop in place would be proved table by table.

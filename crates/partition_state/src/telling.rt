@@ -1,17 +1,28 @@
-// What services report of objects and ports: the number of what has a name, and the status of what has a number.
+// What services report: the number of what has a name, and the status of the object or the port that has a number.
 
 ghost use Rattle.std.specs.Prelude.{◌≡◌};
+ghost use Rattle.apex_types.specs.declared.object_kind.NamedKind.TheVariants as named;
 ghost use Rattle.apex_machine.specs.Names as names;
 ghost use Rattle.apex_machine.specs.Statuses as statuses;
 
 use crate::state::PartitionState;
 use apex_machine::Status;
-use apex_types::{Name, ObjectKind};
+use apex_types::{Name, NamedKind, ObjectKind};
 
 impl PartitionState {
-    /// The number of the object or the port of a kind that has this name, or None if none has it.
-    pub fn number_of(&self, kind: ObjectKind, name: &Name) -> Option<u32>
+    /// The number of the process, or of the object or port of a kind, that has this name, or None if none has it.
+    pub fn number_of(&self, kind: NamedKind, name: &Name) -> Option<u32>
         ensures { result ≡ names.number_of self.now kind name.now }
+    {
+        match kind {
+            NamedKind::Process => Some(self.processes.number_named(name)?.number()),
+            NamedKind::Object(kind) => self.object_number_of(kind, name),
+        }
+    }
+
+    /// The number of the object or the port of a kind that has this name, or None if none has it.
+    pub fn object_number_of(&self, kind: ObjectKind, name: &Name) -> Option<u32>
+        ensures { result ≡ names.number_of self.now (named.Object kind) name.now }
     {
         match kind {
             ObjectKind::Buffer => self.buffers.number_named(name),

@@ -10,5 +10,6 @@ pub mod Slots
 pub mod Through
 pub mod Viewing
 pub mod Shown
+pub mod Configuring
 pub mod Quiet
 pub mod Found

@@ -4,7 +4,7 @@ use Rattle.std.proofs.lemmas.List.{length-map}
 use Rattle.std.specs.Prelude.{replicate}
 use Rattle.apex_types.specs.declared.limits.TheConstants.{PLACE_COUNT}
 use Rattle.apex_types.specs.declared.record.Body.{Body}
-use Rattle.apex_types.specs.declared.record.Body.TheVariants.{Call, Ret, Disp, Tick}
+use Rattle.apex_types.specs.declared.record.Body.TheVariants.{Arrive, Call, Depart, Ret, Disp, Tick}
 use Rattle.apex_types.specs.declared.record.Ordered.{Ordered}
 use Rattle.apex_types.specs.declared.shape.End.TheVariants.{Senders, Receivers}
 use Rattle.apex_machine.specs.declared.state.CoreState.{CoreState}
@@ -39,6 +39,8 @@ length-at_core change (suc core) (state ∷ cores) = ap suc (length-at_core chan
 length-cores_by : (core : ℕ) (body : Body) (cores : List CoreState) → length (cores_by core body cores) ≡ length cores
 length-cores_by core (Call call) cores = refl
 length-cores_by core (Ret ret) cores = refl
+length-cores_by core (Arrive crossing) cores = refl
+length-cores_by core (Depart crossing) cores = refl
 length-cores_by core (Disp who) cores = length-at_core (λ state. record state { occupant = who }) core cores
 length-cores_by core (Tick woken) cores = length-at_core (λ state. record state { time = state.time + 1 }) core cores
 
@@ -59,6 +61,8 @@ tick_time (suc at) (state ∷ cores) (suc core) = tick_time at cores core
 time_by : (at : ℕ) (body : Body) (cores : List CoreState) (core : ℕ) → time_of (cores_by at body cores) core ≤ time_of cores core + 1
 time_by at (Call call) cores core = omega arith
 time_by at (Ret ret) cores core = omega arith
+time_by at (Arrive crossing) cores core = omega arith
+time_by at (Depart crossing) cores core = omega arith
 time_by at (Disp who) cores core = dispatch_time who at cores core
 time_by at (Tick woken) cores core = tick_time at cores core
 
@@ -162,6 +166,10 @@ set_before place (Disp who) wanted entries fits all = all_weaker (EnteredBefore 
 set_before place (Ret ret) wanted entries fits all = all_weaker (EnteredBefore place) (EnteredBefore (place + 1)) (before_later place (place + 1) (omega arith)) entries all
 set_before place (Tick woken) wanted entries fits all =
     all_without (EnteredBefore place) (EnteredBefore (place + 1)) (λ who. is_named who woken) (λ entry stays before. before_later place (place + 1) (omega arith) entry before) entries all
+set_before place (Arrive crossing) wanted entries fits all =
+    all_without (EnteredBefore place) (EnteredBefore (place + 1)) (λ who. is_named who crossing.woken) (λ entry stays before. before_later place (place + 1) (omega arith) entry before) entries all
+set_before place (Depart crossing) wanted entries fits all =
+    all_without (EnteredBefore place) (EnteredBefore (place + 1)) (λ who. is_named who crossing.woken) (λ entry stays before. before_later place (place + 1) (omega arith) entry before) entries all
 set_before place (Call call) wanted entries fits all =
     let stay = all_without (EnteredBefore place) (EnteredBefore (place + 1)) (ends_wait call) (λ entry stays before. before_later place (place + 1) (omega arith) entry before) entries all in
     elim (enters call wanted)

@@ -13,7 +13,7 @@ use Rattle.apex_machine.specs.Ports.{channel_of}
 use Rattle.apex_laws.proofs.Codes.{not_done}
 use Rattle.apex_machine.specs.ServiceConditions.{conditions_of}
 use Rattle.apex_machine.specs.Services.{Answer, answer_of}
-use Rattle.apex_machine.specs.State.{Partition, time_of}
+use Rattle.apex_machine.specs.State.{Partition}
 use Rattle.partition_state.specs.Calls.{RefusesOrWants, served_demands}
 use Rattle.wait_set.specs.declared.object.ObjFault.{ObjFault}
 use Rattle.wait_set.specs.declared.object.ObjFault.TheVariants.{Unlawful, Memory}
@@ -31,23 +31,23 @@ fails_later (demand ∷ demands) others why hold fails = inr (hold.0, fails_late
 -- if no error condition holds
 
 -- if no channel is used either, what fails of the claim fails of the call
-pub served_fails : (configuration : Configuration) (number : ℕ) (cores : List CoreState) (partition : Partition) (core now : ℕ) (call : CallRecord) (fault : ObjFault)
+pub served_fails : (configuration : Configuration) (number : ℕ) (cores : List CoreState) (partition : Partition) (core : ℕ) (call : CallRecord) (fault : ObjFault)
     → AllHold (caller_demands configuration number cores partition core call)
-    → conditions_of configuration call.who partition call.request ≡ [] → channel_of partition call.request ≡ None → call.claim.chan ≡ None → now ≡ time_of cores core
-    → RefusesOrWants (served_demands now partition call) fault → RefusesOrWants (own_call_demands configuration number cores partition core call) fault
-served_fails configuration number cores partition core now call (Unlawful why) caller none nowhere apart at fails =
+    → conditions_of configuration call.who partition call.request ≡ [] → channel_of partition call.request ≡ None → call.claim.chan ≡ None
+    → RefusesOrWants (served_demands cores core partition call) fault → RefusesOrWants (own_call_demands configuration number cores partition core call) fault
+served_fails configuration number cores partition core call (Unlawful why) caller none nowhere apart fails =
     fails_later (caller_demands configuration number cores partition core call) _ why caller
-    (rw (none, nowhere) (inr (apart, rw at at fails)))
-served_fails configuration number cores partition core now call Memory caller none nowhere apart at wants = tt
+    (rw (none, nowhere) (inr (apart, fails)))
+served_fails configuration number cores partition core call Memory caller none nowhere apart wants = tt
 
-pub served_judged : (configuration : Configuration) (number : ℕ) (cores : List CoreState) (partition : Partition) (core now : ℕ) (call : CallRecord)
+pub served_judged : (configuration : Configuration) (number : ℕ) (cores : List CoreState) (partition : Partition) (core : ℕ) (call : CallRecord)
     (judgement : Result (Unit {0}) Cause) → AllHold (caller_demands configuration number cores partition core call)
-    → conditions_of configuration call.who partition call.request ≡ [] → channel_of partition call.request ≡ None → call.claim.chan ≡ None → now ≡ time_of cores core
-    → Judges (served_demands now partition call) judgement → Judges (own_call_demands configuration number cores partition core call) judgement
-served_judged configuration number cores partition core now call (Ok done) caller none nowhere apart at hold =
-    AllHold-append (caller_demands configuration number cores partition core call) _ caller (rw (none, nowhere) (apart, rw at at hold))
-served_judged configuration number cores partition core now call (Err why) caller none nowhere apart at fails =
-    served_fails configuration number cores partition core now call (Unlawful why) caller none nowhere apart at fails
+    → conditions_of configuration call.who partition call.request ≡ [] → channel_of partition call.request ≡ None → call.claim.chan ≡ None
+    → Judges (served_demands cores core partition call) judgement → Judges (own_call_demands configuration number cores partition core call) judgement
+served_judged configuration number cores partition core call (Ok done) caller none nowhere apart hold =
+    AllHold-append (caller_demands configuration number cores partition core call) _ caller (rw (none, nowhere) (apart, hold))
+served_judged configuration number cores partition core call (Err why) caller none nowhere apart fails =
+    served_fails configuration number cores partition core call (Unlawful why) caller none nowhere apart fails
 
 -- if a channel is used, what is demanded of the outcome, whatever the service gives, holds for the call, or fails for it
 pub through_holds : (configuration : Configuration) (number : ℕ) (cores : List CoreState) (partition : Partition) (core : ℕ) (call : CallRecord) (channel : ℕ)
@@ -56,7 +56,7 @@ pub through_holds : (configuration : Configuration) (number : ℕ) (cores : List
     → ((answer : Answer) → AllHold (outcome_demands [] (Some channel) number call.request answer call.claim))
     → AllHold (own_call_demands configuration number cores partition core call)
 through_holds configuration number cores partition core call channel caller none goes holds =
-    AllHold-append (caller_demands configuration number cores partition core call) _ caller (rw (none, goes) (holds (answer_of (time_of cores core) call.who partition call.request)))
+    AllHold-append (caller_demands configuration number cores partition core call) _ caller (rw (none, goes) (holds (answer_of cores core call.who partition call.request)))
 
 pub through_fails : (configuration : Configuration) (number : ℕ) (cores : List CoreState) (partition : Partition) (core : ℕ) (call : CallRecord) (channel : ℕ) (why : Cause)
     → AllHold (caller_demands configuration number cores partition core call)
@@ -64,7 +64,7 @@ pub through_fails : (configuration : Configuration) (number : ℕ) (cores : List
     → ((answer : Answer) → FirstFails (outcome_demands [] (Some channel) number call.request answer call.claim) why)
     → FirstFails (own_call_demands configuration number cores partition core call) why
 through_fails configuration number cores partition core call channel why caller none goes fails =
-    fails_later (caller_demands configuration number cores partition core call) _ why caller (rw (none, goes) (fails (answer_of (time_of cores core) call.who partition call.request)))
+    fails_later (caller_demands configuration number cores partition core call) _ why caller (rw (none, goes) (fails (answer_of cores core call.who partition call.request)))
 
 -- if some error condition holds
 
@@ -76,7 +76,7 @@ pub refused_holds : (configuration : Configuration) (number : ℕ) (cores : List
     → AllHold (own_call_demands configuration number cores partition core call)
 refused_holds configuration number cores partition core call conditions caller are holds =
     AllHold-append (caller_demands configuration number cores partition core call) _ caller
-    (rw (← are) (holds (channel_of partition call.request) number call.request (answer_of (time_of cores core) call.who partition call.request)))
+    (rw (← are) (holds (channel_of partition call.request) number call.request (answer_of cores core call.who partition call.request)))
 
 pub refused_fails : (configuration : Configuration) (number : ℕ) (cores : List CoreState) (partition : Partition) (core : ℕ) (call : CallRecord)
     (conditions : List Condition) (why : Cause) → AllHold (caller_demands configuration number cores partition core call)
@@ -85,7 +85,7 @@ pub refused_fails : (configuration : Configuration) (number : ℕ) (cores : List
     → FirstFails (own_call_demands configuration number cores partition core call) why
 refused_fails configuration number cores partition core call conditions why caller are fails =
     fails_later (caller_demands configuration number cores partition core call) _ why caller
-    (rw (← are) (fails (channel_of partition call.request) number call.request (answer_of (time_of cores core) call.who partition call.request)))
+    (rw (← are) (fails (channel_of partition call.request) number call.request (answer_of cores core call.who partition call.request)))
 
 -- a call that claims a code of an error condition is not done
 pub refused_not_done : (conditions : List Condition) (number : ℕ) (asked : Request) (answer : Answer) (claim : Claim) → conditions ≢ []

@@ -1,11 +1,24 @@
 -- What shows that a demand fails, as the code finds it.
-use Rattle.std.proofs.Common.{◌≡◌, ℕ, List, Option, Some, None, Bool, refl, ap, ◌∙◌, option_map}
+use Rattle.std.proofs.Common.{◌≡◌, ◌⊎◌, ℕ, List, Option, Some, None, Bool, true, false, refl, ap, ◌∙◌, option_map, inl, inr}
 use Rattle.std.specs.List.{find}
+use Rattle.apex_types.specs.declared.cause.Cause.{Cause}
+use Rattle.apex_types.specs.declared.cause.Cause.TheVariants as cause
 use Rattle.apex_machine.specs.declared.state.Process.{Process}
+use Rattle.apex_machine.specs.Answer.{Answer}
+use Rattle.apex_machine.specs.Channels.{is_from_outside, is_to_outside, size_of}
+use Rattle.apex_machine.specs.Configuration.{Configuration}
 use Rattle.apex_machine.specs.Objects.{is_owner}
-use Rattle.apex_machine.specs.State.{Mutex}
+use Rattle.apex_machine.specs.Ports.{departed}
+use Rattle.apex_machine.specs.Queue.{Messages}
+use Rattle.apex_machine.specs.State.{Channel, Content, Mutex, Queued, Sampled}
+use Rattle.wait_set.specs.declared.given.Given.{Given}
+use Rattle.wait_set.specs.Givens.{answer_given}
+use Rattle.channel.specs.Held.{ForQueuing, ForSampling, SaysTheSame, Settings}
+use Rattle.channel.specs.Kinds as kinds
+use Rattle.channel.specs.Kinds.{is_sampled}
+use Rattle.piece_check.specs.declared.evidence.Evidence.{Evidence}
 use Rattle.piece_check.specs.declared.evidence.Evidence.TheVariants as evidence
-use Rattle.piece_check.specs.Evidence.{ShowsPriority, first_mutex, is_elsewhere}
+use Rattle.piece_check.specs.Evidence.{ShowsDeparted, ShowsDeparture, ShowsPriority, first_mutex, is_elsewhere}
 
 -- the number of the entry that a search finds is that of the first mutex of which the test holds
 pub first_is : {Found : Type 0} (test : Mutex → Bool) (mutexes : List (ℕ × Mutex)) (see : Found → ℕ × Mutex) (found : Option Found)
@@ -22,3 +35,38 @@ pub priority_shown : (mutexes : List (ℕ × Mutex)) (number recorded : ℕ) (pr
     → ShowsPriority mutexes number recorded found
     (evidence.Priority process.current_priority process.base_priority process.retained_priority owned elsewhere)
 priority_shown mutexes number recorded process found owned elsewhere there is_owned is_other = rw (← there, is_owned, is_other) refl
+
+-- what a configuration says of a channel, if its settings are these
+
+pub from_outside_is : (configuration : Configuration) (number : ℕ) (settings : Settings) → SaysTheSame configuration number settings
+    → is_from_outside configuration number ≡ kinds.is_from_outside settings
+from_outside_is configuration number (ForSampling settings) same = same.2
+from_outside_is configuration number (ForQueuing settings) same = same.6
+
+pub to_outside_is : (configuration : Configuration) (number : ℕ) (settings : Settings) → SaysTheSame configuration number settings
+    → is_to_outside configuration number ≡ kinds.is_to_outside settings
+to_outside_is configuration number (ForSampling settings) same = same.3
+to_outside_is configuration number (ForQueuing settings) same = same.7
+
+pub size_is : (configuration : Configuration) (number : ℕ) (settings : Settings) → SaysTheSame configuration number settings
+    → size_of configuration number ≡ kinds.size_in settings
+size_is configuration number (ForSampling settings) same = same.1
+size_is configuration number (ForQueuing settings) same = same.5
+
+-- messages that depart
+
+-- nothing departs from a sampling channel
+pub nothing_departs : (content : Content) (answer : Answer) → is_sampled content ≡ true → ShowsDeparted content answer evidence.Nothing
+nothing_departs (Sampled last) answer samples = refl
+nothing_departs (Queued messages) answer samples = let clash : false ≡ true = samples in cc
+
+-- from a queue a message departs
+pub queue_departs : (content : Content) (messages : Messages) (answer : Answer) (given : Given) → content ≡ Queued messages → answer_given given ≡ answer
+    → ShowsDeparted content answer (evidence.Answer given)
+queue_departs content messages answer given queued gives = rw queued gives
+
+-- the same is shown if the message is wrong, and if the processes are
+pub departure_shown : (configuration : Configuration) (now number : ℕ) (channel : Channel) (why : Cause) (shown : Evidence) → (why ≡ cause.Data) ⊎ (why ≡ cause.Woken)
+    → ShowsDeparted channel.content (departed configuration now number channel).answer shown → ShowsDeparture configuration now number channel why shown
+departure_shown configuration now number channel why shown (inl of_message) shows = rw of_message shows
+departure_shown configuration now number channel why shown (inr of_woken) shows = rw of_woken shows

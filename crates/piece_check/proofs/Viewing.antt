@@ -2,7 +2,7 @@
 use Rattle.std.proofs.Common.{◌≡◌, ◌∙◌, ℕ, Some, None, Bool, true, false, ◌||◌, if◌then◌else◌, nat_eq, refl, ap, sym, arith}
 use Rattle.std.proofs.lemmas.Bool.Decides.{nat_tests}
 use Rattle.apex_types.specs.declared.record.Body.{Body}
-use Rattle.apex_types.specs.declared.record.Body.TheVariants.{Call, Ret, Disp, Tick}
+use Rattle.apex_types.specs.declared.record.Body.TheVariants.{Arrive, Call, Depart, Ret, Disp, Tick}
 use Rattle.apex_types.specs.declared.record.Ordered.{Ordered}
 use Rattle.apex_types.specs.declared.view.View.{View}
 use Rattle.apex_machine.specs.Configuration.{Configuration}
@@ -58,6 +58,8 @@ no_view configuration (PartitionPart number cores partition) ordered untouched =
     by_body (Ret ret) untouched = rw untouched refl
     by_body (Disp who) untouched = refl
     by_body (Tick woken) untouched = refl
+    by_body (Arrive crossing) untouched = refl
+    by_body (Depart crossing) untouched = refl
 no_view configuration (ChannelPart number times channel) ordered untouched = refl
 
 -- a record that does not touch a piece has no view from it
@@ -73,6 +75,8 @@ judge_gives (ModulePart cores) ordered of = by_body ordered.rec.body of
     by_body (Ret ret) of = cc
     by_body (Disp who) of = (_, refl)
     by_body (Tick woken) of = (_, refl)
+    by_body (Arrive crossing) of = (_, refl)
+    by_body (Depart crossing) of = (_, refl)
 judge_gives (PartitionPart number cores partition) ordered of = by_body ordered.rec.body of
   where
     by_body : (body : Body) → OfPartition number ≡ judge_by body → (view : View) × partition_view number cores partition.table ordered.core body ≡ Some view
@@ -80,6 +84,8 @@ judge_gives (PartitionPart number cores partition) ordered of = by_body ordered.
     by_body (Ret ret) of = (_, own ret.who.part number _ cc)
     by_body (Disp who) of = cc
     by_body (Tick woken) of = cc
+    by_body (Arrive crossing) of = cc
+    by_body (Depart crossing) of = cc
 judge_gives (ChannelPart number times channel) ordered of = by_body ordered.rec.body of
   where
     by_body : (body : Body) → OfChannel number ≡ judge_by body → (view : View) × view_in (ChannelPart number times channel) ordered ≡ Some view
@@ -87,6 +93,8 @@ judge_gives (ChannelPart number times channel) ordered of = by_body ordered.rec.
     by_body (Ret ret) of = cc
     by_body (Disp who) of = cc
     by_body (Tick woken) of = cc
+    by_body (Arrive crossing) of = cc
+    by_body (Depart crossing) of = cc
 
 -- the judge of a record gives its view
 pub view_of_judge : (part : Part) (ordered : Ordered) → IsPartOf (judge ordered) part → (view : View) × view_in part ordered ≡ Some view
@@ -100,6 +108,8 @@ giver (ModulePart cores) ordered view gives = by_body ordered.rec.body gives
     by_body (Ret ret) gives = cc
     by_body (Disp who) gives = refl
     by_body (Tick woken) gives = refl
+    by_body (Arrive crossing) gives = refl
+    by_body (Depart crossing) gives = refl
 giver (PartitionPart number cores partition) ordered view gives = by_body ordered.rec.body gives
   where
     by_body : (body : Body) → partition_view number cores partition.table ordered.core body ≡ Some view → OfPartition number ≡ judge_by body
@@ -107,6 +117,8 @@ giver (PartitionPart number cores partition) ordered view gives = by_body ordere
     by_body (Ret ret) gives = sym (whose ret.who.part number _ view gives)
     by_body (Disp who) gives = cc
     by_body (Tick woken) gives = cc
+    by_body (Arrive crossing) gives = cc
+    by_body (Depart crossing) gives = cc
 giver (ChannelPart number times channel) ordered view gives = cc
 
 -- only the judge of a record gives a view of it

@@ -4,7 +4,7 @@ use Rattle.std.specs.List.{find, position_from}
 use Rattle.apex_types.specs.declared.cause.Cause.{Cause}
 use Rattle.apex_types.specs.declared.cause.Cause.TheVariants as cause
 use Rattle.apex_types.specs.declared.record.Body.{Body}
-use Rattle.apex_types.specs.declared.record.Body.TheVariants.{Call, Ret, Disp, Tick}
+use Rattle.apex_types.specs.declared.record.Body.TheVariants.{Arrive, Call, Depart, Ret, Disp, Tick}
 use Rattle.apex_types.specs.declared.record.Call.{Call as CallRecord}
 use Rattle.apex_types.specs.declared.record.Ordered.{Ordered}
 use Rattle.apex_types.specs.declared.record.Who.{Who}
@@ -14,18 +14,19 @@ use Rattle.apex_machine.specs.declared.condition.Condition.{Condition}
 use Rattle.apex_machine.specs.declared.state.CoreState.{CoreState}
 use Rattle.apex_machine.specs.declared.state.Outcome.{Outcome}
 use Rattle.apex_machine.specs.declared.state.Process.{Process}
-use Rattle.apex_machine.specs.Channels.{has_channel}
+use Rattle.apex_types.specs.declared.shape.End.TheVariants.{Senders, Receivers}
+use Rattle.apex_machine.specs.Channels.{has_channel, is_from_outside, is_to_outside, size_of}
 use Rattle.apex_machine.specs.Choice.{choice_in}
 use Rattle.apex_machine.specs.Conditions.{owns_mutex}
 use Rattle.apex_machine.specs.Configuration.{Configuration, has_partition}
-use Rattle.apex_machine.specs.Demands.{WakesHere, has_entry_in, window_now}
+use Rattle.apex_machine.specs.Demands.{AllWaitAt, WakesHere, has_entry_in, window_now}
 use Rattle.apex_machine.specs.DueTimes.{falls_due}
 use Rattle.apex_machine.specs.Objects.{is_owner}
 use Rattle.apex_machine.specs.Pieces.{ChannelPart, ModulePart, Part, PartitionPart, time_at}
-use Rattle.apex_machine.specs.Ports.{Ask, channel_effect, channel_of, suits_use, use_of}
+use Rattle.apex_machine.specs.Ports.{Ask, arrived, channel_effect, channel_of, departed, suits_use, use_of}
 use Rattle.apex_machine.specs.ServiceConditions.{conditions_of}
 use Rattle.apex_machine.specs.Services.{Answer, answer_of, in_profile, natural_of, waits_for_mutex}
-use Rattle.apex_machine.specs.State.{Channel, Mutex, Partition, is_named, item_at, occupant_of, time_of}
+use Rattle.apex_machine.specs.State.{Channel, Content, Mutex, Partition, Queued, Sampled, Table, channel_set, is_named, item_at, occupant_of, time_of}
 use Rattle.apex_machine.specs.Step.{ChannelConfigured, due_of}
 use Rattle.channel.specs.Kinds.{is_sampled}
 use Rattle.partition_state.specs.Calls.{creates}
@@ -44,10 +45,14 @@ processes_named (Ret ret) = ret.who ∷ []
 processes_named (Disp None) = []
 processes_named (Disp (Some who)) = who ∷ []
 processes_named (Tick woken) = woken
+processes_named (Arrive crossing) = crossing.woken
+processes_named (Depart crossing) = crossing.woken
 
 -- the channel that a record names
 abbrev pub channel_named : Body → Option ℕ
 channel_named (Call call) = call.claim.chan
+channel_named (Arrive crossing) = Some crossing.chan
+channel_named (Depart crossing) = Some crossing.chan
 channel_named _ = None
 
 -- the first of these processes whose partition is not configured
@@ -133,19 +138,21 @@ ShowsOfCall configuration cores partition core call cause.Prio shown =
     ShowsPriority partition.mutexes call.who.proc call.claim.prio (item_at partition.table call.who.proc) shown
 ShowsOfCall configuration cores partition core call _ shown =
     ShowsClaim (conditions_of configuration call.who partition call.request) (channel_of partition call.request) (creates call.request)
-    (answer_of (time_of cores core) call.who partition call.request) shown
+    (answer_of cores core call.who partition call.request) shown
 
 -- what is shown of a call; of another partition's call, the processes that it names, which `may_wake` and `misnaming` judge
 abbrev pub ShowsOfAnyCall : Bool → Configuration → List CoreState → Partition → ℕ → CallRecord → Cause → Evidence → Type 0
 ShowsOfAnyCall true configuration cores partition core call cause shown = ShowsOfCall configuration cores partition core call cause shown
 ShowsOfAnyCall false configuration cores partition core call cause shown = shown ≡ evidence.Named
 
--- what is shown of a record: of a return the pending outcome, of a tick the processes that it names
+-- what is shown of a record: of a return the pending outcome, of a tick, an arrival and a departure the processes that it names
 abbrev pub ShowsOfBody : Configuration → ℕ → List CoreState → Partition → ℕ → Body → Cause → Evidence → Type 0
 ShowsOfBody configuration number cores partition core (Call call) cause shown =
     ShowsOfAnyCall (nat_eq call.who.part number) configuration cores partition core call cause shown
 ShowsOfBody configuration number cores partition core (Ret ret) cause shown = ShowsPending (due_of (item_at partition.table ret.who.proc)) shown
 ShowsOfBody configuration number cores partition core (Tick woken) cause shown = shown ≡ evidence.Named
+ShowsOfBody configuration number cores partition core (Arrive crossing) cause shown = shown ≡ evidence.Named
+ShowsOfBody configuration number cores partition core (Depart crossing) cause shown = shown ≡ evidence.Named
 ShowsOfBody configuration number cores partition core (Disp who) cause shown = shown ≡ evidence.Nothing
 
 -- what a partition shows: the window of the core, or its choice, each with the occupant; else what the record shows. Names, Skew and Idle
@@ -175,13 +182,44 @@ ShowsThrough suited answer asked channel evidence.OtherKind = IsFalse suited
 ShowsThrough suited answer asked channel evidence.AtNeitherEnd = IsFalse suited × (use_of asked ≡ Some Ask) × IsFalse (is_sampled channel.content)
 ShowsThrough suited answer asked channel _ = ⊥
 
--- what a channel shows of a call at this time of its caller's core
+-- Chan, of a message that arrives or departs: the end is inside the module
+abbrev pub ShowsEnd : Bool → Evidence → Type 0
+ShowsEnd true shown = shown ≡ evidence.Nothing
+ShowsEnd false shown = shown ≡ evidence.Inside
+
+-- what a message that arrives or departs gives
+abbrev pub ShowsGiven : Answer → Evidence → Type 0
+ShowsGiven answer (evidence.Answer given) = answer_given given ≡ answer
+ShowsGiven answer _ = ⊥
+
+-- what a channel shows of a message that arrives, at this time of its core
+abbrev pub ShowsArrival : Configuration → ℕ → ℕ → Channel → List ℕ → Cause → Evidence → Type 0
+ShowsArrival configuration now number channel message cause.Chan shown = ShowsEnd (is_from_outside configuration number) shown
+ShowsArrival configuration now number channel message cause.Data shown = shown ≡ evidence.Size (size_of configuration number)
+ShowsArrival configuration now number channel message cause.Woken shown = ShowsGiven (arrived configuration now number message channel).answer shown
+ShowsArrival configuration now number channel message _ shown = shown ≡ evidence.Nothing
+
+-- the same of a departure from a channel with this content: nothing departs from a sampling channel
+abbrev pub ShowsDeparted : Content → Answer → Evidence → Type 0
+ShowsDeparted (Queued messages) answer shown = ShowsGiven answer shown
+ShowsDeparted (Sampled last) answer shown = shown ≡ evidence.Nothing
+
+-- what a channel shows of a message that departs, at this time of its core
+abbrev pub ShowsDeparture : Configuration → ℕ → ℕ → Channel → Cause → Evidence → Type 0
+ShowsDeparture configuration now number channel cause.Chan shown = ShowsEnd (is_to_outside configuration number) shown
+ShowsDeparture configuration now number channel cause.Data shown = ShowsDeparted channel.content (departed configuration now number channel).answer shown
+ShowsDeparture configuration now number channel cause.Woken shown = ShowsDeparted channel.content (departed configuration now number channel).answer shown
+ShowsDeparture configuration now number channel _ shown = shown ≡ evidence.Nothing
+
+-- what a channel shows of a call at this time of its caller's core, and of an arrival and a departure
 abbrev pub ShowsOfChannel : Configuration → ℕ → ℕ → Channel → Body → Cause → Evidence → Type 0
 ShowsOfChannel configuration now number channel (Call call) cause.Choice shown =
     ShowsWaits (has_entry_in call.who channel.senders || has_entry_in call.who channel.receivers) shown
 ShowsOfChannel configuration now number channel (Call call) cause shown =
     ShowsThrough (suits_use configuration number call.who.part (use_of call.request) channel)
     (channel_effect configuration now number call.who.part (use_of call.request) channel).answer call.request channel shown
+ShowsOfChannel configuration now number channel (Arrive crossing) cause shown = ShowsArrival configuration now number channel crossing.message cause shown
+ShowsOfChannel configuration now number channel (Depart crossing) cause shown = ShowsDeparture configuration now number channel cause shown
 ShowsOfChannel configuration now number channel body cause shown = shown ≡ evidence.Nothing
 
 -- any piece
@@ -210,9 +248,17 @@ misnamed_at_tick (PartitionPart number cores partition) core woken process =
 misnamed_at_tick (ModulePart cores) core woken process = None
 misnamed_at_tick (ChannelPart number times channel) core woken process = None
 
--- a call of another partition can end the wait of this process of the part's partition
-abbrev pub MayWake : Part → CallRecord → ℕ → Type 0
-MayWake (PartitionPart number cores partition) call process =
-    WakesHere call.request call.claim.chan number partition.table (record { part = number; proc = process } ∷ [])
-MayWake (ModulePart cores) call process = ⊥
-MayWake (ChannelPart number times channel) call process = ⊥
+-- a record of others can end the wait of this process of a partition of this number and this table
+abbrev pub EndsWait : ℕ → Table → Body → ℕ → Type 0
+EndsWait number table (Call call) process = WakesHere call.request call.claim.chan number table (record { part = number; proc = process } ∷ [])
+EndsWait number table (Arrive crossing) process =
+    AllWaitAt (channel_set crossing.chan Receivers) number table (record { part = number; proc = process } ∷ [])
+EndsWait number table (Depart crossing) process =
+    AllWaitAt (channel_set crossing.chan Senders) number table (record { part = number; proc = process } ∷ [])
+EndsWait number table _ process = ⊥
+
+-- a record of others can end the wait of this process of the part's partition
+abbrev pub MayWake : Part → Body → ℕ → Type 0
+MayWake (PartitionPart number cores partition) body process = EndsWait number partition.table body process
+MayWake (ModulePart cores) body process = ⊥
+MayWake (ChannelPart number times channel) body process = ⊥

@@ -1,14 +1,18 @@
 -- What a judgement says.
-use Rattle.std.specs.Prelude.{◌≡◌, ℕ, List, [], None}
+use Rattle.std.specs.Prelude.{◌≡◌, ℕ, List, [], ◌∷◌, None}
+use Rattle.apex_types.specs.declared.cause.Cause.TheVariants as cause
+use Rattle.apex_types.specs.declared.record.Crossing.{Crossing}
+use Rattle.apex_types.specs.declared.shape.End.{End}
 use Rattle.apex_types.specs.declared.record.Body.{Body}
 use Rattle.apex_machine.specs.Configuration.{Configuration}
 pub use Rattle.apex_machine.specs.Demands.{Judges}
 use Rattle.apex_types.specs.declared.record.Call.{Call as CallRecord}
 use Rattle.apex_types.specs.declared.record.Ordered.{Ordered}
 use Rattle.apex_machine.specs.After.{own_partition}
-use Rattle.apex_machine.specs.Demands.{AllHold, Demand, caller_demands, module_demands, own_call_demands, partition_demands}
+use Rattle.apex_machine.specs.Demands.{AllHold, AllWaitAt, Demand, caller_demands, module_demands, own_call_demands, partition_demands}
 use Rattle.apex_machine.specs.Pieces.{Part, PartitionPart}
 use Rattle.apex_machine.specs.Ports.{channel_of}
+use Rattle.apex_machine.specs.State.{Partition, channel_set}
 use Rattle.apex_machine.specs.ServiceConditions.{conditions_of}
 use Rattle.apex_machine.specs.Waiting.{restart_of}
 use Rattle.partition_state.specs.Calls.{LeavesObjects}
@@ -28,6 +32,11 @@ asked_by_partition configuration piece core body = partition_demands configurati
 -- what a partition's piece demands, before the outcome, of a call of one of its own processes
 abbrev pub own_caller_demands : Configuration → PartitionPiece → ℕ → CallRecord → List {1} Demand
 own_caller_demands configuration piece core call = caller_demands configuration piece.number piece.clock.cores piece.state core call
+
+-- what a partition of this number demands of an arrival or a departure: its processes that are named wait at this end of the channel
+abbrev pub crossing_demands : ℕ → End → Partition → Crossing → List {1} Demand
+crossing_demands number end partition crossing =
+    record { cause = cause.Woken; holds = AllWaitAt (channel_set crossing.chan end) number partition.table crossing.woken } ∷ []
 
 -- what a partition's piece demands of a call of one of its own processes
 abbrev pub own_demands : Configuration → PartitionPiece → ℕ → CallRecord → List {1} Demand

@@ -1,9 +1,11 @@
+pub mod Moments
 pub mod Parts
 pub mod Refused
 pub mod Subjects
 pub mod Held
 pub mod Judged
 pub mod Touching
+pub mod Waking
 pub mod Seen
 pub mod Evidence
 pub mod Quiet

@@ -1,7 +1,7 @@
 -- What callers see of a piece, and what a step needs of it.
 use Rattle.std.specs.Prelude.{◌≡◌, ℕ, ◌<◌, ◌≤◌, List, Bool, Option, Some, None, length, map, slice_index_or}
 use Rattle.apex_types.specs.declared.record.Body.{Body}
-use Rattle.apex_types.specs.declared.record.Body.TheVariants.{Call, Ret, Disp, Tick}
+use Rattle.apex_types.specs.declared.record.Body.TheVariants.{Arrive, Call, Depart, Ret, Disp, Tick}
 use Rattle.apex_machine.specs.declared.state.CoreState.{CoreState}
 use Rattle.apex_machine.specs.declared.state.Entry.{Entry}
 use Rattle.apex_machine.specs.Configuration.{Configuration}
@@ -95,14 +95,16 @@ abbrev pub CallerFits : Body → Type 0
 CallerFits (Call call) = call.who.proc < 4294967296
 CallerFits _ = Unit {0}
 
--- only calls may take memory
-abbrev pub IsCall : Body → Type 0
-IsCall (Call call) = Unit {0}
-IsCall (Ret ret) = ⊥
-IsCall (Disp who) = ⊥
-IsCall (Tick woken) = ⊥
+-- only calls, arrivals and departures may take memory
+abbrev pub MayTakeMemory : Body → Type 0
+MayTakeMemory (Call call) = Unit {0}
+MayTakeMemory (Ret ret) = ⊥
+MayTakeMemory (Disp who) = ⊥
+MayTakeMemory (Tick woken) = ⊥
+MayTakeMemory (Arrive crossing) = Unit {0}
+MayTakeMemory (Depart crossing) = Unit {0}
 
--- only a call is refused for a lack of memory
-abbrev pub WantsAtCalls : Body → ObjFault → Type 0
-WantsAtCalls body (Unlawful cause) = Unit {0}
-WantsAtCalls body Memory = IsCall body
+-- only a record that may take memory is refused for a lack of it
+abbrev pub WantsWhereAllowed : Body → ObjFault → Type 0
+WantsWhereAllowed body (Unlawful cause) = Unit {0}
+WantsWhereAllowed body Memory = MayTakeMemory body

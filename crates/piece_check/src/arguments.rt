@@ -4,7 +4,9 @@ ghost use Rattle.std.specs.Prelude.{◌≡◌, ◌<◌};
 ghost use Rattle.apex_machine.specs.Arguments as numbers;
 
 use apex_machine::Direction;
-use apex_types::limits::{GREATEST_MAXIMUM, GREATEST_PRIORITY, LONGEST_MESSAGE, MOST_MESSAGES};
+use apex_types::limits::{
+    GREATEST_MAXIMUM, GREATEST_PRIORITY, LONGEST_MESSAGE, LONGEST_REPORT, MOST_MESSAGES,
+};
 use apex_types::{Discipline, ProcId};
 
 /// Whether a number is a priority: 1 to 239.
@@ -27,6 +29,34 @@ pub(crate) fn suits_period(partition_period: u64, period: i64) -> bool
     ensures { result ≡ numbers.suits_period partition_period period }
 {
     period < 0 || period as u64 % partition_period == 0
+}
+
+/// Whether a number is a time capacity in ticks: above 0, or -1 for a process without deadlines.
+pub(crate) fn is_time_capacity(capacity: i64) -> bool
+    ensures { result ≡ numbers.is_time_capacity capacity }
+{
+    is_period(capacity)
+}
+
+/// Whether a period and a time capacity are given, both in ticks, and the capacity is the greater.
+pub(crate) fn is_above_period(period: i64, capacity: i64) -> bool
+    ensures { result ≡ numbers.is_above_period period capacity }
+{
+    period > 0 && capacity > period
+}
+
+/// Whether a number is the length of a message to the maintenance: 0 to 128 bytes.
+pub(crate) fn is_report_length(length: i64) -> bool
+    ensures { result ≡ numbers.is_report_length length }
+{
+    0 <= length && length <= LONGEST_REPORT as i64
+}
+
+/// Whether a caller's number is at least this one.
+pub(crate) fn is_at_least(least: u64, given: i64) -> bool
+    ensures { result ≡ numbers.is_at_least least given }
+{
+    given >= 0 && least <= given as u64
 }
 
 /// Whether a number is below 0.

@@ -15,14 +15,14 @@ ghost use Rattle.apex_machine.specs.Waiting.{stops};
 ghost use Rattle.channel.specs.Held.{IsConfigured};
 ghost use Rattle.partition_state.specs.Calls.{RefusesOrWants};
 ghost use Rattle.piece_check.specs.Held.{channel_part};
-ghost use Rattle.piece_check.specs.Parts.{HoldsBefore, WaitBefore, WantsAtCalls};
+ghost use Rattle.piece_check.specs.Parts.{HoldsBefore, WaitBefore, WantsWhereAllowed};
 ghost use Rattle.piece_check.specs.Quiet.{is_quiet};
 ghost use Rattle.piece_check.specs.Subjects.{is_the};
 
 use apex_types::{
     Body, Call, Cause, ChanId, Code, Ordered, Out, Place, ProcId, ProcessOperation, Request, Who,
 };
-use channel::Channel;
+use channel::{Channel, QueuingSettings, SamplingSettings};
 use dispatch_rule::Times;
 use module_config::{ChannelKind, Config};
 use partition_state::restart_of;
@@ -56,7 +56,8 @@ impl ChannelPiece {
 
     /// Judges a record, and changes the part as the record says.
     ///
-    /// Refused, with nothing changed, if a demand fails, with the cause of the first that does; or if memory is refused to a call.
+    /// Refused, with nothing changed, if a demand fails, with the cause of the first that does; or if memory is refused to a call or an
+    /// arrival.
     pub(crate) fn step(&mut self, config: &Config, ordered: &Ordered) -> Result<(), ObjFault>
         requires core { ordered.now.core < length self.old.times }
         requires place { ordered.now.pos < PLACE_COUNT }
@@ -65,7 +66,7 @@ impl ChannelPiece {
         ensures ok { OnOk result (LocalStep config.now (channel_part self.old) ordered.now (channel_part self.new)) }
         ensures refused { IfErr result (RefusesOrWants (demands config.now (channel_part self.old) ordered.now)) }
         ensures unchanged { OnErr result (self.new ≡ self.old) }
-        ensures memory { IfErr result (WantsAtCalls ordered.now.rec.body) }
+        ensures memory { IfErr result (WantsWhereAllowed ordered.now.rec.body) }
         ensures configured { IsConfigured config.now self.new.channel }
     {
         match &ordered.rec.body {
@@ -75,6 +76,16 @@ impl ChannelPiece {
                     return self.channel.apply(ordered.pos, now, call);
                 }
                 self.let_go(ordered.pos, call);
+            }
+            Body::Arrive(crossing) if crossing.chan == self.channel.number() => {
+                let now = self.times.now(ordered.core);
+                return self.channel.arrive(now, crossing);
+            }
+            Body::Depart(crossing) if crossing.chan == self.channel.number() => {
+                return self.channel.depart(crossing).map_err(ObjFault::Unlawful);
+            }
+            Body::Arrive(crossing) | Body::Depart(crossing) => {
+                self.channel.release(crossing.woken.as_slice());
             }
             Body::Tick(woken) => {
                 self.channel.release(woken.as_slice());
@@ -103,7 +114,8 @@ impl ChannelPiece {
         true
     }
 
-    /// Judges a record. A call through the channel must meet what the channel demands; of any other record the channel demands nothing.
+    /// Judges a record. A call through the channel, an arrival at it and a departure from it must meet what the channel demands; of any other
+    /// record the channel demands nothing.
     /// Takes no memory.
     ///
     /// Refused with the cause of the first demand that fails.
@@ -120,7 +132,15 @@ impl ChannelPiece {
                     Ok(())
                 }
             }
-            Body::Tick(_) | Body::Ret(_) | Body::Disp(_) => Ok(()),
+            Body::Arrive(crossing) if crossing.chan == self.channel.number() => {
+                self.channel.judge_arrival(crossing)
+            }
+            Body::Depart(crossing) if crossing.chan == self.channel.number() => {
+                self.channel.judge_departure(crossing)
+            }
+            Body::Arrive(_) | Body::Depart(_) | Body::Tick(_) | Body::Ret(_) | Body::Disp(_) => {
+                Ok(())
+            }
         }
     }
 
@@ -150,12 +170,26 @@ fn empty_channel(alloc: Global, config: &Config, number: ChanId) -> Result<Chann
     ensures cold { IfOk result (λ channel. channel.channel ≡ cold_channel config.now number) }
     ensures configured { IfOk result (IsConfigured config.now) }
 {
+    config.keeps_limits();
     let Some(kind) = config.channel_kind(number) else {
         unreachable!()
     };
     match &kind {
-        ChannelKind::Sampling { refresh } => Ok(Channel::sampling(alloc, number, *refresh)),
+        ChannelKind::Sampling {
+            size,
+            refresh,
+            from_outside,
+        } => Ok(Channel::sampling(
+            alloc,
+            number,
+            SamplingSettings {
+                size: *size,
+                refresh: *refresh,
+                from_outside: *from_outside,
+            },
+        )),
         ChannelKind::Queuing {
+            size,
             capacity,
             sending,
             receiving,
@@ -164,11 +198,14 @@ fn empty_channel(alloc: Global, config: &Config, number: ChanId) -> Result<Chann
         } => Channel::queuing(
             alloc,
             number,
-            *capacity,
-            *sending,
-            *receiving,
-            *source,
-            *destination,
+            QueuingSettings {
+                size: *size,
+                capacity: *capacity,
+                sending: *sending,
+                receiving: *receiving,
+                source: *source,
+                destination: *destination,
+            },
         ),
     }
 }

@@ -6,6 +6,7 @@ ghost use Rattle.apex_machine.specs.Conditions.{creation_conditions, time_out_co
 ghost use Rattle.apex_machine.specs.ServiceConditions as services;
 
 mod creations;
+mod errors;
 mod objects;
 mod port_services;
 mod processes;
@@ -15,11 +16,12 @@ use crate::arguments::{is_over, is_time_out};
 use apex_machine::{Condition, Mode};
 use apex_types::{Call, Request, Who};
 use creations::create_conditions;
+use errors::{create_error_handler, report_message};
 use module_config::Config;
 use objects::object_conditions;
 use partition_state::PartitionState;
 use port_services::{queuing_conditions, sampling_conditions};
-use processes::{caller_conditions, create_process, process_conditions, set_mode};
+use processes::{Scheduling, caller_conditions, create_process, process_conditions, set_mode};
 use reported::{id_conditions, status_conditions};
 use wait_set::Conditions;
 
@@ -33,7 +35,15 @@ pub(crate) fn conditions_of(config: &Config, state: &PartitionState, call: &Call
             name,
             priority,
             period,
-        } => create_process(config, who.part, state, name, *priority, *period),
+            time_capacity,
+        } => {
+            let scheduling = Scheduling {
+                priority: *priority,
+                period: *period,
+                time_capacity: *time_capacity,
+            };
+            create_process(config, who.part, state, name, scheduling)
+        }
         Request::Process(process, operation) => {
             process_conditions(config, state, who, *process, operation)
         }
@@ -47,6 +57,8 @@ pub(crate) fn conditions_of(config: &Config, state: &PartitionState, call: &Call
         }
         Request::GetId(kind, name) => id_conditions(state, *kind, name),
         Request::GetStatus(kind, object) => status_conditions(state, *kind, *object),
+        Request::ReportMessage { length, .. } => report_message(*length),
+        Request::CreateErrorHandler => create_error_handler(state),
     }
 }
 

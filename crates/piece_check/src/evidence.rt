@@ -1,6 +1,6 @@
 // What shows that a demand of a piece fails.
 
-ghost use Rattle.std.specs.Prelude.{◌≡◌, ◌↔◌, ◌+◌, ◌∷◌, ◌||◌, [], Some, IsTrue, nat_le, not};
+ghost use Rattle.std.specs.Prelude.{◌≡◌, ◌↔◌, ◌+◌, ◌∷◌, ◌||◌, ℕ, List, [], Some, IsTrue, nat_le, not};
 ghost use Rattle.std.specs.List.{position_from};
 ghost use Rattle.apex_types.specs.declared.record.Who.{Who as WhoValue};
 ghost use Rattle.apex_types.specs.declared.request.Request.TheVariants as requests;
@@ -8,14 +8,14 @@ ghost use Rattle.apex_machine.specs.Configuration.{Configuration};
 ghost use Rattle.apex_machine.specs.Demands.{has_entry_in};
 ghost use Rattle.apex_machine.specs.Objects.{is_owner};
 ghost use Rattle.apex_machine.specs.Pieces.{time_at};
-ghost use Rattle.apex_machine.specs.Ports.{Ask, channel_effect, channel_of, suits_use, use_of};
+ghost use Rattle.apex_machine.specs.Ports.{Ask, channel_effect, channel_of, departed, suits_use, use_of};
 ghost use Rattle.apex_machine.specs.ServiceConditions as services;
 ghost use Rattle.apex_machine.specs.Services.{answer_of};
 ghost use Rattle.apex_machine.specs.State.{item_at, time_of};
 ghost use Rattle.apex_machine.specs.Step.{due_of};
 ghost use Rattle.channel.specs.Held.{IsConfigured};
 ghost use Rattle.partition_state.specs.Calls.{creates};
-ghost use Rattle.piece_check.specs.Evidence.{IsEvidence, ShowsClaim, ShowsNames, ShowsOfBody, ShowsOfCall, ShowsOfModule, ShowsOutside, ShowsPending, ShowsPriority, ShowsSkew, ShowsThrough, ShowsWaits, channel_named, first_mutex, first_unknown, is_elsewhere, leaves_back, processes_named};
+ghost use Rattle.piece_check.specs.Evidence.{IsEvidence, ShowsClaim, ShowsArrival, ShowsDeparted, ShowsDeparture, ShowsEnd, ShowsNames, ShowsOfBody, ShowsOfCall, ShowsOfModule, ShowsOutside, ShowsPending, ShowsPriority, ShowsSkew, ShowsThrough, ShowsWaits, channel_named, first_mutex, first_unknown, is_elsewhere, leaves_back, processes_named};
 ghost use Rattle.piece_check.specs.Held.{channel_part, partition_part};
 ghost use Rattle.piece_check.specs.Parts.{AgreesOn};
 
@@ -33,7 +33,7 @@ use apex_types::{
 use module_config::Config;
 use partition_objects::{Mutex653, ObjectTable};
 use partition_state::PartitionState;
-use wait_set::{Conditions, Given, WaitSet};
+use wait_set::{Conditions, Given};
 
 /// What shows that a demand of a piece fails. Each variant names the causes to which it belongs.
 #[derive(Drop)]
@@ -81,7 +81,8 @@ pub enum Evidence<'a> {
     Conditions(Conditions),
     /// A claim, of the caller's partition: no error condition holds, and the port is of this channel.
     Through(ChanId),
-    /// A claim: what the call gives its caller.
+    /// A claim: what the call gives its caller. Data and Woken, of a message that arrives or departs: the message that departs, and the
+    /// process whose wait ends.
     Answer(Given<'a>),
     /// A claim: the call gives a new number, whichever it is.
     NewNumber,
@@ -89,8 +90,12 @@ pub enum Evidence<'a> {
     OtherKind,
     /// A claim, of a channel: the partition that asks for the status is at neither end.
     AtNeitherEnd,
-    /// Woken, of a tick or of another partition's call: `Piece::misnamed_at_tick` or `Piece::may_wake` answers for each process.
+    /// Woken, of a tick or of a record of others: `Piece::misnamed_at_tick` or `Piece::may_wake` answers for each process.
     Named,
+    /// Chan, of a message that arrives or departs: the end of the channel is inside the module.
+    Inside,
+    /// Data, of a message that arrives: the greatest size of the channel's messages, in bytes.
+    Size(u16),
 }
 
 impl Piece {
@@ -184,7 +189,7 @@ impl PartitionPiece {
                 }
             }
             Body::Ret(ret) => shown_pending(&self.state, ret.who.proc),
-            Body::Tick(_) => Evidence::Named,
+            Body::Tick(_) | Body::Arrive(_) | Body::Depart(_) => Evidence::Named,
             Body::Disp(_) => Evidence::Nothing,
         }
     }
@@ -219,7 +224,7 @@ impl PartitionPiece {
 
     // What a call can claim.
     fn shown_claim(&self, config: &Config, ordered: &Ordered, call: &Call) -> Evidence<'_>
-        ensures { ShowsClaim (services.conditions_of config.now call.now.who self.now.state call.now.request) (channel_of self.now.state call.now.request) (creates call.now.request) (answer_of (time_of self.now.clock.cores ordered.now.core) call.now.who self.now.state call.now.request) result }
+        ensures { ShowsClaim (services.conditions_of config.now call.now.who self.now.state call.now.request) (channel_of self.now.state call.now.request) (creates call.now.request) (answer_of self.now.clock.cores ordered.now.core call.now.who self.now.state call.now.request) result }
     {
         let conditions = conditions_of(config, &self.state, call);
         if !conditions.is_empty() {
@@ -228,8 +233,7 @@ impl PartitionPiece {
         if let Some(channel) = self.state.channel_of(&call.request) {
             return Evidence::Through(channel);
         }
-        let now = self.clock.now(ordered.core);
-        match self.state.answer(now, ordered.pos, call) {
+        match self.state.answer(&self.moment(ordered), call) {
             Some(given) => Evidence::Answer(given),
             None => Evidence::NewNumber,
         }
@@ -258,6 +262,8 @@ impl ChannelPiece {
                 | Cause::OutsideProfile
                 | Cause::Prio => self.shown_through(ordered.core, call),
             },
+            Body::Arrive(_) => self.shown_of_arrival(cause),
+            Body::Depart(_) => self.shown_of_departure(cause),
             Body::Ret(_) | Body::Disp(_) | Body::Tick(_) => Evidence::Nothing,
         }
     }
@@ -270,6 +276,60 @@ impl ChannelPiece {
             Evidence::Waits
         } else {
             Evidence::Nothing
+        }
+    }
+
+    // What the channel shows of a message that arrives.
+    fn shown_of_arrival(&self, cause: Cause) -> Evidence<'_>
+        ensures { (configuration : Configuration) (now : ℕ) (message : List ℕ) → IsConfigured configuration self.now.channel → ShowsArrival configuration now self.now.channel.number self.now.channel.channel message cause result }
+    {
+        match cause {
+            Cause::Chan => shown_end(self.channel.is_from_outside()),
+            Cause::Data => Evidence::Size(self.channel.size()),
+            Cause::Woken => Evidence::Answer(self.channel.answer_to_arrival()),
+            Cause::Names
+            | Cause::Skew
+            | Cause::Idle
+            | Cause::Window
+            | Cause::Choice
+            | Cause::Return
+            | Cause::OutsideProfile
+            | Cause::Prio
+            | Cause::Out
+            | Cause::Val => Evidence::Nothing,
+        }
+    }
+
+    // What the channel shows of a message that departs.
+    fn shown_of_departure(&self, cause: Cause) -> Evidence<'_>
+        ensures { (configuration : Configuration) (now : ℕ) → IsConfigured configuration self.now.channel → ShowsDeparture configuration now self.now.channel.number self.now.channel.channel cause result }
+    {
+        match cause {
+            Cause::Chan => shown_end(self.channel.is_to_outside()),
+            Cause::Data | Cause::Woken => self.shown_departing(),
+            Cause::Names
+            | Cause::Skew
+            | Cause::Idle
+            | Cause::Window
+            | Cause::Choice
+            | Cause::Return
+            | Cause::OutsideProfile
+            | Cause::Prio
+            | Cause::Out
+            | Cause::Val => Evidence::Nothing,
+        }
+    }
+
+    // What a message that departs gives. Nothing departs from a sampling channel.
+    fn shown_departing(&self) -> Evidence<'_>
+        ensures { (configuration : Configuration) (now : ℕ) → IsConfigured configuration self.now.channel → ShowsDeparted self.now.channel.channel.content (departed configuration now self.now.channel.number self.now.channel.channel).answer result }
+    {
+        let Some(_) = self.channel.queue() else {
+            return Evidence::Nothing;
+        };
+        match self.channel.answer_to_departure() {
+            Some(given) => Evidence::Answer(given),
+            None => Evidence::Nothing,
         }
     }
 
@@ -287,6 +347,17 @@ impl ChannelPiece {
                 }
             }
         }
+    }
+}
+
+// Whether an end is inside the module.
+fn shown_end<'a>(is_outside: bool) -> Evidence<'a>
+    ensures { ShowsEnd is_outside result }
+{
+    if is_outside {
+        Evidence::Nothing
+    } else {
+        Evidence::Inside
     }
 }
 
@@ -325,6 +396,9 @@ fn first_unknown_of(config: &Config, body: &Body) -> Option<Who>
         Body::Disp(Some(who)) => unless_known(config, *who),
         Body::Disp(None) => None,
         Body::Tick(woken) => first_unknown_among(config, woken.as_slice()),
+        Body::Arrive(crossing) | Body::Depart(crossing) => {
+            first_unknown_among(config, crossing.woken.as_slice())
+        }
     }
 }
 
@@ -355,6 +429,7 @@ fn channel_of_body(body: &Body) -> Option<ChanId>
 {
     match body {
         Body::Call(call) => call.claim.chan,
+        Body::Arrive(crossing) | Body::Depart(crossing) => Some(crossing.chan),
         Body::Ret(_) | Body::Disp(_) | Body::Tick(_) => None,
     }
 }
@@ -438,7 +513,10 @@ fn shown_target<'a>(
         }
         ProcessOperation::InitializeCoreAffinity { .. }
         | ProcessOperation::Start
-        | ProcessOperation::Resume => Evidence::Nothing,
+        | ProcessOperation::DelayedStart { .. }
+        | ProcessOperation::Resume
+        | ProcessOperation::GetStatus
+        | ProcessOperation::GetMutexState => Evidence::Nothing,
     }
 }
 

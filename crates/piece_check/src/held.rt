@@ -9,7 +9,7 @@ ghost use Rattle.apex_machine.specs.State.{cold_state, time_of};
 ghost use Rattle.apex_machine.specs.Views.{view_in};
 ghost use Rattle.partition_state.specs.Calls.{RefusesOrWants};
 ghost use Rattle.piece_check.specs.Held.{part_of, settings_of};
-ghost use Rattle.piece_check.specs.Parts.{AgreesOn, HoldsBefore, WantsAtCalls, cores_of, holder, piece_at};
+ghost use Rattle.piece_check.specs.Parts.{AgreesOn, HoldsBefore, WantsWhereAllowed, cores_of, holder, piece_at};
 ghost use Rattle.piece_check.specs.Quiet.{passes_by};
 ghost use Rattle.piece_check.specs.Found.{IsWindowAt};
 
@@ -55,7 +55,7 @@ impl Held {
 
     /// Judges a record, and changes the part as the record says. The window of its core may have been found before.
     ///
-    /// Refused, with nothing changed, if a demand fails, with the cause of the first that does; or if memory is refused to a call.
+    /// Refused, with nothing changed, if a demand fails, with the cause of the first that does; or if memory is refused.
     pub(crate) fn step(
         &mut self,
         config: &Config,
@@ -70,7 +70,7 @@ impl Held {
         ensures ok { OnOk result (LocalStep config.now (part_of self.old) ordered.now (part_of self.new)) }
         ensures refused { IfErr result (RefusesOrWants (demands config.now (part_of self.old) ordered.now)) }
         ensures unchanged { OnErr result (self.new ≡ self.old) }
-        ensures memory { IfErr result (WantsAtCalls ordered.now.rec.body) }
+        ensures memory { IfErr result (WantsWhereAllowed ordered.now.rec.body) }
         ensures agrees { AgreesOn config.now (part_of self.new) (settings_of self.new) }
     {
         match self {

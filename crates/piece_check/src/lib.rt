@@ -4,7 +4,7 @@
 //!
 //! - A piece starts with its part of the cold state. Its step accepts a record exactly if all its demands on the record hold, and its part
 //!   is then the part after the record. Otherwise the step reports the cause of the first demand that fails, and nothing is changed.
-//! - A step takes memory only at a call. After memory was refused, every later step reports it.
+//! - A step takes memory only at a call, an arrival and a departure. After memory was refused, every later step reports it.
 //! - Before a step, the piece that judges the record gives the view of it that a user's relation sees, and no other piece does.
 //! - After a refusal, the evidence of the demand that fails is what the definitions give there.
 //! - For the records of a round, `Touched` lists for each piece exactly the records that touch it.
@@ -28,9 +28,10 @@
 //! accepted costs nothing. `misnamed_at_tick`, `may_wake`, `misnamed_by` and `is_ready` say of one process what a list of processes rests
 //! on (`misnaming.rt`).
 //!
-//! A partition gives views of its own calls and returns, the module of dispatches and ticks, and a channel of nothing. A view takes no
+//! A partition gives views of its own calls and returns, the module of all other records, and a channel of nothing. A view takes no
 //! memory; it is requested only if rules are given. `Touched` is made anew for each round, in one pass, and its lists keep their memory. A
-//! call goes to the module, its caller's partition, the partitions that it names and the channel that it claims. A return goes to the
+//! call goes to the module, its caller's partition, the partitions that it names and the channel that it claims. An arrival and a departure
+//! go to the module, the partitions that they name and their channel. A return goes to the
 //! module and its partition, and a dispatch to the module and all partitions. A tick goes to all, so its index is kept once for all pieces,
 //! and a piece goes over the ticks and its own list as one (`Indices`). For a STOP that is done and for a restart all pieces are looked at,
 //! because such a call may touch channels that it does not claim.
@@ -57,6 +58,7 @@ mod seen;
 mod subject;
 mod touched;
 mod views;
+mod waking;
 mod windows;
 
 pub use evidence::Evidence;

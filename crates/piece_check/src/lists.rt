@@ -3,11 +3,11 @@
 ghost use Rattle.std.specs.Prelude.{◌≡◌, ◌≤◌, IfOk, OnOk, [], length};
 ghost use Rattle.apex_machine.specs.Pieces.{Piece, pieces};
 ghost use Rattle.piece_check.specs.Subjects.{piece_of};
-ghost use Rattle.piece_check.specs.Touching.{HasList, IsEntered, IsPut, PartitionFits, ends_with, is_claimed, is_home_of, is_of_call, is_of_return, is_same_piece, is_touched_first, list_of, slot, with_last};
+ghost use Rattle.piece_check.specs.Touching.{HasList, IsEntered, IsPut, PartitionFits, ends_with, is_claimed, is_home_of, is_of_call, is_of_crossing, is_of_return, is_same_piece, is_touched_first, list_of, slot, with_last};
 
 use crate::subject::{Subject, count, stops_some, subject_of};
 use apex_types::limits::GREATEST_CHANNEL;
-use apex_types::{Body, Call, ChanId, Ordered, Return, Who};
+use apex_types::{Body, Call, ChanId, Crossing, Ordered, Return, Who};
 use module_config::Config;
 use std::alloc::{AllocError, Global};
 use std::marker::Model;
@@ -92,6 +92,7 @@ impl Lists {
             }
             Body::Ret(ret) => self.enter_return(index, ret),
             Body::Disp(_) => self.enter_first(config, config.partition_count() + 1, index, ordered),
+            Body::Arrive(crossing) | Body::Depart(crossing) => self.enter_crossing(index, crossing),
             Body::Tick(_) => Ok(()),
         }
     }
@@ -133,6 +134,15 @@ impl Lists {
     {
         self.put(&Subject::Module, index)?;
         self.put(&Subject::Partition(ret.who.part), index)
+    }
+
+    // An arrival and a departure touch the module, the partitions that they name, and their channel.
+    fn enter_crossing(&mut self, index: usize, crossing: &Crossing) -> Result<(), AllocError>
+        ensures { OnOk result (IsPut index (is_of_crossing crossing.now) (list_of self.old) (list_of self.new)) }
+    {
+        self.put(&Subject::Module, index)?;
+        self.enter_homes(index, crossing.woken.as_slice())?;
+        self.put(&Subject::Channel(crossing.chan), index)
     }
 
     // Adds an index to the lists of the partitions of these processes.

@@ -4,16 +4,17 @@ ghost use Rattle.std.specs.Prelude.{◌≡◌, ◌↔◌, ◌+◌, IsTrue, nat_l
 ghost use Rattle.apex_machine.specs.Choice as choice;
 ghost use Rattle.apex_machine.specs.DueTimes.{due_by, falls_due};
 ghost use Rattle.apex_machine.specs.State.{is_named, item_at, time_of};
-ghost use Rattle.wait_set.specs.Givens.{answer_given, listed};
+ghost use Rattle.wait_set.specs.Givens.{answer_given};
 ghost use Rattle.piece_check.specs.Evidence.{MayWake, misnamed, misnamed_at_tick};
 ghost use Rattle.piece_check.specs.Held.{partition_part};
 
 use crate::held::Held;
 use crate::partition_piece::PartitionPiece;
 use crate::piece::Piece;
-use apex_machine::{Process, Wait, WaitingSet};
-use apex_types::{Call, CoreId, End, ProcId, QueuingOperation, Request, Who, Woken};
-use wait_set::{Given, WaitSet};
+use crate::waking::set_woken_by_record;
+use apex_machine::{Process, Wait};
+use apex_types::{Body, CoreId, ProcId, Who, Woken};
+use wait_set::Given;
 
 /// How a record names a process wrongly.
 #[derive(Clone, Copy, Debug, PartialEq, Eq)]
@@ -50,13 +51,14 @@ impl Piece {
         }
     }
 
-    /// Whether a call of another partition can end the wait of this process of the piece's partition: the process waits at the call's
-    /// channel, to receive if the call sends, and to send if it receives. False if the piece is not a partition's.
-    pub fn may_wake(&self, call: &Call, process: ProcId) -> bool
-        ensures { IsTrue result ↔ MayWake self.now.part call.now process }
+    /// Whether a record of others can end the wait of this process of the piece's partition: the process waits at the channel of the record,
+    /// to receive if a message is sent or arrives, and to send if one is received or departs, or if the queue is cleared. False if the piece
+    /// is not a partition's.
+    pub fn may_wake(&self, body: &Body, process: ProcId) -> bool
+        ensures { IsTrue result ↔ MayWake self.now.part body.now process }
     {
         match &self.held {
-            Held::Partition(piece) => piece.may_wake(call, process),
+            Held::Partition(piece) => piece.may_wake(body, process),
             Held::Module(_) | Held::Channel(_) => false,
         }
     }
@@ -74,21 +76,13 @@ impl PartitionPiece {
         }
     }
 
-    // Whether a call of another partition can end the wait of a process.
-    fn may_wake(&self, call: &Call, process: ProcId) -> bool
-        ensures { IsTrue result ↔ MayWake (partition_part self.now) call.now process }
+    // Whether a record of others can end the wait of a process.
+    fn may_wake(&self, body: &Body, process: ProcId) -> bool
+        ensures { IsTrue result ↔ MayWake (partition_part self.now) body.now process }
     {
-        let Request::QueuingPort(_, operation) = &call.request else {
+        let Some(wanted) = set_woken_by_record(body) else {
             return false;
         };
-        let Some(channel) = call.claim.chan else {
-            return false;
-        };
-        let end = match operation {
-            QueuingOperation::Send { .. } => End::Receivers,
-            QueuingOperation::Receive { .. } => End::Senders,
-        };
-        let wanted = WaitingSet::of_channel(channel, end);
         let who = Who {
             part: self.number,
             proc: process,
@@ -99,13 +93,12 @@ impl PartitionPiece {
     }
 }
 
-/// How a call that names these processes names a process wrongly, if it does, given what the call gives its caller.
+/// How a record that names these processes names a process wrongly, if it does, given what the call, the arrival or the departure gives.
 pub fn misnamed_by(given: &Given<'_>, woken: &Woken, who: &Who) -> Option<Misnaming>
     ensures { result ≡ misnamed (is_named who.now (answer_given given.now).woken) (is_named who.now woken.now) }
 {
-    let ends = ends_wait_of(given, who);
     let named = is_named(*who, woken.as_slice());
-    wrongly_named(ends, named)
+    wrongly_named(given.woken.has(*who), named)
 }
 
 /// Whether a process is ready on a core: it is neither dormant nor suspended, it waits for nothing, and the core is its own.
@@ -129,20 +122,6 @@ fn wrongly_named(ends: bool, named: bool) -> Option<Misnaming>
     }
 }
 
-// Whether a call ends the wait of a process, by what it gives its caller.
-fn ends_wait_of(given: &Given<'_>, who: &Who) -> bool
-    ensures { result ≡ is_named who.now (listed given.now.woken given.now.woken_all) }
-{
-    let all: Option<&WaitSet> = given.woken_all;
-    match all {
-        Some(set) => set.has(*who),
-        None => match given.woken {
-            Some(one) => *who == one,
-            None => false,
-        },
-    }
-}
-
 // Whether a list names this process.
 fn is_named(who: Who, named: &[Who]) -> bool
     ensures { result ≡ is_named who named.now }
@@ -155,11 +134,12 @@ fn is_due_after(now: u64, wait: Wait) -> bool
     ensures { result ≡ due_by (now + 1) wait }
 {
     match wait {
-        Wait::FirstRelease(due) | Wait::Until(due) | Wait::PeriodicRelease(due) => {
-            is_reached_after(now, due)
-        }
+        Wait::FirstRelease(due)
+        | Wait::Delay(due)
+        | Wait::Until(due)
+        | Wait::PeriodicRelease(due) => is_reached_after(now, due),
         Wait::Suspended(Some(due)) | Wait::At(_, Some(due)) => is_reached_after(now, due),
-        Wait::Nothing | Wait::NormalMode | Wait::Suspended(None) | Wait::At(_, None) => false,
+        Wait::Nothing | Wait::NormalMode(_) | Wait::Suspended(None) | Wait::At(_, None) => false,
     }
 }
 

@@ -1,21 +1,21 @@
 // The piece of the module: configured names, the skew, and idle cores outside all windows.
 
-ghost use Rattle.std.specs.Prelude.{◌≡◌, ◌<◌, IfErr, IfSome, OnErr, OnOk, is_none, length};
+ghost use Rattle.std.specs.Prelude.{◌≡◌, ◌<◌, ◌∷◌, [], IfErr, IfSome, OnErr, OnOk, is_none, length};
 ghost use Rattle.apex_types.specs.declared.limits.TheConstants.{PLACE_COUNT};
 ghost use Rattle.apex_types.specs.declared.record.Body.TheVariants as body;
 ghost use Rattle.apex_machine.specs.State.{cold_state, time_of};
-ghost use Rattle.apex_machine.specs.Demands.{LocalStep, demands, window_now};
+ghost use Rattle.apex_machine.specs.Demands.{LocalStep, crossing_names, demands, window_now};
 ghost use Rattle.apex_machine.specs.Pieces.{Module, ModulePart, part};
 ghost use Rattle.apex_machine.specs.Views.{view_in};
 ghost use Rattle.partition_state.specs.Calls.{RefusesOrWants};
 ghost use Rattle.piece_check.specs.Judged.{Judges, asked_by_module};
-ghost use Rattle.piece_check.specs.Parts.{HoldsBefore, WantsAtCalls};
+ghost use Rattle.piece_check.specs.Parts.{HoldsBefore, WantsWhereAllowed};
 ghost use Rattle.piece_check.specs.Found.{IsWindowAt};
 
 use crate::names::{all_configured, channel_configured, one_configured};
-use crate::views::{dispatch_view, tick_view};
+use crate::views::{crossing_view, dispatch_view, tick_view};
 use crate::windows::{WindowAt, window_by};
-use apex_types::{Body, Call, Cause, CoreId, Ordered, Return, View, Who, Woken};
+use apex_types::{Body, Call, Cause, CoreId, Crossing, Ordered, Return, View, Who, Woken};
 use dispatch_rule::Clock;
 use module_config::Config;
 use wait_set::ObjFault;
@@ -52,12 +52,12 @@ impl ModulePiece {
         ensures ok { OnOk result (LocalStep config.now (ModulePart self.old.clock.cores) ordered.now (ModulePart self.new.clock.cores)) }
         ensures refused { IfErr result (RefusesOrWants (demands config.now (ModulePart self.old.clock.cores) ordered.now)) }
         ensures unchanged { OnErr result (self.new ≡ self.old) }
-        ensures memory { IfErr result (WantsAtCalls ordered.now.rec.body) }
+        ensures memory { IfErr result (WantsWhereAllowed ordered.now.rec.body) }
     {
         self.judge(config, ordered, window)
             .map_err(ObjFault::Unlawful)?;
         match &ordered.rec.body {
-            Body::Call(_) | Body::Ret(_) => Ok(()),
+            Body::Call(_) | Body::Ret(_) | Body::Arrive(_) | Body::Depart(_) => Ok(()),
             Body::Disp(who) => {
                 self.clock.dispatch(ordered.core, *who);
                 Ok(())
@@ -89,10 +89,11 @@ impl ModulePiece {
             Body::Ret(ret) => self.judge_return(config, core, window, ret),
             Body::Disp(who) => self.judge_dispatch(config, core, window, *who),
             Body::Tick(woken) => self.judge_tick(config, core, window, woken),
+            Body::Arrive(crossing) | Body::Depart(crossing) => judge_crossing(config, crossing),
         }
     }
 
-    /// The view of a dispatch or a tick, from the part before it. Takes no memory.
+    /// The view of a dispatch, a tick, an arrival or a departure, from the part before it. Takes no memory.
     pub(crate) fn view(&self, ordered: &Ordered) -> Option<View>
         requires { time_of self.now.clock.cores ordered.now.core < PLACE_COUNT }
         ensures { result ≡ view_in (ModulePart self.now.clock.cores) ordered.now }
@@ -102,6 +103,8 @@ impl ModulePiece {
         match &ordered.rec.body {
             Body::Disp(who) => Some(dispatch_view(core, now, who)),
             Body::Tick(woken) => Some(tick_view(core, now + 1, woken)),
+            Body::Arrive(crossing) => Some(crossing_view(4, core, now, crossing)),
+            Body::Depart(crossing) => Some(crossing_view(5, core, now, crossing)),
             Body::Call(_) | Body::Ret(_) => None,
         }
     }
@@ -195,5 +198,18 @@ impl ModulePiece {
         ensures { result ≡ is_none (window_now config.now self.now.clock.cores core) }
     {
         window_by(config, &self.clock, core, window).is_none()
+    }
+}
+
+// An arrival and a departure name configured partitions and a configured channel. They may come at any time.
+fn judge_crossing(config: &Config, crossing: &Crossing) -> Result<(), Cause>
+    ensures { Judges (crossing_names config.now crossing.now ∷ []) result }
+{
+    let are_configured = all_configured(config, crossing.woken.as_slice())
+        && config.has_channel(crossing.chan);
+    if are_configured {
+        Ok(())
+    } else {
+        Err(Cause::Names)
     }
 }

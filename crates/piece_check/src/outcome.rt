@@ -80,6 +80,7 @@ fn may_wait(request: &Request) -> bool
             QueuingOperation::Send { time_out, .. } | QueuingOperation::Receive { time_out } => {
                 !is_over(*time_out)
             }
+            QueuingOperation::Clear => false,
         },
         _ => false,
     }

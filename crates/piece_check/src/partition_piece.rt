@@ -7,7 +7,7 @@ ghost use Rattle.apex_types.specs.declared.record.Body.TheVariants as body;
 ghost use Rattle.apex_machine.specs.State.{cold_state, item_at, time_of};
 ghost use Rattle.apex_machine.specs.Step.{HasNoneDue, HasPriority, due_of};
 ghost use Rattle.apex_machine.specs.Demands.{AllHold, FirstFails, IsRunning, LocalStep, ReturnsValues, WakesHere, demands, foreign_call_demands, window_now};
-ghost use Rattle.apex_machine.specs.After.{partition_by};
+ghost use Rattle.apex_machine.specs.After.{partition_by, partition_woken};
 ghost use Rattle.apex_machine.specs.Pieces.{OfPartition, PartitionPart, part};
 ghost use Rattle.apex_machine.specs.Ports.{channel_of};
 ghost use Rattle.apex_machine.specs.ServiceConditions as services;
@@ -15,24 +15,26 @@ ghost use Rattle.apex_machine.specs.Views.{view_in};
 ghost use Rattle.wait_set.specs.declared.object.ObjFault.TheVariants.{Memory};
 ghost use Rattle.partition_state.specs.Calls.{LeavesObjects, RefusesOrWants};
 ghost use Rattle.piece_check.specs.Held.{partition_part};
-ghost use Rattle.piece_check.specs.Judged.{GoesOn, Judges, asked_by_partition, own_caller_demands, own_demands, part_called};
-ghost use Rattle.piece_check.specs.Parts.{HoldsBefore, WantsAtCalls};
+ghost use Rattle.piece_check.specs.Judged.{GoesOn, Judges, asked_by_partition, crossing_demands, own_caller_demands, own_demands, part_called};
+ghost use Rattle.piece_check.specs.Moments.{IsMomentOf};
+ghost use Rattle.piece_check.specs.Parts.{HoldsBefore, WantsWhereAllowed};
 ghost use Rattle.piece_check.specs.Found.{IsWindowAt};
 
 use crate::conditions::conditions_of;
 use crate::outcome::{judge_refused, judge_through};
 use crate::profile::is_within;
 use crate::views::{call_view, return_view};
+use crate::waking::set_woken_by;
 use crate::windows::{WindowAt, window_by};
 use apex_machine::{Outcome, WaitingSet};
 use apex_types::{
-    Body, Call, Cause, CoreId, End, Ordered, PartId, ProcId, QueuingOperation, Request, Return,
-    Service, View, Who, Woken,
+    Body, Call, Cause, CoreId, Crossing, End, Ordered, PartId, Place, ProcId, Return, Service,
+    View, Who, Woken,
 };
 use dispatch_rule::Clock;
 use module_config::Config;
 use partition_state::PartitionState;
-use process_state::Moment;
+use process_state::{Moment, message_of};
 use std::alloc::{AllocError, Global};
 use wait_set::{Conditions, ObjFault};
 
@@ -87,7 +89,7 @@ impl PartitionPiece {
         ensures ok { OnOk result (LocalStep config.now (partition_part self.old) ordered.now (partition_part self.new)) }
         ensures refused { IfErr result (RefusesOrWants (demands config.now (partition_part self.old) ordered.now)) }
         ensures unchanged { OnErr result (self.new ≡ self.old) }
-        ensures memory { IfErr result (WantsAtCalls ordered.now.rec.body) }
+        ensures memory { IfErr result (WantsWhereAllowed ordered.now.rec.body) }
     {
         let core = ordered.core;
         match &ordered.rec.body {
@@ -114,6 +116,11 @@ impl PartitionPiece {
                 }
                 Err(cause) => Err(ObjFault::Unlawful(cause)),
             },
+            Body::Arrive(crossing) => {
+                let message = crossing.message.as_bytes();
+                self.wake_at(End::Receivers, ordered.pos, crossing, message)
+            }
+            Body::Depart(crossing) => self.wake_at(End::Senders, ordered.pos, crossing, &[]),
             Body::Tick(woken) => match self.judge_tick(config, core, window, woken) {
                 Ok(()) => {
                     self.state.tick(self.number, ordered.pos, woken);
@@ -145,6 +152,8 @@ impl PartitionPiece {
             Body::Ret(ret) => self.judge_return(config, core, None, ret),
             Body::Disp(who) => self.judge_dispatch(config, core, None, *who),
             Body::Tick(woken) => self.judge_tick(config, core, None, woken),
+            Body::Arrive(crossing) => self.judge_crossing(End::Receivers, crossing),
+            Body::Depart(crossing) => self.judge_crossing(End::Senders, crossing),
         }
     }
 
@@ -171,7 +180,18 @@ impl PartitionPiece {
                     None
                 }
             }
-            Body::Disp(_) | Body::Tick(_) => None,
+            Body::Disp(_) | Body::Tick(_) | Body::Arrive(_) | Body::Depart(_) => None,
+        }
+    }
+
+    // When a record comes.
+    pub(crate) fn moment(&self, ordered: &Ordered) -> Moment<'_>
+        ensures { IsMomentOf self.now.clock.cores ordered.now result }
+    {
+        Moment {
+            place: ordered.pos,
+            core: ordered.core,
+            cores: self.clock.states(),
         }
     }
 
@@ -215,10 +235,7 @@ impl PartitionPiece {
     {
         match self.judge_before_service(config, ordered.core, None, call)? {
             Course::Noted => Ok(()),
-            Course::Served => {
-                let now = self.clock.now(ordered.core);
-                self.state.judge(now, ordered.pos, call)
-            }
+            Course::Served => { self.state.judge(&self.moment(ordered), call) }
         }
     }
 
@@ -296,13 +313,12 @@ impl PartitionPiece {
         ensures refused { IfErr result (RefusesOrWants (own_demands config.now self.old ordered.now.core call.now)) }
         ensures unchanged { OnErr result (self.new ≡ self.old) }
     {
-        let now = self.clock.now(ordered.core);
         let moment = Moment {
             place: ordered.pos,
             core: ordered.core,
             cores: self.clock.states(),
         };
-        self.state.serve(config, now, &moment, call)
+        self.state.serve(config, &moment, call)
     }
 
     // An own call whose demands all hold and that changes no object: the partition's processes change.
@@ -343,9 +359,48 @@ impl PartitionPiece {
     {
         self.judge_foreign_call(config, ordered.core, window, call)
             .map_err(ObjFault::Unlawful)?;
+        let message = message_of(&call.request);
         self.state
-            .wake_named(self.number, ordered.pos, call)
+            .wake_named(self.number, ordered.pos, message, &call.claim.woken)
             .map_err(|_| ObjFault::Memory)
+    }
+
+    // An arrival or a departure that names processes of this partition is judged, and their waits at this end of the channel end: each gets
+    // the message.
+    fn wake_at(
+        &mut self,
+        end: End,
+        place: Place,
+        crossing: &Crossing,
+        message: &[u8],
+    ) -> Result<(), ObjFault>
+        ensures ok { OnOk result (AllHold (crossing_demands self.old.number end self.old.state crossing.now)) }
+        ensures after { OnOk result (partition_part self.new ≡ PartitionPart self.old.number self.old.clock.cores (partition_woken place self.old.number message.now crossing.now.woken self.old.state)) }
+        ensures refused { IfErr result (RefusesOrWants (crossing_demands self.old.number end self.old.state crossing.now)) }
+        ensures unchanged { OnErr result (self.new ≡ self.old) }
+    {
+        self.judge_crossing(end, crossing)
+            .map_err(ObjFault::Unlawful)?;
+        self.state
+            .wake_named(self.number, place, message, &crossing.woken)
+            .map_err(|_| ObjFault::Memory)
+    }
+
+    // An arrival ends only waits to receive from its channel, a departure only waits to send to it.
+    fn judge_crossing(&self, end: End, crossing: &Crossing) -> Result<(), Cause>
+        ensures { Judges (crossing_demands self.now.number end self.now.state crossing.now) result }
+    {
+        let wanted = WaitingSet::of_channel(crossing.chan, end);
+        let woken = crossing.woken.as_slice();
+        if self
+            .state
+            .processes()
+            .all_wait_at(wanted, self.number, woken)
+        {
+            Ok(())
+        } else {
+            Err(Cause::Woken)
+        }
     }
 
     // In the partition's windows a dispatch names its choice.
@@ -417,21 +472,14 @@ impl PartitionPiece {
         Ok(())
     }
 
-    // Whether a call of another partition ends only waits at its channel: a send ends waits to receive, and a receive ends waits to send.
+    // Whether a call of another partition ends only waits at its channel: a send ends waits to receive, a receive and CLEAR_QUEUING_PORT end
+    // waits to send.
     fn wakes_here(&self, call: &Call) -> bool
         ensures { IsTrue result ↔ WakesHere call.now.request call.now.claim.chan self.now.number self.now.state.table call.now.claim.woken }
     {
-        let Request::QueuingPort(_, operation) = &call.request else {
+        let Some(wanted) = set_woken_by(call) else {
             return false;
         };
-        let Some(channel) = call.claim.chan else {
-            return false;
-        };
-        let end = match operation {
-            QueuingOperation::Send { .. } => End::Receivers,
-            QueuingOperation::Receive { .. } => End::Senders,
-        };
-        let wanted = WaitingSet::of_channel(channel, end);
         self.state
             .processes()
             .all_wait_at(wanted, self.number, call.claim.woken.as_slice())

@@ -7,7 +7,7 @@ ghost use Rattle.apex_machine.specs.Demands.{AllHold, LocalStep, demands};
 ghost use Rattle.apex_machine.specs.Pieces.{part, pieces};
 ghost use Rattle.apex_machine.specs.Views.{view_in};
 ghost use Rattle.apex_laws.specs.PartBounds.{PeriodFits};
-ghost use Rattle.piece_check.specs.Parts.{CallerFits, HoldsBefore, IsCall, IsOf, IsPartOf, cores_of, holder, piece_at};
+ghost use Rattle.piece_check.specs.Parts.{CallerFits, HoldsBefore, MayTakeMemory, IsOf, IsPartOf, cores_of, holder, piece_at};
 ghost use Rattle.piece_check.specs.Quiet.{passes_by};
 ghost use Rattle.piece_check.specs.Refused.{IsRefused};
 ghost use Rattle.piece_check.specs.Found.{IsWindowAt};
@@ -58,7 +58,7 @@ impl Piece {
     }
 
     /// What a user's relation sees of a record, from the part before it: a partition gives the view of its own calls and returns, the
-    /// module that of dispatches and ticks; otherwise there is none. Takes no memory.
+    /// module that of all other records; otherwise there is none. Takes no memory.
     pub fn view(&self, ordered: &Ordered) -> Option<View>
         requires holds_before { HoldsBefore ordered.now.pos self.now.part }
         ensures { result ≡ view_in self.now.part ordered.now }
@@ -110,7 +110,7 @@ impl Piece {
 
     /// Judges a record that touches the piece, and changes the part as the record says.
     ///
-    /// If a demand fails, nothing is changed. If memory was refused to a call, the part is as it was, and every later step answers Memory.
+    /// If a demand fails, nothing is changed. If memory was refused, the part is as it was, and every later step answers Memory.
     pub fn step(&mut self, config: &Config, ordered: &Ordered) -> Result<(), PieceFault>
         requires core { ordered.now.core < config.now.cores }
         requires of_module { IsOf config.now self.old }
@@ -122,7 +122,7 @@ impl Piece {
         ensures settings { OnErr result (self.new.settings ≡ self.old.settings) }
         ensures exhausted { IsTrue self.new.exhausted ↔ (result ≡ Err PieceFault.Memory) }
         ensures stays_exhausted { IsTrue self.old.exhausted → result ≡ Err PieceFault.Memory }
-        ensures memory { result ≡ Err PieceFault.Memory → IsTrue self.old.exhausted ⊎ IsCall ordered.now.rec.body }
+        ensures memory { result ≡ Err PieceFault.Memory → IsTrue self.old.exhausted ⊎ MayTakeMemory ordered.now.rec.body }
         ensures of_module { OnOk result (IsOf config.now self.new) }
         ensures holds_before { OnOk result (HoldsBefore (ordered.now.pos + 1) self.new.part) }
     {
@@ -148,7 +148,7 @@ impl Piece {
         ensures settings { OnErr result (self.new.settings ≡ self.old.settings) }
         ensures exhausted { IsTrue self.new.exhausted ↔ (result ≡ Err PieceFault.Memory) }
         ensures stays_exhausted { IsTrue self.old.exhausted → result ≡ Err PieceFault.Memory }
-        ensures memory { result ≡ Err PieceFault.Memory → IsTrue self.old.exhausted ⊎ IsCall ordered.now.rec.body }
+        ensures memory { result ≡ Err PieceFault.Memory → IsTrue self.old.exhausted ⊎ MayTakeMemory ordered.now.rec.body }
         ensures of_module { OnOk result (IsOf config.now self.new) }
         ensures holds_before { OnOk result (HoldsBefore (ordered.now.pos + 1) self.new.part) }
     {

@@ -71,7 +71,7 @@ impl Subject {
 }
 
 // Whether a record touches the partition of this number: each tick and each dispatch touches it, and so do its own calls and returns and a
-// call that names one of its processes.
+// call, an arrival or a departure that names one of its processes.
 fn touches_partition(number: PartId, body: &Body) -> bool
     ensures { (configuration : Configuration) → result ≡ touched_by configuration body.now (OfPartition number) }
 {
@@ -81,11 +81,14 @@ fn touches_partition(number: PartId, body: &Body) -> bool
             call.who.part == number || names_one_of(call.claim.woken.as_slice(), number)
         }
         Body::Ret(ret) => ret.who.part == number,
+        Body::Arrive(crossing) | Body::Depart(crossing) => {
+            names_one_of(crossing.woken.as_slice(), number)
+        }
     }
 }
 
-// Whether a record touches the channel of this number: each tick touches it, and so do a call through it and a stop or a restart at one of
-// its ends.
+// Whether a record touches the channel of this number: each tick touches it, and so do a call through it, an arrival at it, a departure from
+// it, and a stop or a restart at one of its ends.
 fn touches_channel(config: &Config, number: ChanId, body: &Body) -> bool
     ensures { result ≡ touched_by config.now body.now (OfChannel number) }
 {
@@ -94,6 +97,7 @@ fn touches_channel(config: &Config, number: ChanId, body: &Body) -> bool
         Body::Call(call) => {
             call.claim.chan == Some(number) || stops_at_end(config, number, call)
         }
+        Body::Arrive(crossing) | Body::Depart(crossing) => crossing.chan == number,
         Body::Ret(_) | Body::Disp(_) => false,
     }
 }

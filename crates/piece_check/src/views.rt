@@ -1,13 +1,13 @@
 // The views of records: the numbers that a user's relation sees of each.
 
-ghost use Rattle.std.specs.Prelude.{◌≡◌, ◌<◌, ◌≤◌, None, length, pos};
+ghost use Rattle.std.specs.Prelude.{◌≡◌, ◌<◌, ◌≤◌, ℕ, None, length, pos};
 ghost use Rattle.std.specs.Option.{option_copied};
 ghost use Rattle.apex_types.specs.declared.limits.TheConstants.{PLACE_COUNT};
 ghost use Rattle.apex_machine.specs.Views as rules;
 ghost use Rattle.apex_machine.specs.Views.{core_view, elapsed_field, priority_field, value_number, who_field};
 
 use apex_machine::Process;
-use apex_types::{Call, CoreId, Return, View, Who, Woken};
+use apex_types::{Call, CoreId, Crossing, Return, View, Who, Woken};
 
 /// The number of a field that the record does not have.
 const ABSENT: i64 = -1;
@@ -89,6 +89,26 @@ pub(crate) fn tick_view(core: CoreId, after: u64, woken: &Woken) -> View
         val: ABSENT,
         elapsed: ABSENT,
         woken: count_field(woken),
+    }
+}
+
+/// The view of an arrival, which has the kind 4, or of a departure, which has the kind 5, at this time of its core.
+pub(crate) fn crossing_view(kind: i64, core: CoreId, now: u64, crossing: &Crossing) -> View
+    requires { now < PLACE_COUNT }
+    ensures { (number : ℕ) → kind ≡ pos number → result ≡ core_view number core now None (length crossing.now.woken) }
+{
+    View {
+        kind,
+        core: i64::from(core.number()),
+        time: now as i64,
+        part: ABSENT,
+        proc: ABSENT,
+        service: ABSENT,
+        prio: ABSENT,
+        out: ABSENT,
+        val: ABSENT,
+        elapsed: ABSENT,
+        woken: count_field(&crossing.woken),
     }
 }
 

@@ -47,7 +47,7 @@ adjusted-done place period first cores call partition old new done is =
     is ∙ (λ i. record old { mode = mode i; table = table i ++ created_by first call call.request })
 
 creates-none : (first : ℕ) (call : CallRecord) (asked : Request) → is_done call.claim.out ≡ false → created_by first call asked ≡ []
-creates-none first call (request.CreateProcess name priority period) refused = rw refused refl
+creates-none first call (request.CreateProcess name priority period capacity) refused = rw refused refl
 creates-none first call _ refused = refl
 
 pub adjusted-not : (place period first : ℕ) (cores : List CoreState) (call : CallRecord) (partition : Partition) (old : Processes) → is_done call.claim.out ≡ false
@@ -62,15 +62,15 @@ adjusted-not place period first cores call partition old refused =
 -- no created process has the number of a caller in the table
 creates-apart : (first : ℕ) (call : CallRecord) (asked : Request) (table : Table) (caller : ℕ) → AsksSoundly table call asked
     → is_some (item_at table caller) ≡ true → item_at (created_by first call asked) caller ≡ None
-creates-apart first call (request.CreateProcess name priority period) table caller sound is_member = by (is_done call.claim.out) refl
+creates-apart first call (request.CreateProcess name priority period capacity) table caller sound is_member = by (is_done call.claim.out) refl
   where
     one : (claimed : Option ℤ) → is_new (is_free table) claimed ≡ true
-        → item_at (numbered claimed (new_process first name priority period)) caller ≡ None
+        → item_at (numbered claimed (new_process first name priority period capacity)) caller ≡ None
     one None new = refl
     one (Some (negsuc n)) new = refl
     one (Some (pos n)) new = apart (nat_eq caller n) refl
       where
-        apart : (b : Bool) → nat_eq caller n ≡ b → item_at ((n, new_process first name priority period) ∷ []) caller ≡ None
+        apart : (b : Bool) → nat_eq caller n ≡ b → item_at ((n, new_process first name priority period capacity) ∷ []) caller ≡ None
         apart true e =
             let same : caller ≡ n = grind (arith, nat_tests) in
             let none : item_at table caller ≡ None = rw same (new-absent table n new) in
@@ -78,7 +78,7 @@ creates-apart first call (request.CreateProcess name priority period) table call
         apart false e = rw e refl
 
     by : (b : Bool) → is_done call.claim.out ≡ b
-        → item_at (if b then numbered call.claim.val (new_process first name priority period) else []) caller ≡ None
+        → item_at (if b then numbered call.claim.val (new_process first name priority period capacity) else []) caller ≡ None
     by true done = one call.claim.val ((sound done).0)
     by false refused = refl
 creates-apart first call _ table caller sound is_member = refl
@@ -132,7 +132,7 @@ created-stays place first call table sound = stays call.request refl
   where
     stays : (asked : Request) → call.request ≡ asked
         → each_item (peer_woken place call) (each_item (stopped_by call) (created_by first call asked)) ≡ created_by first call asked
-    stays (request.CreateProcess name priority period) is = by (is_done call.claim.out) refl
+    stays (request.CreateProcess name priority period capacity) is = by (is_done call.claim.out) refl
       where
         not_stopped : (number : ℕ) (process : Process) → stopped_by call number process ≡ process
         not_stopped number process =
@@ -144,11 +144,11 @@ created-stays place first call table sound = stays call.request refl
             rw ((facts done).2, and_right (wakes call number) false refl) refl
 
         by : (b : Bool) → is_done call.claim.out ≡ b
-            → each_item (peer_woken place call) (each_item (stopped_by call) (if b then numbered call.claim.val (new_process first name priority period) else []))
-            ≡ (if b then numbered call.claim.val (new_process first name priority period) else [])
+            → each_item (peer_woken place call) (each_item (stopped_by call) (if b then numbered call.claim.val (new_process first name priority period capacity) else []))
+            ≡ (if b then numbered call.claim.val (new_process first name priority period capacity) else [])
         by true done =
-            ap (each_item (peer_woken place call)) (each_item-same (stopped_by call) not_stopped (numbered call.claim.val (new_process first name priority period)))
-            ∙ each_item-same (peer_woken place call) (not_woken done) (numbered call.claim.val (new_process first name priority period))
+            ap (each_item (peer_woken place call)) (each_item-same (stopped_by call) not_stopped (numbered call.claim.val (new_process first name priority period capacity)))
+            ∙ each_item-same (peer_woken place call) (not_woken done) (numbered call.claim.val (new_process first name priority period capacity))
         by false refused = refl
     stays _ is = refl
 

@@ -2,7 +2,7 @@
 use Rattle.std.proofs.Common.{◌≡◌, ℕ, ◌<◌, ◌^◌, true, false, nat_eq, List, [], ◌∷◌, ◌++◌, Option, Some, None, ℤ, pos, negsuc, MatchOption, nat_abs, refl, sym, ap, ◌∙◌, arith}
 use Rattle.std.proofs.lemmas.Bool.Decides.{nat_tests}
 use Rattle.apex_types.specs.declared.record.Call.{Call as CallRecord}
-use Rattle.apex_types.specs.declared.operation.{MutexOperation.MutexOperation, ProcessOperation.ProcessOperation}
+use Rattle.apex_types.specs.declared.operation.{ProcessOperation.ProcessOperation}
 use Rattle.apex_types.specs.declared.request.Request.{Request}
 use Rattle.apex_types.specs.declared.operation.ObjectOperation.TheVariants as on
 use Rattle.apex_types.specs.declared.request.Request.TheVariants as request
@@ -58,12 +58,12 @@ carried place period first cores call asked partition old = record old {
 
 -- a service that sets nothing beside its caller
 pub carried-none : (place period first : ℕ) (cores : List CoreState) (call : CallRecord) (asked : Request) (partition : Partition) (old : Processes)
-    → ((name : List ℕ) (priority own : ℤ) → asked ≡ request.CreateProcess name priority own → ⊥)
+    → ((name : List ℕ) (priority own capacity : ℤ) → asked ≡ request.CreateProcess name priority own capacity → ⊥)
     → ((process : ℤ) (operation : ProcessOperation) → asked ≡ request.Process process operation → ⊥)
     → ((mode : ℤ) → asked ≡ request.SetPartitionMode mode → ⊥)
     → ((number : ℤ) (operation : ObjectOperation) → asked ≡ request.Object number operation → ⊥)
     → old ≡ carried place period first cores call asked partition old
-carried-none place period first cores call (request.CreateProcess name priority own) partition old create target mode mutex = absurd (create name priority own refl)
+carried-none place period first cores call (request.CreateProcess name priority own capacity) partition old create target mode mutex = absurd (create name priority own capacity refl)
 carried-none place period first cores call (request.Process process operation) partition old create target mode mutex = absurd (target process operation refl)
 carried-none place period first cores call (request.SetPartitionMode given) partition old create target mode mutex = absurd (mode given refl)
 carried-none place period first cores call (request.Object given operation) partition old create target mode object = absurd (object given operation refl)
@@ -95,23 +95,23 @@ priority-kept : (priority : ℤ) → is_priority priority ≡ true → pos (nat_
 priority-kept (pos n) h = refl
 priority-kept (negsuc n) h = cc
 
-pub carried-create : (place period first : ℕ) (cores : List CoreState) (call : CallRecord) (name : List ℕ) (priority own : ℤ) (partition : Partition) (old new : Processes)
+pub carried-create : (place period first : ℕ) (cores : List CoreState) (call : CallRecord) (name : List ℕ) (priority own capacity : ℤ) (partition : Partition) (old new : Processes)
     (found : Option ℕ) (number cast : ℕ)
-    → new ≡ with_table old (old.table ++ (number, new_process first name (pos cast) own) ∷ [])
+    → new ≡ with_table old (old.table ++ (number, new_process first name (pos cast) own capacity) ∷ [])
     → cast ≡ nat_abs priority
-    → is_done call.claim.out ≡ true → AsksSoundly old.table call (request.CreateProcess name priority own)
+    → is_done call.claim.out ≡ true → AsksSoundly old.table call (request.CreateProcess name priority own capacity)
     → MatchOption call.claim.val (found ≡ None) (λ given. found ≡ number_of given) → found ≡ Some number
-    → new ≡ carried place period first cores call (request.CreateProcess name priority own) partition old
-carried-create place period first cores call name priority own partition old new found number cast is_new_one kept done sound is there =
+    → new ≡ carried place period first cores call (request.CreateProcess name priority own capacity) partition old
+carried-create place period first cores call name priority own capacity partition old new found number cast is_new_one kept done sound is there =
     let facts = sound done in
-    let table : old.table ++ (number, new_process first name (pos cast) own) ∷ []
-    ≡ each_item (set_by place period cores partition call.who.proc (request.CreateProcess name priority own)) old.table
-    ++ created_by first call (request.CreateProcess name priority own)
-    = ap (λ (p : ℤ). old.table ++ (number, new_process first name p own) ∷ []) (ap pos kept ∙ priority-kept priority facts.1)
+    let table : old.table ++ (number, new_process first name (pos cast) own capacity) ∷ []
+    ≡ each_item (set_by place period cores partition call.who.proc (request.CreateProcess name priority own capacity)) old.table
+    ++ created_by first call (request.CreateProcess name priority own capacity)
+    = ap (λ (p : ℤ). old.table ++ (number, new_process first name p own capacity) ∷ []) (ap pos kept ∙ priority-kept priority facts.1)
     ∙ (rw (
       claims-number old.table call.claim.val found number facts.0 is there,
       done,
-      each_item-same (set_by place period cores partition call.who.proc (request.CreateProcess name priority own)) (λ other process. refl) old.table,
+      each_item-same (set_by place period cores partition call.who.proc (request.CreateProcess name priority own capacity)) (λ other process. refl) old.table,
     ) refl) in
     is_new_one ∙ ap (with_table old) table
 

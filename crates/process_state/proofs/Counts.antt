@@ -182,8 +182,9 @@ key_reached core time (Some due) = is_reached core time due
 
 reached-falls : (core time affinity number : ℕ) (wait : Wait) → key_reached core time (due_at affinity number (time_due wait)) ≡ (nat_eq affinity core && due_by time wait)
 reached-falls core time affinity number wait.Nothing = sym (and_right (nat_eq affinity core) false refl)
-reached-falls core time affinity number wait.NormalMode = sym (and_right (nat_eq affinity core) false refl)
+reached-falls core time affinity number (wait.NormalMode delay) = sym (and_right (nat_eq affinity core) false refl)
 reached-falls core time affinity number (wait.FirstRelease due) = refl
+reached-falls core time affinity number (wait.Delay due) = refl
 reached-falls core time affinity number (wait.Until due) = refl
 reached-falls core time affinity number (wait.PeriodicRelease due) = refl
 reached-falls core time affinity number (wait.Suspended None) = sym (and_right (nat_eq affinity core) false refl)

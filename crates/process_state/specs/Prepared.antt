@@ -33,5 +33,5 @@ pub record IsPreparedFor (call : CallRecord) (prepared : Preparation) : Type 0 w
 
 -- whether a request is CREATE_PROCESS: no other request takes memory once its call is prepared
 abbrev pub creates_process : Request → Bool
-creates_process (request.CreateProcess name priority period) = true
+creates_process (request.CreateProcess name priority period time_capacity) = true
 creates_process _ = false

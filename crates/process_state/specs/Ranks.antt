@@ -35,6 +35,7 @@ rank_before a b = nat_lt a.core b.core || (nat_eq a.core b.core && before_there 
 -- when a wait is over, if time ends it
 abbrev pub time_due : Wait → Option ℕ
 time_due (wait.FirstRelease due) = Some due
+time_due (wait.Delay due) = Some due
 time_due (wait.Until due) = Some due
 time_due (wait.PeriodicRelease due) = Some due
 time_due (wait.Suspended due) = due

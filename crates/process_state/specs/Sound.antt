@@ -26,7 +26,7 @@ GivesSoundly _ = Unit {0}
 -- a CREATE_PROCESS that was carried out claims a new number, has a priority in range and ends no wait; a service that names a process and
 -- was carried out gives a value in range
 abbrev pub AsksSoundly : Table → CallRecord → Request → Type 0
-AsksSoundly table call (request.CreateProcess name priority period) =
+AsksSoundly table call (request.CreateProcess name priority period time_capacity) =
     IsTrue (is_done call.claim.out) → IsTrue (is_new (is_free table) call.claim.val) × IsTrue (is_priority priority) × (call.claim.woken ≡ [])
 AsksSoundly table call (request.Process process operation) = IsTrue (is_done call.claim.out) → GivesSoundly operation
 AsksSoundly table call _ = Unit {0}

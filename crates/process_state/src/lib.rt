@@ -35,6 +35,7 @@ mod wait;
 mod waiting;
 
 pub use caller::is_done;
+pub use message::message_of;
 pub use moment::Moment;
 pub use prepared::Prepared;
 pub use table::ProcTable;

@@ -7,18 +7,13 @@ ghost use Rattle.process_state.specs.HandedOver.{AreCopies};
 use apex_types::{Message, QueuingOperation, Request, SamplingOperation};
 use std::alloc::{AllocError, Global};
 
-/// This many copies of the message that a request hands over.
+/// This many copies of a message.
 ///
 /// AllocError if memory is refused.
-pub fn messages_for(
-    alloc: Global,
-    request: &Request,
-    count: usize,
-) -> Result<Vec<Message>, AllocError>
+pub fn messages_for(alloc: Global, message: &[u8], count: usize) -> Result<Vec<Message>, AllocError>
     ensures length { IfOk result (λ messages. vec_len messages ≡ count) }
-    ensures alike { IfOk result (λ messages. AreCopies (message_of request.now) messages.items) }
+    ensures alike { IfOk result (λ messages. AreCopies message.now messages.items) }
 {
-    let message = message_of(request);
     let mut messages = Vec::new(alloc);
     for copied in 0..count {
         let bytes = Vec::from_slice(alloc, message)?;
@@ -27,8 +22,8 @@ pub fn messages_for(
     Ok(messages)
 }
 
-// The message that a request hands over; empty if it hands over none.
-fn message_of(request: &Request) -> &[u8]
+/// The message that a request hands over; empty if it hands over none.
+pub fn message_of(request: &Request) -> &[u8]
     ensures { result.now ≡ message_of request.now }
 {
     let message = match request {

@@ -4,7 +4,7 @@ ghost use Rattle.std.specs.Prelude.{◌≡◌, IfOk};
 ghost use Rattle.apex_machine.specs.After as after;
 ghost use Rattle.process_state.specs.Prepared.{IsPreparedFor, outcome_due};
 
-use crate::message::messages_for;
+use crate::message::{message_of, messages_for};
 use apex_machine::Outcome;
 use apex_types::{Call, Code, Message, Out};
 use std::alloc::{AllocError, Global};
@@ -36,7 +36,8 @@ pub fn prepared_for(alloc: Global, call: &Call) -> Result<Prepared, AllocError>
         Out::Answer(code) => Some(outcome_of(alloc, call, code)?),
         Out::Waits | Out::Never => None,
     };
-    let messages = messages_for(alloc, &call.request, call.claim.woken.as_slice().len())?;
+    let count = call.claim.woken.as_slice().len();
+    let messages = messages_for(alloc, message_of(&call.request), count)?;
     Ok(Prepared { outcome, messages })
 }
 

@@ -25,6 +25,7 @@ pub fn initialising(alloc: Global, core: CoreId, place: Place) -> Process
         retained_priority: 0,
         affinity: core,
         period: None,
+        time_capacity: None,
         last_release: 0,
         alive: true,
         suspended: false,
@@ -35,15 +36,17 @@ pub fn initialising(alloc: Global, core: CoreId, place: Place) -> Process
     }
 }
 
-/// A process as it is created: dormant, on this core, with its base priority; aperiodic if the period is below 0.
+/// A process as it is created: dormant, on this core, with its base priority; aperiodic if the period is below 0, and without deadlines if
+/// the time capacity is.
 pub fn created(
     alloc: Global,
     core: CoreId,
     name: &Name,
     priority: u8,
     period: i64,
+    time_capacity: i64,
 ) -> Result<Process, AllocError>
-    ensures { IfOk result (λ process. process ≡ processes.new_process core name.now (pos priority) period) }
+    ensures { IfOk result (λ process. process ≡ processes.new_process core name.now (pos priority) period time_capacity) }
 {
     let bytes = Vec::from_slice(alloc, name.as_bytes())?;
     Ok(Process {
@@ -52,7 +55,8 @@ pub fn created(
         current_priority: priority,
         retained_priority: priority,
         affinity: core,
-        period: own_period(period),
+        period: span_given(period),
+        time_capacity: span_given(time_capacity),
         last_release: 0,
         alive: false,
         suspended: false,
@@ -63,8 +67,8 @@ pub fn created(
     })
 }
 
-// The period of a process from the one that its creator gives, both in ticks: none if that is below 0.
-fn own_period(given: i64) -> Option<u64>
+// The period or the time capacity of a process from the one that its creator gives, both in ticks: none if that is below 0.
+fn span_given(given: i64) -> Option<u64>
     ensures { result ≡ period_given given }
 {
     if given < 0 { None } else { Some(given as u64) }
@@ -90,8 +94,11 @@ pub fn serve(
         ProcessOperation::InitializeCoreAffinity { core } => {
             process.affinity = CoreId::new(*core as u8);
         }
-        ProcessOperation::Start => start(process, place, period, now, mode),
-        ProcessOperation::Stop => {}
+        ProcessOperation::Start => start(process, place, period, now, mode, 0),
+        ProcessOperation::DelayedStart { delay } => {
+            start(process, place, period, now, mode, *delay);
+        }
+        ProcessOperation::Stop | ProcessOperation::GetStatus | ProcessOperation::GetMutexState => {}
         ProcessOperation::Suspend => process.suspended = true,
         ProcessOperation::Resume => {
             process.suspended = false;
@@ -104,18 +111,19 @@ pub fn serve(
     }
 }
 
-// Starts the process at this place, when its core's time is `now`, in this mode of its partition. The period is the partition's, in ticks.
-fn start(process: &mut Process, place: Place, period: u64, now: u64, mode: Mode)
+// Starts the process with a delay at this place, when its core's time is `now`, in this mode of its partition. The period is the
+// partition's, in ticks.
+fn start(process: &mut Process, place: Place, period: u64, now: u64, mode: Mode, delay: i64)
     requires least { 1 ≤ period }
     requires most { period ≤ GREATEST_SPAN }
     requires time { now < PLACE_COUNT }
-    ensures { process.new ≡ processes.started place period now mode process.old }
+    ensures { process.new ≡ processes.started place period now mode delay process.old }
 {
     process.current_priority = process.base_priority;
     process.alive = true;
     process.wait = match mode {
-        Mode::Normal => wait::on_entry(period, now, process.period),
-        Mode::Idle | Mode::ColdStart | Mode::WarmStart => Wait::NormalMode,
+        Mode::Normal => wait::on_entry(period, now, delay, process.period),
+        Mode::Idle | Mode::ColdStart | Mode::WarmStart => Wait::NormalMode(delay),
     };
     process.ready_position = place.number();
 }
@@ -128,8 +136,8 @@ pub fn enter_normal(process: &mut Process, place: Place, period: u64, now: u64)
     requires time { now < PLACE_COUNT }
     ensures { process.new ≡ processes.after_normal place period now process.old }
 {
-    if wait::is_for_normal(process.wait) {
-        process.wait = wait::on_entry(period, now, process.period);
+    if let Wait::NormalMode(delay) = process.wait {
+        process.wait = wait::on_entry(period, now, delay, process.period);
         process.ready_position = place.number();
     }
 }

@@ -11,6 +11,7 @@ ghost use Rattle.apex_machine.specs.declared.state.Process.{Process as ProcessVa
 ghost use Rattle.apex_machine.specs.Conditions.{is_taken};
 ghost use Rattle.apex_machine.specs.Demands.{AllWaitAt};
 ghost use Rattle.apex_machine.specs.DueTimes as due_times;
+ghost use Rattle.apex_machine.specs.Names.{number_named};
 ghost use Rattle.apex_machine.specs.ProcessConditions.{created_count};
 ghost use Rattle.apex_machine.specs.Services.{waits_for_mutex};
 ghost use Rattle.apex_machine.specs.State.{created, first_processes, is_free, item_at};
@@ -138,6 +139,17 @@ impl ProcTable {
         self.processes
             .values()
             .any(|process| name.as_bytes() == process.name.as_bytes())
+    }
+
+    /// The number of the process that has this name, or None if none has it.
+    pub fn number_named(&self, name: &Name) -> Option<ProcId>
+        ensures { result ≡ number_named (λ (process : ProcessValue). process.name) name.now self.now.table }
+    {
+        let (number, _) = self
+            .processes
+            .iter()
+            .find(|(_, process)| name.as_bytes() == process.name.as_bytes())?;
+        Some(*number)
     }
 
     /// How many processes are created: all but the initialising one.

@@ -1,7 +1,8 @@
 // What a process waits for: when the wait is over, and what is due then.
 
-ghost use Rattle.std.specs.Prelude.{◌≡◌, ◌<◌, ◌≤◌, ◌↔◌, IsTrue};
+ghost use Rattle.std.specs.Prelude.{◌≡◌, ◌<◌, ◌≤◌, ◌+◌, ◌↔◌, IsTrue};
 ghost use Rattle.apex_types.specs.declared.limits.TheConstants.{GREATEST_SPAN, PLACE_COUNT};
+ghost use Rattle.apex_machine.specs.Arguments.{natural_of};
 ghost use Rattle.apex_machine.specs.Choice as choice;
 ghost use Rattle.apex_machine.specs.Processes as processes;
 ghost use Rattle.apex_machine.specs.DueTimes as due_times;
@@ -16,13 +17,6 @@ pub fn is_none(wait: Wait) -> bool
     ensures { result ≡ choice.waits_for_nothing wait }
 {
     matches!(wait, Wait::Nothing)
-}
-
-/// Whether a wait is for the mode NORMAL.
-pub fn is_for_normal(wait: Wait) -> bool
-    ensures { result ≡ due_times.waits_for_normal wait }
-{
-    matches!(wait, Wait::NormalMode)
 }
 
 /// Whether a wait is for a mutex.
@@ -46,9 +40,12 @@ pub fn time_due(wait: Wait) -> Option<u64>
     ensures { result ≡ ranks.time_due wait }
 {
     match wait {
-        Wait::FirstRelease(due) | Wait::Until(due) | Wait::PeriodicRelease(due) => Some(due),
+        Wait::FirstRelease(due)
+        | Wait::Delay(due)
+        | Wait::Until(due)
+        | Wait::PeriodicRelease(due) => Some(due),
         Wait::Suspended(due) | Wait::At(_, due) => due,
-        Wait::Nothing | Wait::NormalMode => None,
+        Wait::Nothing | Wait::NormalMode(_) => None,
     }
 }
 
@@ -57,9 +54,12 @@ pub fn is_due(wait: Wait, time: u64) -> bool
     ensures { result ≡ due_times.due_by time wait }
 {
     match wait {
-        Wait::FirstRelease(due) | Wait::Until(due) | Wait::PeriodicRelease(due) => due <= time,
+        Wait::FirstRelease(due)
+        | Wait::Delay(due)
+        | Wait::Until(due)
+        | Wait::PeriodicRelease(due) => due <= time,
         Wait::Suspended(Some(due)) | Wait::At(_, Some(due)) => due <= time,
-        Wait::Nothing | Wait::NormalMode | Wait::Suspended(None) | Wait::At(_, None) => false,
+        Wait::Nothing | Wait::NormalMode(_) | Wait::Suspended(None) | Wait::At(_, None) => false,
     }
 }
 
@@ -72,7 +72,7 @@ pub fn service_of(wait: Wait) -> Option<Service>
         Wait::PeriodicRelease(_) => Some(Service::PeriodicWait),
         Wait::Suspended(_) => Some(Service::SuspendSelf),
         Wait::At(set, _) => set.service(),
-        Wait::Nothing | Wait::NormalMode | Wait::FirstRelease(_) => None,
+        Wait::Nothing | Wait::NormalMode(_) | Wait::FirstRelease(_) | Wait::Delay(_) => None,
     }
 }
 
@@ -84,8 +84,9 @@ pub fn code_when_due(wait: Wait) -> Code
     match wait {
         Wait::Suspended(_) | Wait::At(..) => Code::TimedOut,
         Wait::Nothing
-        | Wait::NormalMode
+        | Wait::NormalMode(_)
         | Wait::FirstRelease(_)
+        | Wait::Delay(_)
         | Wait::Until(_)
         | Wait::PeriodicRelease(_) => Code::NoError,
     }
@@ -97,23 +98,40 @@ pub fn release_reached(wait: Wait, last: u64) -> u64
 {
     match wait {
         Wait::FirstRelease(time) | Wait::PeriodicRelease(time) => time,
-        Wait::Nothing | Wait::NormalMode | Wait::Until(_) | Wait::Suspended(_) | Wait::At(..) =>
-            last,
+        Wait::Nothing
+        | Wait::NormalMode(_)
+        | Wait::Delay(_)
+        | Wait::Until(_)
+        | Wait::Suspended(_)
+        | Wait::At(..) => last,
     }
 }
 
-/// What a started process waits for in NORMAL at its core's time `now`: an aperiodic one for nothing, a periodic one for
-/// its first release, a multiple of the partition's period. Periods are in ticks.
-pub fn on_entry(partition_period: u64, now: u64, period: Option<u64>) -> Wait
+/// What a process waits for that is started in NORMAL with a delay, when its core's time is `now`: an aperiodic one that the delay is over,
+/// a periodic one for its first release, a multiple of the partition's period, which the delay puts off. Periods and delays are in ticks; a
+/// delay below 0 is as none.
+pub fn on_entry(partition_period: u64, now: u64, delay: i64, period: Option<u64>) -> Wait
     requires least { 1 ≤ partition_period }
     requires most { partition_period ≤ GREATEST_SPAN }
     requires time { now < PLACE_COUNT }
-    ensures { result ≡ due_times.entry_wait partition_period now period }
+    ensures { result ≡ due_times.entry_wait partition_period now (natural_of delay) period }
 {
+    let delay = natural(delay);
     match period {
-        Some(_) => Wait::FirstRelease(first_release(partition_period, now)),
-        None => Wait::Nothing,
+        Some(_) => Wait::FirstRelease(first_release(partition_period, now) + delay),
+        None => match delay {
+            0 => Wait::Nothing,
+            _ => Wait::Delay(now + delay),
+        },
     }
+}
+
+// A number that a caller gives; 0 if it is below 0.
+fn natural(given: i64) -> u64
+    ensures value { result ≡ natural_of given }
+    ensures bound { result < 9223372036854775808 }
+{
+    if given < 0 { 0 } else { given as u64 }
 }
 
 // The least multiple of the partition's period above this time, in ticks.
@@ -122,7 +140,8 @@ fn first_release(partition_period: u64, now: u64) -> u64
     requires least { 1 ≤ partition_period }
     requires most { partition_period ≤ GREATEST_SPAN }
     requires time { now < PLACE_COUNT }
-    ensures { result ≡ due_times.first_release partition_period now }
+    ensures value { result ≡ due_times.first_release partition_period now }
+    ensures bound { result ≤ now + partition_period }
 {
     now - now % partition_period + partition_period
 }

@@ -43,9 +43,10 @@ fn own_wait(operation: &CallerOperation, now: u64, next: u64) -> Wait
             None => Wait::Nothing,
         },
         CallerOperation::PeriodicWait => Wait::PeriodicRelease(next),
-        CallerOperation::StopSelf | CallerOperation::GetMyId | CallerOperation::GetTime => {
-            Wait::Nothing
-        }
+        CallerOperation::StopSelf
+        | CallerOperation::GetMyId
+        | CallerOperation::GetTime
+        | CallerOperation::GetPartitionStatus => Wait::Nothing,
     }
 }
 

@@ -1,7 +1,7 @@
 -- A row that is no record is read with the fault of its first faulty field.
-use Rattle.std.proofs.Common.{◌≡◌, ◌^◌, ◌<◌, ◌∙◌, ◌≤◌, ℕ, zero, suc, ℤ, pos, List, [], ◌∷◌, Bool, true, false, Option, Some, None, Result, Ok, Err, length, refl, sym, ap, subst, inl, inr, nat_le, nat_lt, nat_eq, arith, if◌then◌else◌, ◌==◌}
-use Rattle.std.specs.Prelude.{◌≢◌, ◌-◌, IfErr, IsOkAnd}
-use Rattle.std.specs.Option.{ok_or}
+use Rattle.std.proofs.Common.{◌≡◌, ◌^◌, ◌<◌, ◌∙◌, ◌≤◌, ℕ, ℤ, pos, List, [], ◌∷◌, Bool, true, false, Option, Some, None, Result, Ok, Err, length, refl, sym, ap, subst, inl, inr, nat_le, nat_lt, nat_eq, arith, if◌then◌else◌, ◌==◌}
+use Rattle.std.specs.Prelude.{negsuc, ◌≢◌, ◌-◌, IfErr, IsOkAnd}
+use Rattle.std.specs.Option.{ok_or, unwrap_or}
 use Rattle.std.proofs.lemmas.Bool.{eqb-true, eqb-false, le-leb, leb-true, ltb-true, ltb-false}
 use Rattle.hex.specs.Hex.{decode_of}
 use Rattle.hex.specs.declared.error.FromHexError.{FromHexError}
@@ -9,6 +9,9 @@ use Rattle.csv_rows.specs.Decimal.{decimal, signed_decimal}
 use Rattle.csv_rows.specs.Stream.{Fields}
 use Rattle.apex_types.specs.declared.limits.TheConstants.{GREATEST_CHANNEL, GREATEST_NUMBER, GREATEST_PARTITION, GREATEST_PRIORITY, LONGEST_MESSAGE, MOST_RECORDS}
 use Rattle.apex_types.specs.declared.record.Record.{Record}
+use Rattle.apex_types.specs.declared.service.Numbers.{Numbers}
+use Rattle.apex_types.specs.declared.service.Presence.{Presence}
+use Rattle.apex_types.specs.declared.service.Presence.TheVariants as presence
 use Rattle.apex_types.specs.declared.service.Service.{Service}
 use Rattle.record_read.specs.Column.{columns_between}
 use Rattle.record_read.specs.declared.column.Column.{Column}
@@ -17,18 +20,19 @@ use Rattle.record_read.specs.declared.fault.RowFault.{RowFault}
 use Rattle.record_read.specs.declared.fault.RowFault.TheVariants.{BadHex, BadKind, BadLength, BadName, BadNumber, BadOut, BadService, BadWoken, FieldCount, FieldNotForKind, Memory, SeqGap, TooMany}
 use Rattle.record_read.specs.declared.misread.Misread.{Misread}
 use Rattle.apex_types.specs.declared.format.Format.{Format}
+use Rattle.apex_types.specs.declared.format.Format.TheVariants as format
 use Rattle.record_read.specs.declared.kind.Kind.{Kind}
 use Rattle.record_read.specs.declared.kind.Kind.TheVariants as kind
 use Rattle.apex_types.specs.Services.{arguments_of}
-use Rattle.record_read.specs.Field.{all_empty, argument, empty, filled, maybe, maybe_number, maybe_signed, number, signed, text_at}
-use Rattle.record_read.specs.FirstFault.{ArgumentFault, At, CallFault, ClaimFault, DispatchFault, DispatchedFault, FaultOf, HoldsCode, HoldsKind, HoldsNone, IsMisread, MessageFault, MustAllBeEmpty, MustBeBytes, MustBeEmpty, MustBeMessageIf, MustHold, MustHoldIf, NameFault, OtherNumber, ProcessFault, RequestFault, ReturnFault, SentFault, TickFault, ◌or_else◌}
+use Rattle.record_read.specs.Field.{all_empty, argument, empty, filled, maybe, maybe_argument, maybe_number, maybe_signed, number, signed, text_at}
+use Rattle.record_read.specs.FirstFault.{ArgumentFault, ArrivalFault, At, CallFault, ClaimFault, DepartureFault, DispatchFault, DispatchedFault, FaultOf, HoldsCode, HoldsKind, HoldsNone, IsMisread, MayHoldNumber, MessageFault, MustAllBeEmpty, MustBeBytes, MustBeEmpty, MustBeGiven, MustBeMessageIf, MustHold, MustHoldIf, MustHoldNumber, NameFault, OtherNumber, ProcessFault, RequestFault, ReturnFault, SentFault, TickFault, ◌or_else◌}
 use Rattle.apex_types.specs.Format.{field_count}
 use Rattle.record_read.specs.Grammar.{GoesWith, HoldsName, HoldsNumber, HoldsOutcome, HoldsProcesses, HoldsService, HoldsSigned, MayHold, Row}
 use Rattle.record_read.specs.GrammarLaws.{FaultsAreOfRows, FirstFaultsDecide}
 use Rattle.record_read.specs.Memory.{NeedsMemory}
-use Rattle.record_read.specs.Named.{code_named, code_of, kind_named, kind_of, out_named, out_of, service_in, service_of}
-use Rattle.record_read.specs.Payload.{from_hex, goes_with, maybe_message, message_in, message_of, name_in, name_of}
-use Rattle.record_read.specs.Row.{body_in, call_in, claim_in, dispatch_in, proc_of, record_of, request_in, return_in, row_in, tick_in, who_in}
+use Rattle.record_read.specs.Named.{code_named, code_of, kind_in, kind_of, out_named, out_of, service_in, service_of}
+use Rattle.record_read.specs.Payload.{from_hex, goes_with, maybe_message, message_in, message_of, name_in, name_of, required_message}
+use Rattle.record_read.specs.Row.{arrival_in, body_in, call_in, claim_in, departure_in, dispatch_in, proc_of, record_of, request_in, return_in, row_in, tick_in, who_in}
 use Rattle.record_read.specs.Steps.{◌>>=◌, IsOfRow, Refuses, RefusesAt, fault_only, located, misread_at, no_field}
 use Rattle.record_read.specs.Woken.{woken_of}
 use Rattle.record_read.proofs.GrammarFields.{argument_holds, holds_argument, holds_number, holds_signed, maybe_number_holds, number_holds, same_ok, signed_holds, no_fault}
@@ -223,10 +227,19 @@ all_empty_fail fields (first ∷ others) =
 unused_fails : {A : Type 0} (text : List ℕ) (unused : A) → Fails (empty text >>= (λ u. Ok unused)) (MustBeEmpty text)
 unused_fails text unused = last_step (empty text) (λ u. unused) (MustBeEmpty text) (empty_fails text)
 
-argument_fails : (taken : Bool) (text : List ℕ) → Fails (argument taken text) (MustHoldIf taken BadNumber HoldsSigned text)
+-- an argument that may be left out, in a recording of this format
+maybe_argument_fails : (which : Format) (text : List ℕ) → Fails (maybe_argument which text) (MayHoldNumber which text)
+unfolding maybe_argument
+maybe_argument_fails format.One text = unused_fails text (negsuc 0)
+maybe_argument_fails format.Two text = unused_fails text (negsuc 0)
+maybe_argument_fails format.Three text =
+    last_step (maybe_signed text) (λ found. unwrap_or found (negsuc 0)) (HoldsNone BadNumber (MayHold HoldsSigned) text) (maybe_signed_fails text)
+
+argument_fails : (which : Format) (taken : Presence) (text : List ℕ) → Fails (argument which taken text) (MustHoldNumber which taken text)
 unfolding argument
-argument_fails true text = signed_fails text
-argument_fails false text = unused_fails text (pos 0)
+argument_fails which presence.Required text = signed_fails text
+argument_fails which presence.Absent text = unused_fails text (pos 0)
+argument_fails which presence.Optional text = maybe_argument_fails which text
 
 name_fails : (taken : Bool) (text : List ℕ) → Fails (name_in taken text) (MustHoldIf taken BadName HoldsName text)
 unfolding name_in name_of
@@ -273,9 +286,25 @@ message_fails true len text =
     bytes_fail (decode_of text) (goes_with len) (GoesWith len) text refl (λ count is. (length_decides len count).0 is) (λ count is. (length_decides len count).1 is)
 message_fails false len text = unused_fails text []
 
-kind_fails : (text : List ℕ) → Fails (kind_of text) (MustHold BadKind HoldsKind text)
-unfolding kind_of filled
-kind_fails text = must_hold kind_of BadKind HoldsKind text tt refl (λ b bs e same. or_bad (kind_named (b ∷ bs)) BadKind e same) (kind_is text) (is_kind text)
+-- a message that must be given
+given_fails : (text : List ℕ) → Fails (required_message text) (MustBeGiven text)
+unfolding required_message
+given_fails [] = fault_fails FieldNotForKind tt (inl (refl, refl)) none
+  where
+    none : (e : RowFault) → MustBeGiven [] e → FieldNotForKind ≡ e
+    none e (inl fault) = sym fault.1
+    none e (inr fault) = absurd (fault.0 refl)
+given_fails (b ∷ bs) = fails_also (MustBeGiven (b ∷ bs)) (data_fails (b ∷ bs)) (λ e fault. inr ((λ none. cc), fault)) filled
+  where
+    filled : (e : RowFault) → MustBeGiven (b ∷ bs) e → MustBeBytes (λ count. count ≤ LONGEST_MESSAGE) (b ∷ bs) e
+    filled e (inl fault) = absurd (let f : b ∷ bs ≡ [] = fault.0 in cc)
+    filled e (inr fault) = fault.1
+
+kind_fails : (format : Format) (text : List ℕ) → Fails (kind_of format text) (MustHold BadKind (HoldsKind format) text)
+unfolding kind_of kind_in filled
+kind_fails format text =
+    must_hold (kind_of format) BadKind (HoldsKind format) text tt refl (λ b bs e same. or_bad (kind_in format (b ∷ bs)) BadKind e same)
+    (kind_is format text) (is_kind format text)
 
 service_fails : (format : Format) (text : List ℕ) → Fails (service_of format text) (MustHold BadService (HoldsService format) text)
 unfolding service_of service_in filled
@@ -310,17 +339,17 @@ request_fails : (format : Format) (fields : Fields) → FailsAt (request_in form
 unfolding request_in
 request_fails format fields =
     field_step _ _ _ _ _ _ (service_fails format (text_at fields column.Service)) (λ s is.
-    field_step _ _ _ _ _ _ (numbered s is 1 (text_at fields column.FirstNumber)) (λ n1 is1.
-    field_step _ _ _ _ _ _ (numbered s is 2 (text_at fields column.SecondNumber)) (λ n2 is2.
-    field_step _ _ _ _ _ _ (numbered s is 3 (text_at fields column.ThirdNumber)) (λ n3 is3.
+    field_step _ _ _ _ _ _ (numbered s is (λ numbers. numbers.first) (text_at fields column.FirstNumber)) (λ n1 is1.
+    field_step _ _ _ _ _ _ (numbered s is (λ numbers. numbers.second) (text_at fields column.SecondNumber)) (λ n2 is2.
+    field_step _ _ _ _ _ _ (numbered s is (λ numbers. numbers.third) (text_at fields column.ThirdNumber)) (λ n3 is3.
     field_step _ _ _ _ _ _ (named s is) (λ name isn.
     last_field _ _ _ _ _ (sent s is n2 is2))))))
   where
-    numbered : (s : Service) → service_of format (text_at fields column.Service) ≡ Ok s → (place : ℕ) (text : List ℕ)
-        → Fails (argument (nat_le place (arguments_of s).numbers) text) (ArgumentFault format (text_at fields) place text)
-    numbered s is place text =
-        by_service format (text_at fields column.Service) s _ (λ other. MustHoldIf (nat_le place (arguments_of other).numbers) BadNumber HoldsSigned text) is
-        (argument_fails (nat_le place (arguments_of s).numbers) text)
+    numbered : (s : Service) → service_of format (text_at fields column.Service) ≡ Ok s → (taken : Numbers → Presence) (text : List ℕ)
+        → Fails (argument format (taken (arguments_of s).numbers) text) (ArgumentFault format (text_at fields) taken text)
+    numbered s is taken text =
+        by_service format (text_at fields column.Service) s _ (λ other. MustHoldNumber format (taken (arguments_of other).numbers) text) is
+        (argument_fails format (taken (arguments_of s).numbers) text)
 
     named : (s : Service) → service_of format (text_at fields column.Service) ≡ Ok s
         → Fails (name_in (arguments_of s).name (text_at fields column.Name)) (NameFault format (text_at fields) (text_at fields column.Name))
@@ -328,14 +357,14 @@ request_fails format fields =
         by_service format (text_at fields column.Service) s _ (λ other. MustHoldIf (arguments_of other).name BadName HoldsName (text_at fields column.Name)) is
         (name_fails (arguments_of s).name (text_at fields column.Name))
 
-    sent : (s : Service) → service_of format (text_at fields column.Service) ≡ Ok s → (n2 : ℤ) → argument (nat_le 2 (arguments_of s).numbers) (text_at fields column.SecondNumber) ≡ Ok n2
+    sent : (s : Service) → service_of format (text_at fields column.Service) ≡ Ok s → (n2 : ℤ) → argument format (arguments_of s).numbers.second (text_at fields column.SecondNumber) ≡ Ok n2
         → Fails (message_in (arguments_of s).message n2 (text_at fields column.Message)) (MessageFault format (text_at fields) (text_at fields column.Message))
     sent s is n2 is2 =
-        by_service format (text_at fields column.Service) s _ (λ other. SentFault other (text_at fields) (text_at fields column.Message)) is
-        (fails_also (SentFault s (text_at fields) (text_at fields column.Message)) (message_fails (arguments_of s).message n2 (text_at fields column.Message))
-        (λ e fault. (n2, argument_holds (nat_le 2 (arguments_of s).numbers) (text_at fields column.SecondNumber) n2 is2, fault))
+        by_service format (text_at fields column.Service) s _ (λ other. SentFault format other (text_at fields) (text_at fields column.Message)) is
+        (fails_also (SentFault format s (text_at fields) (text_at fields column.Message)) (message_fails (arguments_of s).message n2 (text_at fields column.Message))
+        (λ e fault. (n2, argument_holds format (arguments_of s).numbers.second (text_at fields column.SecondNumber) n2 is2, fault))
         (λ e fault. subst (λ len. MustBeMessageIf (arguments_of s).message len (text_at fields column.Message) e)
-        (same_ok fault.0 n2 (sym (holds_argument (nat_le 2 (arguments_of s).numbers) (text_at fields column.SecondNumber) fault.0 fault.1) ∙ is2)) fault.2))
+        (same_ok fault.0 n2 (sym (holds_argument format (arguments_of s).numbers.second (text_at fields column.SecondNumber) fault.0 fault.1) ∙ is2)) fault.2))
 
 who_fails : (fields : Fields) → FailsAt (who_in fields) (ProcessFault (text_at fields))
 unfolding who_in
@@ -353,7 +382,8 @@ claim_fails fields =
     field_step _ _ _ _ _ _ (maybe_number_fails GREATEST_CHANNEL (text_at fields column.Channel) (omega arith)) (λ chan is.
     field_step _ _ _ _ _ _ (woken_fails (text_at fields column.Woken)) (λ woken is.
     field_step _ _ _ _ _ _ (maybe_signed_fails (text_at fields column.SecondValue)) (λ val2 is.
-    last_field _ _ _ _ _ (maybe_signed_fails (text_at fields column.ThirdValue)))))))))
+    field_step _ _ _ _ _ _ (maybe_signed_fails (text_at fields column.ThirdValue)) (λ val3 is.
+    last_field _ _ _ _ _ (empty_fails (text_at fields column.Error))))))))))
 
 call_fails : (format : Format) (fields : Fields) → FailsAt (call_in format fields) (CallFault format (text_at fields))
 unfolding call_in
@@ -371,7 +401,8 @@ return_fails format fields =
     field_step _ _ _ _ _ _ (data_fails (text_at fields column.Data)) (λ bytes is.
     step _ _ _ _ (all_empty_fail fields (columns_between column.Channel column.Woken)) (λ unused_too is.
     field_step _ _ _ _ _ _ (maybe_signed_fails (text_at fields column.SecondValue)) (λ val2 is.
-    last_field _ _ _ _ _ (maybe_signed_fails (text_at fields column.ThirdValue))))))))))
+    field_step _ _ _ _ _ _ (maybe_signed_fails (text_at fields column.ThirdValue)) (λ val3 is.
+    last_field _ _ _ _ _ (empty_fails (text_at fields column.Error)))))))))))
 
 -- the process of a dispatch, by what its partition's field holds
 proc_fails : (fields : Fields) (part : Option ℕ) → maybe_number GREATEST_PARTITION (text_at fields column.Partition) ≡ Ok part
@@ -403,14 +434,33 @@ unfolding dispatch_in
 dispatch_fails fields =
     field_step _ _ _ _ _ _ (maybe_number_fails GREATEST_PARTITION (text_at fields column.Partition) (omega arith)) (λ part is.
     field_step _ _ _ _ _ _ (proc_fails fields part is) (λ who is.
-    last_step _ _ _ (all_empty_fail fields (columns_between column.Service column.ThirdValue))))
+    last_step _ _ _ (all_empty_fail fields (columns_between column.Service column.Error))))
 
 tick_fails : (fields : Fields) → FailsAt (tick_in fields) (TickFault (text_at fields))
 unfolding tick_in
 tick_fails fields =
     step _ _ _ _ (all_empty_fail fields (columns_between column.Partition column.Channel)) (λ unused is.
     field_step _ _ _ _ _ _ (woken_fails (text_at fields column.Woken)) (λ woken is.
-    last_step _ _ _ (all_empty_fail fields (columns_between column.SecondValue column.ThirdValue))))
+    last_step _ _ _ (all_empty_fail fields (columns_between column.SecondValue column.Error))))
+
+arrival_fails : (fields : Fields) → FailsAt (arrival_in fields) (ArrivalFault (text_at fields))
+unfolding arrival_in
+arrival_fails fields =
+    step _ _ _ _ (all_empty_fail fields (columns_between column.Partition column.Name)) (λ unused is.
+    field_step _ _ _ _ _ _ (given_fails (text_at fields column.Message)) (λ message is.
+    step _ _ _ _ (all_empty_fail fields (columns_between column.Priority column.Data)) (λ unused_too is.
+    field_step _ _ _ _ _ _ (number_fails GREATEST_CHANNEL (text_at fields column.Channel) (omega arith)) (λ chan is.
+    field_step _ _ _ _ _ _ (woken_fails (text_at fields column.Woken)) (λ woken is.
+    last_step _ _ _ (all_empty_fail fields (columns_between column.SecondValue column.Error)))))))
+
+departure_fails : (fields : Fields) → FailsAt (departure_in fields) (DepartureFault (text_at fields))
+unfolding departure_in
+departure_fails fields =
+    step _ _ _ _ (all_empty_fail fields (columns_between column.Partition column.Value)) (λ unused is.
+    field_step _ _ _ _ _ _ (given_fails (text_at fields column.Data)) (λ message is.
+    field_step _ _ _ _ _ _ (number_fails GREATEST_CHANNEL (text_at fields column.Channel) (omega arith)) (λ chan is.
+    field_step _ _ _ _ _ _ (woken_fails (text_at fields column.Woken)) (λ woken is.
+    last_step _ _ _ (all_empty_fail fields (columns_between column.SecondValue column.Error))))))
 
 body_fails : (format : Format) (which : Kind) (fields : Fields) → FailsAt (body_in format which fields) (FaultOf which format (text_at fields))
 unfolding body_in
@@ -418,6 +468,8 @@ body_fails format kind.Call fields = last_step _ _ _ (call_fails format fields)
 body_fails format kind.Ret fields = last_step _ _ _ (return_fails format fields)
 body_fails format kind.Disp fields = last_step _ _ _ (dispatch_fails fields)
 body_fails format kind.Tick fields = last_step _ _ _ (tick_fails fields)
+body_fails format kind.Arrive fields = last_step _ _ _ (arrival_fails fields)
+body_fails format kind.Depart fields = last_step _ _ _ (departure_fails fields)
 
 -- the number of a row
 seq_fails : (next given : ℕ) (fields : Fields) → number (MOST_RECORDS - 1) (text_at fields column.Sequence) ≡ Ok given
@@ -451,18 +503,18 @@ row_fails format next fields =
     (λ is not. not (eqb-true (length fields) (field_count format) is)) (eqb-false (length fields) (field_count format))
     (field_step _ _ _ _ _ _ (number_fails (MOST_RECORDS - 1) (text_at fields column.Sequence) (omega arith)) (λ given is.
     field_step _ _ _ _ _ _ (seq_fails next given fields is) (λ seq at.
-    field_step _ _ _ _ _ _ (kind_fails (text_at fields column.Kind)) (λ which named.
+    field_step _ _ _ _ _ _ (kind_fails format (text_at fields column.Kind)) (λ which named.
     last_step _ _ _ (after which named))))))
   where
     fits : nat_lt next MOST_RECORDS ≡ true → ¬ (MOST_RECORDS ≤ next)
     fits is over = let below : next < MOST_RECORDS = ltb-true next MOST_RECORDS is in absurd (omega arith)
 
-    after : (which : Kind) → kind_of (text_at fields column.Kind) ≡ Ok which
-        → FailsAt (body_in format which fields) (λ misread. (k : Kind) × HoldsKind (text_at fields column.Kind) k × FaultOf k format (text_at fields) misread)
+    after : (which : Kind) → kind_of format (text_at fields column.Kind) ≡ Ok which
+        → FailsAt (body_in format which fields) (λ misread. (k : Kind) × HoldsKind format (text_at fields column.Kind) k × FaultOf k format (text_at fields) misread)
     after which named =
-        fails_also (λ misread. (k : Kind) × HoldsKind (text_at fields column.Kind) k × FaultOf k format (text_at fields) misread) (body_fails format which fields)
-        (λ e fault. (which, kind_is (text_at fields column.Kind) which named, fault))
-        (λ e fault. subst (λ k. FaultOf k format (text_at fields) e) (same_ok fault.0 which (sym (is_kind (text_at fields column.Kind) fault.0 fault.1) ∙ named)) fault.2)
+        fails_also (λ misread. (k : Kind) × HoldsKind format (text_at fields column.Kind) k × FaultOf k format (text_at fields) misread) (body_fails format which fields)
+        (λ e fault. (which, kind_is format (text_at fields column.Kind) which named, fault))
+        (λ e fault. subst (λ k. FaultOf k format (text_at fields) e) (same_ok fault.0 which (sym (is_kind format (text_at fields column.Kind) fault.0 fault.1) ∙ named)) fault.2)
 
 -- a fault of which only the cause is reported is at some column, or at none
 cause_of : {A : Type 0} (read : Result A Misread) (fault : RowFault) → fault_only read ≡ Err fault → (there : Option Column) × (read ≡ Err (record { fault = fault; column = there }))

@@ -1,15 +1,19 @@
 -- One field: a step of the reader gives a value exactly if the field holds it.
-use Rattle.std.proofs.Common.{◌≡◌, ◌<◌, ◌^◌, ℕ, ℤ, pos, List, [], ◌∷◌, Bool, true, false, Option, Some, None, Result, Ok, Err, refl, sym, ap, subst, if◌then◌else◌}
-use Rattle.std.specs.Prelude.{option_and_then, option_map}
-use Rattle.std.specs.Option.{ok_or}
+use Rattle.std.proofs.Common.{◌≡◌, ◌<◌, ◌^◌, ℕ, ℤ, pos, List, [], ◌∷◌, Bool, true, false, Option, Some, None, Result, Ok, Err, refl, sym, ap, subst, inl, inr, if◌then◌else◌}
+use Rattle.std.specs.Prelude.{negsuc, option_and_then, option_map}
+use Rattle.std.specs.Option.{ok_or, unwrap_or}
 use Rattle.std.proofs.lemmas.Option.{none-some, option_and_then_some, same_Some}
 use Rattle.csv_rows.specs.Decimal.{decimal, signed_decimal}
+use Rattle.apex_types.specs.declared.format.Format.{Format}
+use Rattle.apex_types.specs.declared.format.Format.TheVariants as format
+use Rattle.apex_types.specs.declared.service.Presence.{Presence}
+use Rattle.apex_types.specs.declared.service.Presence.TheVariants as presence
 use Rattle.record_read.specs.declared.column.Column.{Column}
 use Rattle.record_read.specs.declared.fault.RowFault.{RowFault}
 use Rattle.record_read.specs.declared.fault.RowFault.TheVariants.{BadNumber, FieldNotForKind}
 use Rattle.record_read.specs.declared.misread.Misread.{Misread}
-use Rattle.record_read.specs.Field.{argument, empty, filled, maybe, maybe_number, maybe_signed, number, signed}
-use Rattle.record_read.specs.Grammar.{HoldsIf, HoldsNumber, HoldsSigned, MayHold}
+use Rattle.record_read.specs.Field.{argument, empty, filled, maybe, maybe_argument, maybe_number, maybe_signed, number, signed}
+use Rattle.record_read.specs.Grammar.{HoldsArgument, HoldsNumber, HoldsOptional, HoldsSigned, MayHold}
 use Rattle.record_read.specs.Steps.{◌>>=◌, located, misread_at}
 use Rattle.record_read.proofs.GrammarNumbers.{number_read, number_written, signed_read_back, signed_written}
 
@@ -121,14 +125,37 @@ unused_is (b ∷ bs) unused value e = no_fault FieldNotForKind value e
 pub is_unused : {A : Type 0} (text : List ℕ) (unused value : A) → (text ≡ []) × (value ≡ unused) → (empty text >>= (λ u. Ok unused)) ≡ Ok value
 is_unused text unused value h = rw (h.0, h.1) refl
 
+-- an argument that may be left out and is read is what the field may hold
+maybe_argument_holds : (which : Format) (text : List ℕ) (n : ℤ) → maybe_argument which text ≡ Ok n → HoldsOptional which text n
+unfolding maybe_argument
+maybe_argument_holds format.One text n e = unused_is text (negsuc 0) n e
+maybe_argument_holds format.Two text n e = unused_is text (negsuc 0) n e
+maybe_argument_holds format.Three text n e =
+    let s = step_ok (maybe_signed text) (λ found. Ok (unwrap_or found (negsuc 0))) n e in
+    by s.0 (maybe_signed_holds text s.0 s.1) (same_ok (unwrap_or s.0 (negsuc 0)) n s.2)
+  where
+    by : (o : Option ℤ) → MayHold HoldsSigned text o → unwrap_or o (negsuc 0) ≡ n → HoldsOptional format.Three text n
+    by None none is = inr (none, sym is)
+    by (Some m) held is = inl (subst (HoldsSigned text) is held)
+
+-- what the field of an argument may hold is read
+holds_maybe_argument : (which : Format) (text : List ℕ) (n : ℤ) → HoldsOptional which text n → maybe_argument which text ≡ Ok n
+unfolding maybe_argument
+holds_maybe_argument format.One text n h = is_unused text (negsuc 0) n h
+holds_maybe_argument format.Two text n h = is_unused text (negsuc 0) n h
+holds_maybe_argument format.Three text n (inl h) = rw (holds_maybe_signed text (Some n) h) refl
+holds_maybe_argument format.Three text n (inr h) = rw (holds_maybe_signed text None h.0, h.1) refl
+
 -- an argument that is read is what the field holds, or what an empty field means
-pub argument_holds : (taken : Bool) (text : List ℕ) (n : ℤ) → argument taken text ≡ Ok n → HoldsIf taken (pos 0) HoldsSigned text n
+pub argument_holds : (which : Format) (taken : Presence) (text : List ℕ) (n : ℤ) → argument which taken text ≡ Ok n → HoldsArgument which taken text n
 unfolding argument
-argument_holds true text n e = signed_holds text n e
-argument_holds false text n e = unused_is text (pos 0) n e
+argument_holds which presence.Required text n e = signed_holds text n e
+argument_holds which presence.Absent text n e = unused_is text (pos 0) n e
+argument_holds which presence.Optional text n e = maybe_argument_holds which text n e
 
 -- an argument that the field holds, or that an empty field means, is read
-pub holds_argument : (taken : Bool) (text : List ℕ) (n : ℤ) → HoldsIf taken (pos 0) HoldsSigned text n → argument taken text ≡ Ok n
+pub holds_argument : (which : Format) (taken : Presence) (text : List ℕ) (n : ℤ) → HoldsArgument which taken text n → argument which taken text ≡ Ok n
 unfolding argument
-holds_argument true text n h = holds_signed text n h
-holds_argument false text n h = is_unused text (pos 0) n h
+holds_argument which presence.Required text n h = holds_signed text n h
+holds_argument which presence.Absent text n h = is_unused text (pos 0) n h
+holds_argument which presence.Optional text n h = holds_maybe_argument which text n h

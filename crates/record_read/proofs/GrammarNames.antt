@@ -21,8 +21,9 @@ use Rattle.record_read.specs.declared.kind.Kind.{Kind}
 use Rattle.record_read.specs.declared.kind.Kind.TheVariants as kind
 use Rattle.apex_types.specs.Services.{is_in}
 use Rattle.record_read.specs.Field.{filled}
+use Rattle.record_read.specs.FirstFault.{HoldsKind}
 use Rattle.record_read.specs.Grammar.{HoldsOutcome, HoldsService}
-use Rattle.record_read.specs.Named.{all_codes, code_named, code_of, kind_name, kind_named, kind_of, out_named, out_of, service_among, service_in, service_named, service_of}
+use Rattle.record_read.specs.Named.{all_codes, code_named, code_of, has_kind, kind_in, kind_name, kind_named, kind_of, out_named, out_of, service_among, service_in, service_named, service_of}
 use Rattle.record_read.proofs.GrammarFields.{found_first, no_fault, ok_some}
 
 -- the first of two finds: the text has the first name and this is what it names, or the second find gives it
@@ -41,24 +42,29 @@ kind_named_is text k e =
     first_is text (codes "call") kind.Call _ k (λ found. text ≡ kind_name found) (λ same. same)
     (first_is text (codes "ret") kind.Ret _ k (λ found. text ≡ kind_name found) (λ same. same)
     (first_is text (codes "disp") kind.Disp _ k (λ found. text ≡ kind_name found) (λ same. same)
-    (first_is text (codes "tick") kind.Tick None k (λ found. text ≡ kind_name found) (λ same. same)
-    (λ none. absurd (none-some k none))))) e
+    (first_is text (codes "tick") kind.Tick _ k (λ found. text ≡ kind_name found) (λ same. same)
+    (first_is text (codes "arrive") kind.Arrive _ k (λ found. text ≡ kind_name found) (λ same. same)
+    (first_is text (codes "depart") kind.Depart None k (λ found. text ≡ kind_name found) (λ same. same)
+    (λ none. absurd (none-some k none))))))) e
 
--- a field that is read as a kind is its name
-pub kind_is : (text : List ℕ) (k : Kind) → kind_of text ≡ Ok k → text ≡ kind_name k
-unfolding kind_of filled
-kind_is [] k e = no_fault FieldNotForKind k e
-kind_is (b ∷ bs) k e = kind_named_is (b ∷ bs) k (ok_some (kind_named (b ∷ bs)) BadKind k e)
+-- a field that is read as a kind is its name, and the kind is in the format
+pub kind_is : (format : Format) (text : List ℕ) (k : Kind) → kind_of format text ≡ Ok k → HoldsKind format text k
+unfolding kind_of kind_in filled
+kind_is format [] k e = no_fault FieldNotForKind k e
+kind_is format (b ∷ bs) k e =
+    let found = found_first (λ given. if has_kind format given then Some given else None) (kind_named (b ∷ bs)) k (ok_some (kind_in format (b ∷ bs)) BadKind k e) in
+    let known = cond_some (has_kind format found.0) found.0 k found.2 in
+    record { named = kind_named_is (b ∷ bs) k (found.1 ∙ ap Some known.1); in_format = subst (λ given. IsTrue (has_kind format given)) known.1 known.0 }
 
--- the name of a kind names it
-of_kind_name : (k : Kind) → kind_of (kind_name k) ≡ Ok k
-unfolding kind_of kind_named filled
-of_kind_name kind.Call = refl
-of_kind_name _ = refl
+-- the name of a kind of the format names it
+of_kind_name : (format : Format) (k : Kind) → IsTrue (has_kind format k) → kind_of format (kind_name k) ≡ Ok k
+unfolding kind_of kind_named kind_in filled
+of_kind_name format kind.Call known = rw known refl
+of_kind_name format _ known = rw known refl
 
--- a field that is the name of a kind is read as it
-pub is_kind : (text : List ℕ) (k : Kind) → text ≡ kind_name k → kind_of text ≡ Ok k
-is_kind text k e = ap kind_of e ∙ of_kind_name k
+-- a field that is the name of a kind of the format is read as it
+pub is_kind : (format : Format) (text : List ℕ) (k : Kind) → HoldsKind format text k → kind_of format text ≡ Ok k
+is_kind format text k h = ap (kind_of format) h.named ∙ of_kind_name format k h.in_format
 
 -- a text that names a service among some rows is its name, if each row has its service's name
 service_among_is : (rows : List Services.Row) (text : List ℕ) (s : Service) → IsTrue (list_all (λ row. bytes_eq row.name.now (Services.name_of row.service)) rows)

@@ -10,8 +10,8 @@ use Rattle.hex.specs.declared.error.FromHexError.{FromHexError}
 use Rattle.apex_types.specs.declared.limits.TheConstants.{LONGEST_MESSAGE, LONGEST_NAME}
 use Rattle.record_read.specs.declared.fault.RowFault.{RowFault}
 use Rattle.record_read.specs.declared.fault.RowFault.TheVariants.{BadHex, BadLength, BadName, FieldNotForKind}
-use Rattle.record_read.specs.Grammar.{GoesWith, HoldsData, HoldsIf, HoldsMessage, HoldsName, IsMessageLength}
-use Rattle.record_read.specs.Payload.{from_hex, goes_with, is_printable, maybe_message, message_in, message_of, name_in, name_of}
+use Rattle.record_read.specs.Grammar.{GoesWith, HoldsData, HoldsIf, HoldsMessage, HoldsName, HoldsPassing, IsMessageLength}
+use Rattle.record_read.specs.Payload.{from_hex, goes_with, is_printable, maybe_message, message_in, message_of, name_in, name_of, required_message}
 use Rattle.record_read.specs.Steps.{◌>>=◌}
 use Rattle.record_read.proofs.GrammarFields.{is_unused, no_fault, step_ok, test_ok, unused_is}
 
@@ -109,3 +109,15 @@ data_holds text bytes e =
 pub holds_data : (text bytes : List ℕ) → HoldsData text bytes → maybe_message text ≡ Ok bytes
 unfolding maybe_message
 holds_data text bytes h = rw (h.digits, le-leb (length bytes) LONGEST_MESSAGE h.count) refl
+
+-- a message that must be given and is read is what the field holds
+pub passing_holds : (text bytes : List ℕ) → required_message text ≡ Ok bytes → HoldsPassing text bytes
+unfolding required_message
+passing_holds [] bytes e = no_fault FieldNotForKind bytes e
+passing_holds (b ∷ bs) bytes e = record { filled = λ none. cc; holds = data_holds (b ∷ bs) bytes e }
+
+-- a message that must be given and that the field holds is read
+pub holds_passing : (text bytes : List ℕ) → HoldsPassing text bytes → required_message text ≡ Ok bytes
+unfolding required_message
+holds_passing [] bytes h = absurd (h.filled refl)
+holds_passing (b ∷ bs) bytes h = holds_data (b ∷ bs) bytes h.holds

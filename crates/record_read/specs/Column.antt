@@ -4,7 +4,7 @@ use Rattle.apex_types.specs.declared.limits.TheConstants.{GREATEST_CHANNEL, GREA
 use Rattle.record_read.specs.declared.column.Column.{Column}
 use Rattle.record_read.specs.declared.column.Column.TheVariants as column
 
--- the place of a column's field in a row; rows of format 1 have the fields up to 15
+-- the place of a column's field in a row; rows of format 1 have the fields up to 15, those of format 2 up to 17
 abbrev pub place_of : Column → ℕ
 place_of column.Sequence = 0
 place_of column.Kind = 1
@@ -24,11 +24,12 @@ place_of column.Channel = 14
 place_of column.Woken = 15
 place_of column.SecondValue = 16
 place_of column.ThirdValue = 17
+place_of column.Error = 18
 
 -- all columns, in their order
 abbrev pub every_column : List Column
 every_column =
-    column.Sequence ∷ column.Kind ∷ column.Partition ∷ column.Process ∷ column.Service ∷ column.FirstNumber ∷ column.SecondNumber ∷ column.ThirdNumber ∷ column.Name ∷ column.Message ∷ column.Priority ∷ column.Outcome ∷ column.Value ∷ column.Data ∷ column.Channel ∷ column.Woken ∷ column.SecondValue ∷ column.ThirdValue ∷ []
+    column.Sequence ∷ column.Kind ∷ column.Partition ∷ column.Process ∷ column.Service ∷ column.FirstNumber ∷ column.SecondNumber ∷ column.ThirdNumber ∷ column.Name ∷ column.Message ∷ column.Priority ∷ column.Outcome ∷ column.Value ∷ column.Data ∷ column.Channel ∷ column.Woken ∷ column.SecondValue ∷ column.ThirdValue ∷ column.Error ∷ []
 
 -- the columns from one to another
 abbrev pub columns_between : Column → Column → List Column

@@ -1,8 +1,12 @@
 -- Fields of a row: filled or empty, and numbers.
-use Rattle.std.specs.Prelude.{ℕ, ℤ, pos, List, [], ◌∷◌, Bool, true, false, Option, Some, None, Result, Ok, Err}
+use Rattle.std.specs.Prelude.{ℕ, ℤ, pos, negsuc, List, [], ◌∷◌, Option, Some, None, Result, Ok, Err}
 use Rattle.std.specs.Option.{ok_or, unwrap_or}
 use Rattle.csv.specs.Records.{field_at}
 use Rattle.csv_rows.specs.Decimal.{decimal, signed_decimal}
+use Rattle.apex_types.specs.declared.format.Format.{Format}
+use Rattle.apex_types.specs.declared.format.Format.TheVariants as format
+use Rattle.apex_types.specs.declared.service.Presence.{Presence}
+use Rattle.apex_types.specs.declared.service.Presence.TheVariants as presence
 use Rattle.record_read.specs.Column.{columns_between, place_of}
 use Rattle.record_read.specs.declared.column.Column.{Column}
 use Rattle.record_read.specs.declared.fault.RowFault.{RowFault}
@@ -62,7 +66,13 @@ signed text = filled BadNumber (signed_decimal text) text
 unfoldable pub maybe_signed : List ℕ → Result (Option ℤ) RowFault
 maybe_signed text = maybe (signed text) text
 
+-- an argument that may be left out, in a recording of this format: before format 3 it is; left out, it is -1
+unfoldable pub maybe_argument : Format → List ℕ → Result ℤ RowFault
+maybe_argument format.Three text = maybe_signed text >>= (λ found. Ok (unwrap_or found (negsuc 0)))
+maybe_argument _ text = empty text >>= (λ u. Ok (negsuc 0))
+
 -- an argument: the field is filled if the service takes it, and else empty, which means 0
-unfoldable pub argument : Bool → List ℕ → Result ℤ RowFault
-argument true text = signed text
-argument false text = empty text >>= (λ u. Ok (pos 0))
+unfoldable pub argument : Format → Presence → List ℕ → Result ℤ RowFault
+argument format presence.Required text = signed text
+argument format presence.Absent text = empty text >>= (λ u. Ok (pos 0))
+argument format presence.Optional text = maybe_argument format text

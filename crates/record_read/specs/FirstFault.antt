@@ -1,11 +1,14 @@
 -- The fault of a row that is not a record, and the field that has it: the first faulty field, from left to right. Each field is judged by
 -- what it may hold.
-use Rattle.std.specs.Prelude.{◌≡◌, ◌≢◌, ◌⊎◌, ◌≤◌, ◌-◌, ℕ, ℤ, List, [], ◌∷◌, Bool, true, false, Option, Some, Ok, length, nat_le}
+use Rattle.std.specs.Prelude.{◌≡◌, ◌≢◌, ◌⊎◌, ◌≤◌, ◌-◌, ℕ, ℤ, List, [], ◌∷◌, Bool, true, false, Option, Some, IsTrue, Ok, length}
 use Rattle.hex.specs.Hex.{decode_of}
 use Rattle.csv_rows.specs.Stream.{Fields}
 use Rattle.apex_types.specs.declared.limits.TheConstants.{GREATEST_CHANNEL, GREATEST_NUMBER, GREATEST_PARTITION, GREATEST_PRIORITY, LONGEST_MESSAGE, MOST_RECORDS}
 use Rattle.apex_types.specs.CodeName as CodeName
 use Rattle.apex_types.specs.declared.code.Code.{Code}
+use Rattle.apex_types.specs.declared.service.Numbers.{Numbers}
+use Rattle.apex_types.specs.declared.service.Presence.{Presence}
+use Rattle.apex_types.specs.declared.service.Presence.TheVariants as presence
 use Rattle.apex_types.specs.declared.service.Service.{Service}
 use Rattle.record_read.specs.declared.column.Column.{Column}
 use Rattle.record_read.specs.declared.column.Column.TheVariants as column
@@ -13,6 +16,7 @@ use Rattle.record_read.specs.declared.fault.RowFault.{RowFault}
 use Rattle.record_read.specs.declared.fault.RowFault.TheVariants.{BadHex, BadKind, BadLength, BadName, BadNumber, BadOut, BadService, BadWoken, FieldCount, FieldNotForKind, SeqGap, TooMany}
 use Rattle.record_read.specs.declared.misread.Misread.{Misread}
 use Rattle.apex_types.specs.declared.format.Format.{Format}
+use Rattle.apex_types.specs.declared.format.Format.TheVariants as format
 use Rattle.record_read.specs.declared.kind.Kind.{Kind}
 use Rattle.record_read.specs.declared.kind.Kind.TheVariants as kind
 use Rattle.apex_types.specs.Services.{arguments_of}
@@ -20,7 +24,7 @@ use Rattle.apex_types.specs.Format.{field_count}
 use Rattle.record_read.specs.Column.{columns_between}
 use Rattle.record_read.specs.Field.{text_at}
 use Rattle.record_read.specs.Grammar.{GoesWith, HoldsArgument, HoldsName, HoldsNumber, HoldsOutcome, HoldsProcesses, HoldsService, HoldsSigned, MayHold, Row}
-use Rattle.record_read.specs.Named.{kind_name}
+use Rattle.record_read.specs.Named.{has_kind, kind_name}
 use Rattle.record_read.specs.Steps.{no_field}
 
 -- the fault of one field
@@ -37,7 +41,18 @@ MustHold bad Holds text fault = ((text ≡ []) × (fault ≡ FieldNotForKind)) �
 abbrev pub MustBeEmpty : List ℕ → RowFault → Type 0
 MustBeEmpty text fault = (text ≢ []) × (fault ≡ FieldNotForKind)
 
--- the field of an argument: filled if the service takes it, and else empty
+-- the field of a number that may be left out in format 3, and must be empty before it
+abbrev pub MayHoldNumber : Format → List ℕ → RowFault → Type 0
+MayHoldNumber format.Three text fault = HoldsNone BadNumber (MayHold HoldsSigned) text fault
+MayHoldNumber _ text fault = MustBeEmpty text fault
+
+-- the field of a number: filled if the service takes it, and else empty
+abbrev pub MustHoldNumber : Format → Presence → List ℕ → RowFault → Type 0
+MustHoldNumber format presence.Required text fault = MustHold BadNumber HoldsSigned text fault
+MustHoldNumber format presence.Absent text fault = MustBeEmpty text fault
+MustHoldNumber format presence.Optional text fault = MayHoldNumber format text fault
+
+-- the field of a name: filled if the service takes it, and else empty
 abbrev pub MustHoldIf : {A : Type 0} → Bool → RowFault → (List ℕ → A → Type 0) → List ℕ → RowFault → Type 0
 MustHoldIf true bad Holds text fault = MustHold bad Holds text fault
 MustHoldIf false bad Holds text fault = MustBeEmpty text fault
@@ -55,9 +70,14 @@ MustBeMessageIf false argument text fault = MustBeEmpty text fault
 
 -- fields by which other fields are judged
 
--- the name of a kind of rows
-abbrev pub HoldsKind : List ℕ → Kind → Type 0
-HoldsKind text kind = text ≡ kind_name kind
+-- a message that must be given: the text is empty, or is not bytes in hexadecimal, or has more than 8,192
+abbrev pub MustBeGiven : List ℕ → RowFault → Type 0
+MustBeGiven text fault = ((text ≡ []) × (fault ≡ FieldNotForKind)) ⊎ ((text ≢ []) × MustBeBytes (λ count. count ≤ LONGEST_MESSAGE) text fault)
+
+-- the name of a kind of rows of the format
+pub record HoldsKind (format : Format) (text : List ℕ) (kind : Kind) : Type 0 where
+  pub named : text ≡ kind_name kind
+  pub in_format : IsTrue (has_kind format kind)
 
 -- the name of a code
 abbrev pub HoldsCode : List ℕ → Code → Type 0
@@ -92,10 +112,10 @@ ProcessFault row =
     At column.Partition (MustHold BadNumber (HoldsNumber GREATEST_PARTITION)) row
     or_else At column.Process (MustHold BadNumber (HoldsNumber GREATEST_NUMBER)) row
 
--- the first, second or third number of a call, for the service that the row names
-abbrev pub ArgumentFault : Format → Row → ℕ → List ℕ → RowFault → Type 0
-ArgumentFault format row place text fault =
-    (service : Service) × HoldsService format (row column.Service) service × MustHoldIf (nat_le place (arguments_of service).numbers) BadNumber HoldsSigned text fault
+-- one of the numbers of a call, for the service that the row names
+abbrev pub ArgumentFault : Format → Row → (Numbers → Presence) → List ℕ → RowFault → Type 0
+ArgumentFault format row taken text fault =
+    (service : Service) × HoldsService format (row column.Service) service × MustHoldNumber format (taken (arguments_of service).numbers) text fault
 
 -- the name of a call, for its service
 abbrev pub NameFault : Format → Row → List ℕ → RowFault → Type 0
@@ -103,20 +123,22 @@ NameFault format row text fault =
     (service : Service) × HoldsService format (row column.Service) service × MustHoldIf (arguments_of service).name BadName HoldsName text fault
 
 -- the message that goes with a length argument, which is the second number
-abbrev pub SentFault : Service → Row → List ℕ → RowFault → Type 0
-SentFault service row text fault = (argument : ℤ) × HoldsArgument service 2 (row column.SecondNumber) argument × MustBeMessageIf (arguments_of service).message argument text fault
+abbrev pub SentFault : Format → Service → Row → List ℕ → RowFault → Type 0
+SentFault format service row text fault =
+    (argument : ℤ) × HoldsArgument format (arguments_of service).numbers.second (row column.SecondNumber) argument
+    × MustBeMessageIf (arguments_of service).message argument text fault
 
 -- the message of a call, for its service and the length argument
 abbrev pub MessageFault : Format → Row → List ℕ → RowFault → Type 0
-MessageFault format row text fault = (service : Service) × HoldsService format (row column.Service) service × SentFault service row text fault
+MessageFault format row text fault = (service : Service) × HoldsService format (row column.Service) service × SentFault format service row text fault
 
 -- the request of a call
 abbrev pub RequestFault : Format → Row → Misread → Type 0
 RequestFault format row =
     At column.Service (MustHold BadService (HoldsService format)) row
-    or_else At column.FirstNumber (ArgumentFault format row 1) row
-    or_else At column.SecondNumber (ArgumentFault format row 2) row
-    or_else At column.ThirdNumber (ArgumentFault format row 3) row
+    or_else At column.FirstNumber (ArgumentFault format row (λ numbers. numbers.first)) row
+    or_else At column.SecondNumber (ArgumentFault format row (λ numbers. numbers.second)) row
+    or_else At column.ThirdNumber (ArgumentFault format row (λ numbers. numbers.third)) row
     or_else At column.Name (NameFault format row) row
     or_else At column.Message (MessageFault format row) row
 
@@ -131,6 +153,7 @@ ClaimFault row =
     or_else At column.Woken (HoldsNone BadWoken HoldsProcesses) row
     or_else At column.SecondValue (HoldsNone BadNumber (MayHold HoldsSigned)) row
     or_else At column.ThirdValue (HoldsNone BadNumber (MayHold HoldsSigned)) row
+    or_else At column.Error MustBeEmpty row
 
 -- the fields of a call after its kind
 abbrev pub CallFault : Format → Row → Misread → Type 0
@@ -148,6 +171,7 @@ ReturnFault format row =
     or_else MustAllBeEmpty (columns_between column.Channel column.Woken) row
     or_else At column.SecondValue (HoldsNone BadNumber (MayHold HoldsSigned)) row
     or_else At column.ThirdValue (HoldsNone BadNumber (MayHold HoldsSigned)) row
+    or_else At column.Error MustBeEmpty row
 
 -- the process number of a dispatch: filled exactly if the partition is
 abbrev pub DispatchedFault : Row → List ℕ → RowFault → Type 0
@@ -160,14 +184,36 @@ abbrev pub DispatchFault : Row → Misread → Type 0
 DispatchFault row =
     At column.Partition (HoldsNone BadNumber (MayHold (HoldsNumber GREATEST_PARTITION))) row
     or_else At column.Process (DispatchedFault row) row
-    or_else MustAllBeEmpty (columns_between column.Service column.ThirdValue) row
+    or_else MustAllBeEmpty (columns_between column.Service column.Error) row
 
 -- the fields of a tick after its kind
 abbrev pub TickFault : Row → Misread → Type 0
 TickFault row =
     MustAllBeEmpty (columns_between column.Partition column.Channel) row
     or_else At column.Woken (HoldsNone BadWoken HoldsProcesses) row
-    or_else MustAllBeEmpty (columns_between column.SecondValue column.ThirdValue) row
+    or_else MustAllBeEmpty (columns_between column.SecondValue column.Error) row
+
+-- the fields of a message that passes an end outside, from its channel on
+abbrev pub PassingFault : Row → Misread → Type 0
+PassingFault row =
+    At column.Channel (MustHold BadNumber (HoldsNumber GREATEST_CHANNEL)) row
+    or_else At column.Woken (HoldsNone BadWoken HoldsProcesses) row
+    or_else MustAllBeEmpty (columns_between column.SecondValue column.Error) row
+
+-- the fields of an arrival after its kind
+abbrev pub ArrivalFault : Row → Misread → Type 0
+ArrivalFault row =
+    MustAllBeEmpty (columns_between column.Partition column.Name) row
+    or_else At column.Message MustBeGiven row
+    or_else MustAllBeEmpty (columns_between column.Priority column.Data) row
+    or_else PassingFault row
+
+-- the fields of a departure after its kind
+abbrev pub DepartureFault : Row → Misread → Type 0
+DepartureFault row =
+    MustAllBeEmpty (columns_between column.Partition column.Value) row
+    or_else At column.Data MustBeGiven row
+    or_else PassingFault row
 
 -- the fields after the kind
 abbrev pub FaultOf : Kind → Format → Row → Misread → Type 0
@@ -175,6 +221,8 @@ FaultOf kind.Call format row misread = CallFault format row misread
 FaultOf kind.Ret format row misread = ReturnFault format row misread
 FaultOf kind.Disp format row misread = DispatchFault row misread
 FaultOf kind.Tick format row misread = TickFault row misread
+FaultOf kind.Arrive format row misread = ArrivalFault row misread
+FaultOf kind.Depart format row misread = DepartureFault row misread
 
 -- the row of this number, in a recording of this format, has this fault in this field: the recording has too many rows, or else the row has
 -- more or fewer fields than the format, and neither is a fault of one field; or else it is the fault of the first faulty field
@@ -184,8 +232,8 @@ IsMisread format next fields =
     or_else (λ misread. (length fields ≢ field_count format) × (misread ≡ no_field FieldCount))
     or_else At column.Sequence (MustHold BadNumber (HoldsNumber (MOST_RECORDS - 1))) (text_at fields)
     or_else At column.Sequence (OtherNumber next) (text_at fields)
-    or_else At column.Kind (MustHold BadKind HoldsKind) (text_at fields)
-    or_else (λ misread. (which : Kind) × HoldsKind (text_at fields column.Kind) which × FaultOf which format (text_at fields) misread)
+    or_else At column.Kind (MustHold BadKind (HoldsKind format)) (text_at fields)
+    or_else (λ misread. (which : Kind) × HoldsKind format (text_at fields column.Kind) which × FaultOf which format (text_at fields) misread)
 
 -- the row has this fault, in whichever field
 abbrev pub IsFirstFault : Format → ℕ → Fields → RowFault → Type 0

@@ -1,5 +1,6 @@
--- The grammar of rows: which rows are the row of a call, of a return, of a dispatch or of a tick, by what their fields hold.
-use Rattle.std.specs.Prelude.{◌≡◌, ◌≢◌, ◌⊎◌, ◌≤◌, ◌<◌, ℕ, ℤ, pos, negsuc, List, [], ◌∷◌, ◌++◌, Bool, true, false, Option, Some, None, Ok, IsTrue, codes, length, map, nat_le, FitsSigned}
+-- The grammar of rows: which rows are the row of a call, of a return, of a dispatch, of a tick, or of a message that passes an end
+-- outside, by what their fields hold.
+use Rattle.std.specs.Prelude.{◌≡◌, ◌≢◌, ◌⊎◌, ◌≤◌, ◌<◌, ℕ, ℤ, pos, negsuc, List, [], ◌∷◌, ◌++◌, Bool, true, false, Option, Some, None, Ok, IsTrue, codes, length, map, FitsSigned}
 use Rattle.std.specs.Fmt.{decimal, signed_decimal}
 use Rattle.std.specs.Int.{w64}
 use Rattle.std.specs.List.{All, AllPass, join_by}
@@ -13,14 +14,18 @@ use Rattle.apex_types.specs.declared.record.Body.{Body}
 use Rattle.apex_types.specs.declared.record.Body.TheVariants as body
 use Rattle.apex_types.specs.declared.record.Call.{Call}
 use Rattle.apex_types.specs.declared.record.Claim.{Claim}
+use Rattle.apex_types.specs.declared.record.Crossing.{Crossing}
 use Rattle.apex_types.specs.declared.record.Out.{Out}
 use Rattle.apex_types.specs.declared.record.Out.TheVariants as out
 use Rattle.apex_types.specs.declared.record.Record.{Record}
 use Rattle.apex_types.specs.declared.record.Return.{Return}
 use Rattle.apex_types.specs.declared.record.Who.{Who}
 use Rattle.apex_types.specs.declared.request.Request.{Request}
+use Rattle.apex_types.specs.declared.service.Presence.{Presence}
+use Rattle.apex_types.specs.declared.service.Presence.TheVariants as presence
 use Rattle.apex_types.specs.declared.service.Service.{Service}
 use Rattle.apex_types.specs.declared.format.Format.{Format}
+use Rattle.apex_types.specs.declared.format.Format.TheVariants as format
 use Rattle.apex_types.specs.Services.{arguments_of, is_in}
 use Rattle.record_read.specs.declared.column.Column.{Column}
 use Rattle.record_read.specs.declared.column.Column.TheVariants as column
@@ -101,7 +106,7 @@ pub record HoldsProcesses (text : List ℕ) (named : List Who) : Type 0 where
 
 -- what a row holds
 
--- a row is the text of each column; in format 1 it has no second and no third value, and their texts are empty
+-- a row is the text of each column; the texts of the columns that its format does not have are empty
 abbrev pub Row : Type 0
 Row = Column → List ℕ
 
@@ -115,9 +120,16 @@ abbrev pub HoldsIf : {A : Type 0} → Bool → A → (List ℕ → A → Type 0)
 HoldsIf true unused Holds text value = Holds text value
 HoldsIf false unused Holds text value = (text ≡ []) × (value ≡ unused)
 
--- the first, second or third of a service's numbers; a number that the service does not take is 0
-abbrev pub HoldsArgument : Service → ℕ → List ℕ → ℤ → Type 0
-HoldsArgument service place text number = HoldsIf (nat_le place (arguments_of service).numbers) (pos 0) HoldsSigned text number
+-- a number that may be left out in format 3, and always is before it; left out, it is -1
+abbrev pub HoldsOptional : Format → List ℕ → ℤ → Type 0
+HoldsOptional format.Three text number = HoldsSigned text number ⊎ ((text ≡ []) × (number ≡ negsuc 0))
+HoldsOptional _ text number = (text ≡ []) × (number ≡ negsuc 0)
+
+-- a number of a service; a number that the service does not take is 0
+abbrev pub HoldsArgument : Format → Presence → List ℕ → ℤ → Type 0
+HoldsArgument format presence.Required text number = HoldsSigned text number
+HoldsArgument format presence.Absent text number = (text ≡ []) × (number ≡ pos 0)
+HoldsArgument format presence.Optional text number = HoldsOptional format text number
 
 -- the process of a call, of a return or of a dispatch
 pub record NamesProcess (row : Row) (who : Who) : Type 0 where
@@ -134,9 +146,9 @@ pub record HoldsRequest (format : Format) (row : Row) (request : Request) : Type
   pub message : List ℕ
   pub is : request ≡ request_of service n1 n2 n3 name message
   pub has_service : HoldsService format (row column.Service) service
-  pub has_n1 : HoldsArgument service 1 (row column.FirstNumber) n1
-  pub has_n2 : HoldsArgument service 2 (row column.SecondNumber) n2
-  pub has_n3 : HoldsArgument service 3 (row column.ThirdNumber) n3
+  pub has_n1 : HoldsArgument format (arguments_of service).numbers.first (row column.FirstNumber) n1
+  pub has_n2 : HoldsArgument format (arguments_of service).numbers.second (row column.SecondNumber) n2
+  pub has_n3 : HoldsArgument format (arguments_of service).numbers.third (row column.ThirdNumber) n3
   pub has_name : HoldsIf (arguments_of service).name [] HoldsName (row column.Name) name
   pub has_message : HoldsIf (arguments_of service).message [] (HoldsMessage n2) (row column.Message) message
 
@@ -150,6 +162,7 @@ pub record HoldsClaim (row : Row) (claim : Claim) : Type 0 where
   pub bytes : HoldsData (row column.Data) claim.bytes
   pub chan : MayHold (HoldsNumber GREATEST_CHANNEL) (row column.Channel) claim.chan
   pub woken : HoldsProcesses (row column.Woken) claim.woken
+  pub unused : row column.Error ≡ []
 
 -- the row of a call
 pub record IsRowOfCall (format : Format) (row : Row) (call : Call) : Type 0 where
@@ -169,7 +182,7 @@ pub record IsRowOfReturn (format : Format) (row : Row) (ret : Return) : Type 0 w
   pub val3 : MayHold HoldsSigned (row column.ThirdValue) ret.val3
   pub bytes : HoldsData (row column.Data) ret.bytes
   pub unused : AreEmpty (map row (column.FirstNumber ∷ column.SecondNumber ∷ column.ThirdNumber ∷ column.Name ∷ column.Message ∷ column.Priority ∷ []))
-  pub unused_too : AreEmpty (row column.Channel ∷ row column.Woken ∷ [])
+  pub unused_too : AreEmpty (row column.Channel ∷ row column.Woken ∷ row column.Error ∷ [])
 
 -- a dispatch names a process, or leaves both fields empty
 abbrev pub Dispatches : Row → Option Who → Type 0
@@ -180,14 +193,42 @@ Dispatches row (Some who) = NamesProcess row who
 pub record IsRowOfDispatch (row : Row) (who : Option Who) : Type 0 where
   pub kind : row column.Kind ≡ codes "disp"
   pub process : Dispatches row who
-  pub unused : AreEmpty (map row (column.Service ∷ column.FirstNumber ∷ column.SecondNumber ∷ column.ThirdNumber ∷ column.Name ∷ column.Message ∷ column.Priority ∷ column.Outcome ∷ column.Value ∷ column.Data ∷ column.Channel ∷ column.Woken ∷ column.SecondValue ∷ column.ThirdValue ∷ []))
+  pub unused : AreEmpty (map row (column.Service ∷ column.FirstNumber ∷ column.SecondNumber ∷ column.ThirdNumber ∷ column.Name ∷ column.Message ∷ column.Priority ∷ column.Outcome ∷ column.Value ∷ column.Data ∷ column.Channel ∷ column.Woken ∷ column.SecondValue ∷ column.ThirdValue ∷ column.Error ∷ []))
 
 -- the row of a tick
 pub record IsRowOfTick (row : Row) (named : List Who) : Type 0 where
   pub kind : row column.Kind ≡ codes "tick"
   pub woken : HoldsProcesses (row column.Woken) named
   pub unused : AreEmpty (map row (column.Partition ∷ column.Process ∷ column.Service ∷ column.FirstNumber ∷ column.SecondNumber ∷ column.ThirdNumber ∷ column.Name ∷ column.Message ∷ column.Priority ∷ column.Outcome ∷ column.Value ∷ column.Data ∷ column.Channel ∷ []))
-  pub unused_too : AreEmpty (row column.SecondValue ∷ row column.ThirdValue ∷ [])
+  pub unused_too : AreEmpty (row column.SecondValue ∷ row column.ThirdValue ∷ row column.Error ∷ [])
+
+-- a message that a record must have: two hexadecimal digits for each byte, 1 to 8,192 bytes
+pub record HoldsPassing (text bytes : List ℕ) : Type 0 where
+  pub filled : text ≢ []
+  pub holds : HoldsData text bytes
+
+-- the row of a message that arrives
+pub record IsRowOfArrival (row : Row) (crossing : Crossing) : Type 0 where
+  pub kind : row column.Kind ≡ codes "arrive"
+  pub message : HoldsPassing (row column.Message) crossing.message
+  pub chan : HoldsNumber GREATEST_CHANNEL (row column.Channel) crossing.chan
+  pub woken : HoldsProcesses (row column.Woken) crossing.woken
+  pub unused : AreEmpty (map row (column.Partition ∷ column.Process ∷ column.Service ∷ column.FirstNumber ∷ column.SecondNumber ∷ column.ThirdNumber ∷ column.Name ∷ column.Priority ∷ column.Outcome ∷ column.Value ∷ column.Data ∷ column.SecondValue ∷ column.ThirdValue ∷ column.Error ∷ []))
+
+-- the row of a message that departs, which is in the field of what is given
+pub record IsRowOfDeparture (row : Row) (crossing : Crossing) : Type 0 where
+  pub kind : row column.Kind ≡ codes "depart"
+  pub message : HoldsPassing (row column.Data) crossing.message
+  pub chan : HoldsNumber GREATEST_CHANNEL (row column.Channel) crossing.chan
+  pub woken : HoldsProcesses (row column.Woken) crossing.woken
+  pub unused : AreEmpty (map row (column.Partition ∷ column.Process ∷ column.Service ∷ column.FirstNumber ∷ column.SecondNumber ∷ column.ThirdNumber ∷ column.Name ∷ column.Message ∷ column.Priority ∷ column.Outcome ∷ column.Value ∷ column.SecondValue ∷ column.ThirdValue ∷ column.Error ∷ []))
+
+-- a format has the rows of a kind of record: before format 3 no message passes an end outside
+abbrev pub HasRowsOf : Format → Body → Type 0
+HasRowsOf format.Three said = Unit {0}
+HasRowsOf _ (body.Arrive crossing) = ⊥
+HasRowsOf _ (body.Depart crossing) = ⊥
+HasRowsOf _ said = Unit {0}
 
 -- one case for each kind of row
 abbrev pub IsRowOf : Format → Row → Body → Type 0
@@ -195,6 +236,8 @@ IsRowOf format row (body.Call call) = IsRowOfCall format row call
 IsRowOf format row (body.Ret ret) = IsRowOfReturn format row ret
 IsRowOf format row (body.Disp who) = IsRowOfDispatch row who
 IsRowOf format row (body.Tick woken) = IsRowOfTick row woken
+IsRowOf format row (body.Arrive crossing) = IsRowOfArrival row crossing
+IsRowOf format row (body.Depart crossing) = IsRowOfDeparture row crossing
 
 -- fields are the row of a record, in a recording of this format: there are as many as the format has, the first holds the record's number,
 -- which is the row's, and the others are the row of what the record says
@@ -203,4 +246,5 @@ pub record IsRow (format : Format) (next : ℕ) (fields : Fields) (rec : Record)
   pub number : rec.seq ≡ next
   pub bound : rec.seq < MOST_RECORDS
   pub seq : text_at fields column.Sequence ≡ decimal rec.seq
+  pub has : HasRowsOf format rec.body
   pub body : IsRowOf format (text_at fields) rec.body

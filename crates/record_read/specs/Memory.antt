@@ -3,6 +3,7 @@ use Rattle.std.specs.Prelude.{◌≡◌, ◌≢◌, ◌⊎◌, List, [], ◌∷�
 use Rattle.apex_types.specs.declared.record.Body.{Body}
 use Rattle.apex_types.specs.declared.record.Body.TheVariants as body
 use Rattle.apex_types.specs.declared.record.Call.{Call}
+use Rattle.apex_types.specs.declared.record.Crossing.{Crossing}
 use Rattle.apex_types.specs.declared.record.Record.{Record}
 use Rattle.apex_types.specs.declared.record.Return.{Return}
 use Rattle.apex_types.specs.declared.record.Who.{Who}
@@ -27,12 +28,18 @@ ReturnNeeds ret = ret.bytes ≢ []
 abbrev pub TickNeeds : List Who → Type 0
 TickNeeds woken = woken ≢ []
 
+-- an arrival and a departure need memory for their message
+abbrev pub CrossingNeeds : Crossing → Type 0
+CrossingNeeds crossing = (crossing.message ≢ []) ⊎ (crossing.woken ≢ [])
+
 -- a dispatch needs no memory
 abbrev pub BodyNeeds : Body → Type 0
 BodyNeeds (body.Call call) = CallNeeds call
 BodyNeeds (body.Ret ret) = ReturnNeeds ret
 BodyNeeds (body.Disp who) = ⊥
 BodyNeeds (body.Tick woken) = TickNeeds woken
+BodyNeeds (body.Arrive crossing) = CrossingNeeds crossing
+BodyNeeds (body.Depart crossing) = CrossingNeeds crossing
 
 -- a record needs memory
 abbrev pub NeedsMemory : Record → Type 0

@@ -1,5 +1,5 @@
 -- What rows give by name: kinds of rows, services, codes and outcomes.
-use Rattle.std.specs.Prelude.{ℕ, List, [], ◌∷◌, Option, Some, None, Result, codes, length, map, option_and_then, option_map, if◌then◌else◌}
+use Rattle.std.specs.Prelude.{ℕ, List, [], ◌∷◌, Bool, Option, Some, None, Result, codes, length, map, nat_le, option_and_then, option_map, if◌then◌else◌}
 use Rattle.std.specs.List.{find}
 use Rattle.std.specs.Str.{bytes_eq}
 use Rattle.apex_types.specs.declared.code.Code.{Code}
@@ -11,6 +11,8 @@ use Rattle.apex_types.specs.declared.record.Out.{Out}
 use Rattle.apex_types.specs.declared.record.Out.TheVariants as out
 use Rattle.apex_types.specs.CodeName as CodeName
 use Rattle.apex_types.specs.declared.format.Format.{Format}
+use Rattle.apex_types.specs.declared.format.Format.TheVariants as format
+use Rattle.apex_types.specs.Format.{format_number}
 use Rattle.record_read.specs.declared.kind.Kind.{Kind}
 use Rattle.record_read.specs.declared.kind.Kind.TheVariants as kind
 use Rattle.record_read.specs.declared.fault.RowFault.{RowFault}
@@ -24,14 +26,28 @@ kind_name kind.Call = codes "call"
 kind_name kind.Ret = codes "ret"
 kind_name kind.Disp = codes "disp"
 kind_name kind.Tick = codes "tick"
+kind_name kind.Arrive = codes "arrive"
+kind_name kind.Depart = codes "depart"
 
--- the kinds of rows are `call`, `ret`, `disp` and `tick`
+-- the first format of recordings that has a kind of rows
+abbrev pub kind_since : Kind → Format
+kind_since kind.Arrive = format.Three
+kind_since kind.Depart = format.Three
+kind_since _ = format.One
+
+-- whether a format has a kind of rows
+abbrev pub has_kind : Format → Kind → Bool
+has_kind format kind = nat_le (format_number (kind_since kind)) (format_number format)
+
+-- the kinds of rows are `call`, `ret`, `disp`, `tick`, `arrive` and `depart`
 unfoldable pub kind_named : List ℕ → Option Kind
 kind_named text =
     if bytes_eq text (codes "call") then Some kind.Call
     else if bytes_eq text (codes "ret") then Some kind.Ret
     else if bytes_eq text (codes "disp") then Some kind.Disp
     else if bytes_eq text (codes "tick") then Some kind.Tick
+    else if bytes_eq text (codes "arrive") then Some kind.Arrive
+    else if bytes_eq text (codes "depart") then Some kind.Depart
     else None
 
 -- the codes   (RETURN_CODE_TYPE, section 3)
@@ -55,9 +71,13 @@ service_named text = service_among (λ name. name.now) SERVICES text
 abbrev pub name_lengths : List ℕ
 name_lengths = map (λ row. length row.name.now) SERVICES
 
--- a kind, which must be filled
-unfoldable pub kind_of : List ℕ → Result Kind RowFault
-kind_of text = filled BadKind (kind_named text) text
+-- the kind of this name, if the format has it
+unfoldable pub kind_in : Format → List ℕ → Option Kind
+kind_in format text = option_and_then (λ kind. if has_kind format kind then Some kind else None) (kind_named text)
+
+-- a kind of the format, which must be filled
+unfoldable pub kind_of : Format → List ℕ → Result Kind RowFault
+kind_of format text = filled BadKind (kind_in format text) text
 
 -- the service of this name, if the format has it
 unfoldable pub service_in : Format → List ℕ → Option Service

@@ -41,6 +41,11 @@ IsHex text = decode_of text ≡ Ok (hex_bytes text)
 unfoldable pub maybe_message : List ℕ → Result (List ℕ) RowFault
 maybe_message text = from_hex (decode_of text) >>= (λ bytes. if nat_le (length bytes) LONGEST_MESSAGE then Ok bytes else Err BadLength)
 
+-- a message that must be given: 1 to 8,192 bytes
+unfoldable pub required_message : List ℕ → Result (List ℕ) RowFault
+required_message [] = Err FieldNotForKind
+required_message (b ∷ bs) = maybe_message (b ∷ bs)
+
 -- whether this many bytes go with this length argument: exactly that many if it is 1 to 8,192, and none if it is not
 abbrev pub goes_with : ℤ → ℕ → Bool
 goes_with (pos zero) count = nat_eq count 0

@@ -1,5 +1,5 @@
 -- The grammar of rows: the fields of the recording's format, judged from left to right.
-use Rattle.std.specs.Prelude.{◌-◌, ℕ, List, Option, Some, None, Result, Ok, Err, length, nat_lt, nat_le, nat_eq, ◌==◌, if◌then◌else◌}
+use Rattle.std.specs.Prelude.{◌-◌, ℕ, List, Option, Some, None, Result, Ok, Err, length, nat_lt, nat_eq, ◌==◌, if◌then◌else◌}
 use Rattle.std.specs.Option.{unwrap_or}
 use Rattle.csv_rows.specs.Stream.{Fields, rows_of}
 use Rattle.csv_rows.specs.Source.{items_from, items_of}
@@ -9,6 +9,7 @@ use Rattle.apex_types.specs.declared.record.Claim.{Claim}
 use Rattle.apex_types.specs.declared.record.Call.{Call}
 use Rattle.apex_types.specs.declared.record.Return.{Return}
 use Rattle.apex_types.specs.declared.record.Body.{Body}
+use Rattle.apex_types.specs.declared.record.Crossing.{Crossing}
 use Rattle.apex_types.specs.declared.record.Body.TheVariants as body
 use Rattle.apex_types.specs.declared.record.Record.{Record}
 use Rattle.apex_types.specs.declared.request.Request.{Request}
@@ -25,7 +26,7 @@ use Rattle.record_read.specs.Field.{argument, empty, empty_between, maybe_number
 use Rattle.apex_types.specs.Format.{field_count}
 use Rattle.record_read.specs.Format.{format_of}
 use Rattle.record_read.specs.Named.{code_of, kind_of, out_of, service_of}
-use Rattle.record_read.specs.Payload.{maybe_message, message_in, name_in}
+use Rattle.record_read.specs.Payload.{maybe_message, message_in, name_in, required_message}
 use Rattle.record_read.specs.Steps.{◌>>=◌, fault_only, located, no_field}
 use Rattle.record_read.specs.Woken.{woken_of}
 
@@ -40,9 +41,9 @@ who_in fields = do
 unfoldable pub request_in : Format → Fields → Result Request Misread
 request_in format fields = do
   service ← read_at (service_of format) fields column.Service
-  n1 ← read_at (argument (nat_le 1 (arguments_of service).numbers)) fields column.FirstNumber
-  n2 ← read_at (argument (nat_le 2 (arguments_of service).numbers)) fields column.SecondNumber
-  n3 ← read_at (argument (nat_le 3 (arguments_of service).numbers)) fields column.ThirdNumber
+  n1 ← read_at (argument format (arguments_of service).numbers.first) fields column.FirstNumber
+  n2 ← read_at (argument format (arguments_of service).numbers.second) fields column.SecondNumber
+  n3 ← read_at (argument format (arguments_of service).numbers.third) fields column.ThirdNumber
   name ← read_at (name_in (arguments_of service).name) fields column.Name
   message ← read_at (message_in (arguments_of service).message n2) fields column.Message
   Ok (request_of service n1 n2 n3 name message)
@@ -58,6 +59,7 @@ claim_in fields = do
   woken ← read_at woken_of fields column.Woken
   val2 ← read_at maybe_signed fields column.SecondValue
   val3 ← read_at maybe_signed fields column.ThirdValue
+  unused ← read_at empty fields column.Error
   Ok (record { prio = prio; out = out; val = val; val2 = val2; val3 = val3; bytes = bytes; chan = chan; woken = woken })
 
 -- a call
@@ -80,6 +82,7 @@ return_in format fields = do
   unused_too ← empty_between fields column.Channel column.Woken
   val2 ← read_at maybe_signed fields column.SecondValue
   val3 ← read_at maybe_signed fields column.ThirdValue
+  unused_last ← read_at empty fields column.Error
   Ok (record { who = who; service = service; code = code; val = val; val2 = val2; val3 = val3; bytes = bytes })
 
 -- the process of a dispatch: given together with its partition, or not at all
@@ -92,7 +95,7 @@ unfoldable pub dispatch_in : Fields → Result (Option Who) Misread
 dispatch_in fields = do
   part ← read_at (maybe_number GREATEST_PARTITION) fields column.Partition
   who ← read_at (proc_of part) fields column.Process
-  unused ← empty_between fields column.Service column.ThirdValue
+  unused ← empty_between fields column.Service column.Error
   Ok who
 
 -- a tick, with the processes whose waits end
@@ -100,8 +103,29 @@ unfoldable pub tick_in : Fields → Result (List Who) Misread
 tick_in fields = do
   unused ← empty_between fields column.Partition column.Channel
   woken ← read_at woken_of fields column.Woken
-  unused_too ← empty_between fields column.SecondValue column.ThirdValue
+  unused_too ← empty_between fields column.SecondValue column.Error
   Ok woken
+
+-- a message that arrives: the message and its channel, with the processes whose waits end
+unfoldable pub arrival_in : Fields → Result Crossing Misread
+arrival_in fields = do
+  unused ← empty_between fields column.Partition column.Name
+  message ← read_at required_message fields column.Message
+  unused_too ← empty_between fields column.Priority column.Data
+  chan ← read_at (number GREATEST_CHANNEL) fields column.Channel
+  woken ← read_at woken_of fields column.Woken
+  unused_last ← empty_between fields column.SecondValue column.Error
+  Ok (record { chan = chan; message = message; woken = woken })
+
+-- a message that departs, in the field of what is given
+unfoldable pub departure_in : Fields → Result Crossing Misread
+departure_in fields = do
+  unused ← empty_between fields column.Partition column.Value
+  message ← read_at required_message fields column.Data
+  chan ← read_at (number GREATEST_CHANNEL) fields column.Channel
+  woken ← read_at woken_of fields column.Woken
+  unused_last ← empty_between fields column.SecondValue column.Error
+  Ok (record { chan = chan; message = message; woken = woken })
 
 -- what a row of this kind records, in a recording of this format
 unfoldable pub body_in : Format → Kind → Fields → Result Body Misread
@@ -109,6 +133,8 @@ body_in format kind.Call fields = call_in format fields >>= (λ call. Ok (body.C
 body_in format kind.Ret fields = return_in format fields >>= (λ ret. Ok (body.Ret ret))
 body_in format kind.Disp fields = dispatch_in fields >>= (λ who. Ok (body.Disp who))
 body_in format kind.Tick fields = tick_in fields >>= (λ woken. Ok (body.Tick woken))
+body_in format kind.Arrive fields = arrival_in fields >>= (λ crossing. Ok (body.Arrive crossing))
+body_in format kind.Depart fields = departure_in fields >>= (λ crossing. Ok (body.Depart crossing))
 
 -- the row of this number, counted from 0, in a recording of this format: its record, or its first fault with the column of the field that
 -- has it; a recording has at most 4,294,967,295 rows
@@ -116,7 +142,7 @@ unfoldable pub row_in : Format → ℕ → Fields → Result Record Misread
 row_in format next fields = if nat_lt next MOST_RECORDS then (if length fields == field_count format then (do
   given ← read_at (number (MOST_RECORDS - 1)) fields column.Sequence
   seq ← located column.Sequence (if nat_eq given next then Ok given else Err SeqGap)
-  kind ← read_at kind_of fields column.Kind
+  kind ← read_at (kind_of format) fields column.Kind
   body ← body_in format kind fields
   Ok (record { seq = seq; body = body })) else Err (no_field FieldCount)) else Err (no_field TooMany)
 

@@ -1,5 +1,5 @@
 -- Steps of reading a row, the first fault of which decides.
-use Rattle.std.specs.Prelude.{◌≡◌, ◌⊎◌, Bool, true, Option, Some, None, Result, Ok, Err, IsOkAnd}
+use Rattle.std.specs.Prelude.{◌≡◌, ◌⊎◌, Bool, true, Some, None, Result, Ok, Err, IsOkAnd}
 use Rattle.record_read.specs.declared.column.Column.{Column}
 use Rattle.record_read.specs.declared.fault.RowFault.{RowFault}
 use Rattle.record_read.specs.declared.fault.RowFault.TheVariants.{Read, Memory, Ended}

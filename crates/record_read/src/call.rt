@@ -11,7 +11,7 @@ ghost use Rattle.record_read.specs.Woken.{IsList, processes_in};
 
 use crate::column::Column;
 use crate::fault::RowFault;
-use crate::field::{optional_number, optional_signed, required_number, text};
+use crate::field::{expect_empty, optional_number, optional_signed, required_number, text};
 use crate::misread::Misread;
 use crate::named::read_out;
 use crate::payload::{copy_message, read_data};
@@ -88,6 +88,7 @@ fn judge_claim(fields: &RowFields) -> Result<PlainClaim, Misread>
     read_list(fields)?;
     let val2 = optional_signed(fields, Column::SecondValue)?;
     let val3 = optional_signed(fields, Column::ThirdValue)?;
+    expect_empty(Column::Error, text(fields, Column::Error))?;
     Ok(PlainClaim {
         prio: prio as u8,
         out,

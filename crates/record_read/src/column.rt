@@ -7,7 +7,8 @@ use apex_types::limits::{
     GREATEST_CHANNEL, GREATEST_NUMBER, GREATEST_PARTITION, GREATEST_PRIORITY, MOST_RECORDS,
 };
 
-/// A column of a recording: a field of each row, in the order of the fields. The rows of format 1 end at `Woken`.
+/// A column of a recording: a field of each row, in the order of the fields. The rows of format 1 end at `Woken`, those of format 2 at
+/// `ThirdValue`.
 #[derive(Clone, Copy, Debug, PartialEq, Eq)]
 pub enum Column {
     Sequence,
@@ -28,10 +29,11 @@ pub enum Column {
     Woken,
     SecondValue,
     ThirdValue,
+    Error,
 }
 
 /// The columns in their order, with their names.
-pub const COLUMNS: [(Column, &'static str); 18] = [
+pub const COLUMNS: [(Column, &'static str); 19] = [
     (Column::Sequence, "seq"),
     (Column::Kind, "kind"),
     (Column::Partition, "part"),
@@ -50,10 +52,11 @@ pub const COLUMNS: [(Column, &'static str); 18] = [
     (Column::Woken, "woken"),
     (Column::SecondValue, "val2"),
     (Column::ThirdValue, "val3"),
+    (Column::Error, "err"),
 ];
 
 /// The columns in their order.
-pub const EVERY_COLUMN: [Column; 18] = [
+pub const EVERY_COLUMN: [Column; 19] = [
     Column::Sequence,
     Column::Kind,
     Column::Partition,
@@ -72,6 +75,7 @@ pub const EVERY_COLUMN: [Column; 18] = [
     Column::Woken,
     Column::SecondValue,
     Column::ThirdValue,
+    Column::Error,
 ];
 
 impl Column {

@@ -27,7 +27,7 @@ pub fn read_dispatch(fields: &RowFields) -> Result<Option<Who>, Misread>
         None => None,
     };
     let who = read_proc(fields, part)?;
-    expect_empty_between(fields, Column::Service, Column::ThirdValue)?;
+    expect_empty_between(fields, Column::Service, Column::Error)?;
     Ok(who)
 }
 
@@ -65,7 +65,7 @@ pub fn read_tick(alloc: Global, fields: &RowFields) -> Result<Woken, Misread>
 {
     expect_empty_between(fields, Column::Partition, Column::Channel)?;
     let list = read_list(fields)?;
-    expect_empty_between(fields, Column::SecondValue, Column::ThirdValue)?;
+    expect_empty_between(fields, Column::SecondValue, Column::Error)?;
     match copy_woken(alloc, list) {
         Ok(woken) => Ok(woken),
         Err(_) => Err(Misread::of_no_field(RowFault::Memory)),

@@ -2,12 +2,13 @@
 
 ghost use Rattle.std.specs.Prelude.{◌≡◌, ◌≤◌, IfOk, IfErr, IfSome, Some};
 ghost use Rattle.record_read.specs.Column.{place_of};
-ghost use Rattle.record_read.specs.Field.{all_empty, argument, bytes_at, empty, empty_between, filled, maybe_number, maybe_signed, number, read_at, signed, text_at};
+ghost use Rattle.record_read.specs.Field.{all_empty, argument, bytes_at, empty, empty_between, filled, maybe_argument, maybe_number, maybe_signed, number, read_at, signed, text_at};
 ghost use Rattle.record_read.specs.Steps.{IsOfRow, located};
 
 use crate::column::{Column, EVERY_COLUMN};
 use crate::fault::RowFault;
 use crate::misread::Misread;
+use apex_types::{Format, Presence};
 use csv_rows::{RowFields, read_decimal, read_signed};
 
 /// The text of a column; empty if the row ends before it.
@@ -127,18 +128,54 @@ pub fn optional_signed(fields: &RowFields, column: Column) -> Result<Option<i64>
     }
 }
 
-/// The argument in a field: filled if the service takes it, and else empty, which means 0.
+/// The argument in a field of a row of this format: filled if the service takes it, and else empty, which means 0. An argument that may be
+/// left out, and always is before format 3, is then -1.
 #[tactic(auto, unfolding(crate::specs::Field::argument))]
-pub fn read_argument(fields: &RowFields, column: Column, taken: bool) -> Result<i64, Misread>
-    ensures value { result ≡ read_at (argument taken) fields.now column }
+pub fn read_argument(
+    format: Format,
+    fields: &RowFields,
+    column: Column,
+    presence: Presence,
+) -> Result<i64, Misread>
+    ensures value { result ≡ read_at (argument format presence) fields.now column }
     ensures own { IfErr result (λ misread. IsOfRow misread.fault) }
 {
-    let text = text(fields, column);
-    if taken {
-        return signed_of(column, text);
+    match presence {
+        Presence::Required => signed_of(column, text(fields, column)),
+        Presence::Absent => {
+            expect_empty(column, text(fields, column))?;
+            Ok(0)
+        }
+        Presence::Optional => read_optional_argument(format, fields, column),
     }
-    expect_empty(column, text)?;
-    Ok(0)
+}
+
+// The argument in a field that may be left out.
+#[tactic(auto, unfolding(crate::specs::Field::maybe_argument))]
+fn read_optional_argument(
+    format: Format,
+    fields: &RowFields,
+    column: Column,
+) -> Result<i64, Misread>
+    ensures value { result ≡ read_at (maybe_argument format) fields.now column }
+    ensures own { IfErr result (λ misread. IsOfRow misread.fault) }
+{
+    match format {
+        Format::Three => read_signed_or_none(fields, column),
+        Format::One | Format::Two => {
+            expect_empty(column, text(fields, column))?;
+            Ok(-1)
+        }
+    }
+}
+
+// The argument in a field of a row of format 3 that may be left out.
+#[tactic(auto, unfolding(crate::specs::Field::maybe_argument))]
+fn read_signed_or_none(fields: &RowFields, column: Column) -> Result<i64, Misread>
+    ensures value { result ≡ read_at (maybe_argument Format.Three) fields.now column }
+    ensures own { IfErr result (λ misread. IsOfRow misread.fault) }
+{
+    Ok(optional_signed(fields, column)?.unwrap_or(-1))
 }
 
 // The signed number in the text of a column, which must be filled.

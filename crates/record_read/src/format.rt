@@ -21,7 +21,9 @@ pub fn format_by(known: Option<Format>, fields: &RowFields) -> Format
 fn format_begun_by(fields: &RowFields) -> Format
     ensures { result ≡ begun_by fields.now }
 {
-    if fields.len() == Format::Two.field_count() {
+    if fields.len() == Format::Three.field_count() {
+        Format::Three
+    } else if fields.len() == Format::Two.field_count() {
         Format::Two
     } else {
         Format::One

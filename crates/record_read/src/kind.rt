@@ -1,5 +1,10 @@
 // The kinds of rows.
 
+ghost use Rattle.std.specs.Prelude.{◌≡◌};
+ghost use Rattle.record_read.specs.Named.{kind_since};
+
+use apex_types::Format;
+
 /// What a row records.
 #[derive(Clone, Copy, Debug, PartialEq, Eq)]
 pub enum Kind {
@@ -11,4 +16,20 @@ pub enum Kind {
     Disp,
     /// A tick of a core's time.
     Tick,
+    /// A message that arrives from outside the module.
+    Arrive,
+    /// A message that departs to the outside.
+    Depart,
+}
+
+impl Kind {
+    /// The first format of recordings that has such rows.
+    pub fn since(self) -> Format
+        ensures { result ≡ kind_since self }
+    {
+        match self {
+            Kind::Call | Kind::Ret | Kind::Disp | Kind::Tick => Format::One,
+            Kind::Arrive | Kind::Depart => Format::Three,
+        }
+    }
 }

@@ -12,6 +12,7 @@
 
 mod call;
 mod column;
+mod crossing;
 mod dispatch;
 mod fault;
 mod field;

@@ -4,7 +4,7 @@ ghost use Rattle.std.specs.Prelude.{◌≡◌, ◌≤◌, ◌==◌, IfErr, IsTru
 ghost use Rattle.std.specs.List.{list_all};
 ghost use Rattle.std.specs.Str.{bytes_eq};
 ghost use Rattle.record_read.specs.Field.{read_at};
-ghost use Rattle.record_read.specs.Named.{code_named, code_of, kind_named, kind_of, name_lengths, out_named, out_of, service_among, service_in, service_named, service_of};
+ghost use Rattle.record_read.specs.Named.{code_named, code_of, kind_in, kind_named, kind_of, name_lengths, out_named, out_of, service_among, service_in, service_named, service_of};
 ghost use Rattle.record_read.specs.Steps.{IsOfRow};
 
 use crate::column::Column;
@@ -26,14 +26,32 @@ const CODES: [Code; 7] = [
     Code::TimedOut,
 ];
 
-/// The kind of a row, which must be given.
+/// The kind of a row of this format, which must be given.
 #[tactic(auto, unfolding(crate::specs::Named::kind_of))]
-pub fn read_kind(fields: &RowFields) -> Result<Kind, Misread>
-    ensures value { result ≡ read_at kind_of fields.now Column.Kind }
+pub fn read_kind(format: Format, fields: &RowFields) -> Result<Kind, Misread>
+    ensures value { result ≡ read_at (kind_of format) fields.now Column.Kind }
     ensures own { IfErr result (λ misread. IsOfRow misread.fault) }
 {
     let name = text(fields, Column::Kind);
-    required(Column::Kind, name, find_kind(name), RowFault::BadKind)
+    required(
+        Column::Kind,
+        name,
+        find_kind_in(format, name),
+        RowFault::BadKind,
+    )
+}
+
+// The kind of rows that has this name, if the format has it.
+#[tactic(auto, unfolding(crate::specs::Named::kind_in))]
+fn find_kind_in(format: Format, text: &[u8]) -> Option<Kind>
+    ensures { result ≡ kind_in format text.now }
+{
+    let kind = find_kind(text)?;
+    if kind.since().number() <= format.number() {
+        Some(kind)
+    } else {
+        None
+    }
 }
 
 /// The kind of rows that has this name, if there is one. Takes no memory.
@@ -49,6 +67,10 @@ pub fn find_kind(text: &[u8]) -> Option<Kind>
         Some(Kind::Disp)
     } else if text == b"tick".as_slice() {
         Some(Kind::Tick)
+    } else if text == b"arrive".as_slice() {
+        Some(Kind::Arrive)
+    } else if text == b"depart".as_slice() {
+        Some(Kind::Depart)
     } else {
         None
     }
@@ -131,10 +153,10 @@ pub fn find_service(text: &[u8]) -> Option<Service>
     service_from(first_of_length(text.len()), &SERVICES, text)
 }
 
-// The place in the table of the first name of each length, or 51 for a length that no name has.
+// The place in the table of the first name of each length, or 60 for a length that no name has.
 const FIRST_OF_LENGTH: [u8; 33] = [
-    51, 51, 51, 51, 3, 2, 7, 5, 12, 4, 10, 15, 6, 11, 0, 19, 20, 17, 13, 34, 31, 33, 32, 36, 48,
-    51, 51, 51, 51, 51, 51, 51, 1,
+    60, 60, 60, 60, 3, 2, 7, 5, 12, 4, 10, 15, 6, 11, 0, 19, 20, 17, 13, 34, 31, 33, 32, 36, 48,
+    60, 58, 60, 60, 60, 60, 60, 1,
 ];
 
 // The place at which the search for a name of this length begins, so that few names are compared.

@@ -4,7 +4,7 @@ ghost use Rattle.std.specs.Prelude.{◌≡◌, ◌≢◌, [], true, IfOk, IfErr,
 ghost use Rattle.std.specs.List.{list_all};
 ghost use Rattle.hex.specs.Hex.{decode_of, is_hex_digit};
 ghost use Rattle.record_read.specs.Field.{read_at, text_at};
-ghost use Rattle.record_read.specs.Payload.{IsHex, from_hex, goes_with as goes_with_of, hex_bytes, is_printable, maybe_message, message_in, message_of, name_in, name_of};
+ghost use Rattle.record_read.specs.Payload.{IsHex, from_hex, goes_with as goes_with_of, hex_bytes, is_printable, maybe_message, message_in, message_of, name_in, name_of, required_message};
 ghost use Rattle.record_read.specs.Steps.{IsOfRow, located};
 
 use crate::column::Column;
@@ -67,7 +67,6 @@ fn all_printable(text: &[u8]) -> bool
 }
 
 /// The digits of the message that a call or a return gives, which may be left out.
-#[tactic(auto, unfolding(crate::specs::Payload::maybe_message))]
 pub fn read_data(fields: &RowFields) -> Result<&[u8], Misread>
     ensures text { IfOk result (λ digits. digits.now ≡ text_at fields.now Column.Data) }
     ensures value { OnOk result (read_at maybe_message fields.now Column.Data ≡ Ok (hex_bytes (text_at fields.now Column.Data))) }
@@ -76,10 +75,39 @@ pub fn read_data(fields: &RowFields) -> Result<&[u8], Misread>
     ensures own { IfErr result (λ misread. IsOfRow misread.fault) }
 {
     let text = text(fields, Column::Data);
-    if count_bytes(Column::Data, text)? > LONGEST_MESSAGE {
-        return Err(Misread::at(Column::Data, RowFault::BadLength));
-    }
+    judge_digits(Column::Data, text)?;
     Ok(text)
+}
+
+/// The digits of the message in a column that must be given.
+#[tactic(auto, unfolding(crate::specs::Payload::required_message))]
+pub fn read_required_message(fields: &RowFields, column: Column) -> Result<&[u8], Misread>
+    ensures text { IfOk result (λ digits. digits.now ≡ text_at fields.now column) }
+    ensures value { OnOk result (read_at required_message fields.now column ≡ Ok (hex_bytes (text_at fields.now column))) }
+    ensures hex { OnOk result (IsHex (text_at fields.now column)) }
+    ensures refused { IfErr result (λ misread. read_at required_message fields.now column ≡ Err misread) }
+    ensures own { IfErr result (λ misread. IsOfRow misread.fault) }
+{
+    let text = text(fields, column);
+    if text.is_empty() {
+        return Err(Misread::at(column, RowFault::FieldNotForKind));
+    }
+    judge_digits(column, text)?;
+    Ok(text)
+}
+
+// Judges the digits of a message that may be as long as any.
+#[tactic(auto, unfolding(crate::specs::Payload::maybe_message))]
+fn judge_digits(column: Column, text: &[u8]) -> Result<(), Misread>
+    ensures value { OnOk result (maybe_message text.now ≡ Ok (hex_bytes text.now)) }
+    ensures hex { OnOk result (IsHex text.now) }
+    ensures refused { IfErr result (λ misread. located column (maybe_message text.now) ≡ Err misread) }
+    ensures own { IfErr result (λ misread. IsOfRow misread.fault) }
+{
+    if count_bytes(column, text)? > LONGEST_MESSAGE {
+        return Err(Misread::at(column, RowFault::BadLength));
+    }
+    Ok(())
 }
 
 /// The digits of the message of a call. If the service takes a message, it is as long as its length argument says; otherwise it must not be

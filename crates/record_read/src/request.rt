@@ -39,9 +39,9 @@ pub fn judge_request(format: Format, fields: &RowFields) -> Result<RequestText<'
 {
     let service = read_service(format, fields)?;
     let takes = service.arguments();
-    let n1 = read_argument(fields, Column::FirstNumber, takes.numbers >= 1)?;
-    let n2 = read_argument(fields, Column::SecondNumber, takes.numbers >= 2)?;
-    let n3 = read_argument(fields, Column::ThirdNumber, takes.numbers >= 3)?;
+    let n1 = read_argument(format, fields, Column::FirstNumber, takes.numbers.first)?;
+    let n2 = read_argument(format, fields, Column::SecondNumber, takes.numbers.second)?;
+    let n3 = read_argument(format, fields, Column::ThirdNumber, takes.numbers.third)?;
     let name = read_name(fields, takes.name)?;
     let message = read_message(fields, takes.message, n2)?;
     Ok(RequestText {

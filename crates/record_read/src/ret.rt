@@ -8,7 +8,7 @@ ghost use Rattle.record_read.specs.Steps.{RefusesAt};
 use crate::call::read_who;
 use crate::column::Column;
 use crate::fault::RowFault;
-use crate::field::{expect_empty_between, optional_signed};
+use crate::field::{expect_empty, expect_empty_between, optional_signed, text};
 use crate::misread::Misread;
 use crate::named::{read_code, read_service};
 use crate::payload::{copy_message, read_data};
@@ -31,6 +31,7 @@ pub fn read_return(alloc: Global, format: Format, fields: &RowFields) -> Result<
     expect_empty_between(fields, Column::Channel, Column::Woken)?;
     let val2 = optional_signed(fields, Column::SecondValue)?;
     let val3 = optional_signed(fields, Column::ThirdValue)?;
+    expect_empty(Column::Error, text(fields, Column::Error))?;
     let Ok(bytes) = copy_message(alloc, data) else {
         return Err(Misread::of_no_field(RowFault::Memory));
     };

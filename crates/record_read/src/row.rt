@@ -9,6 +9,7 @@ ghost use Rattle.record_read.specs.Steps.{IsOfRow, Refuses, RefusesAt};
 
 use crate::call::read_call;
 use crate::column::Column;
+use crate::crossing::{read_arrival, read_departure};
 use crate::dispatch::{read_dispatch, read_tick};
 use crate::fault::RowFault;
 use crate::field::required_number;
@@ -64,11 +65,13 @@ fn read_record(
     if seq != next as u64 {
         return Err(Misread::at(Column::Sequence, RowFault::SeqGap));
     }
-    let body = match read_kind(fields)? {
+    let body = match read_kind(format, fields)? {
         Kind::Call => Body::Call(read_call(alloc, format, fields)?),
         Kind::Ret => Body::Ret(read_return(alloc, format, fields)?),
         Kind::Disp => Body::Disp(read_dispatch(fields)?),
         Kind::Tick => Body::Tick(read_tick(alloc, fields)?),
+        Kind::Arrive => Body::Arrive(read_arrival(alloc, fields)?),
+        Kind::Depart => Body::Depart(read_departure(alloc, fields)?),
     };
     Ok(Record { seq: next, body })
 }

@@ -26,6 +26,8 @@ kind_in (body.Call call) = kind.Call
 kind_in (body.Ret ret) = kind.Ret
 kind_in (body.Disp who) = kind.Disp
 kind_in (body.Tick woken) = kind.Tick
+kind_in (body.Arrive crossing) = kind.Arrive
+kind_in (body.Depart crossing) = kind.Depart
 
 -- a record as it is reported: its place in the proposed order, its core, its number there and its kind
 abbrev pub item_of : Ordered → LastItem

@@ -9,7 +9,7 @@ use crate::fault::{ArgumentFault, CheckFault, config_refusal};
 use crate::inputs::Inputs;
 use crate::last::Last;
 use crate::options::Options;
-use crate::rounds::judge_all;
+use crate::rounds::{Terms, judge_all};
 use crate::settings::Settings;
 use crate::witness::{Nobody, Witness};
 use apex_types::View;
@@ -91,16 +91,12 @@ where
         return Err(CheckFault::Memory);
     };
     let mut placer = Placer::new(intake, CertSource::new(alloc, order));
-    let answer = judge_all(
-        &rt,
-        alloc,
-        &config,
-        &mut placer,
+    let terms = Terms {
+        config: &config,
         rules,
-        &options,
-        last,
-        witness,
-    );
+        options: &options,
+    };
+    let answer = judge_all(&rt, alloc, &terms, &mut placer, last, witness);
     options.gate.at_answer();
     placer.close(&rt);
     last.settle(&answer);

@@ -142,5 +142,7 @@ fn kind_of(body: &Body) -> Kind
         Body::Ret(_) => Kind::Ret,
         Body::Disp(_) => Kind::Disp,
         Body::Tick(_) => Kind::Tick,
+        Body::Arrive(_) => Kind::Arrive,
+        Body::Depart(_) => Kind::Depart,
     }
 }

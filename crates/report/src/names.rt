@@ -76,5 +76,7 @@ pub fn name_of_kind(kind: Kind) -> &'static [u8]
         Kind::Ret => b"ret",
         Kind::Disp => b"disp",
         Kind::Tick => b"tick",
+        Kind::Arrive => b"arrive",
+        Kind::Depart => b"depart",
     }
 }

@@ -27,6 +27,14 @@ use std::thread::{Threads, join_mut};
 use user_rules::Rule;
 use verdict_merge::{Memory, Verdict};
 
+/// What records are judged under: the configuration and the rules, and how the check is carried out.
+#[derive(Drop)]
+pub struct Terms<'a, G> {
+    pub config: &'a Config,
+    pub rules: &'a [Rule],
+    pub options: &'a Options<'a, G>,
+}
+
 /// Judges all records that are ahead of the placer, in rounds. While a round is judged the next one is filled; after a round with
 /// a finding nothing further is taken than that one.
 ///
@@ -41,23 +49,19 @@ pub fn judge_all<
 >(
     rt: &T,
     alloc: Global,
-    config: &Config,
+    terms: &Terms<'_, G>,
     placer: &mut Placer<R, C>,
-    rules: &[Rule],
-    options: &Options<'_, G>,
     last: &mut Last,
     witness: &mut V,
 ) -> Result<Verdict, CheckFault>
     requires going { placer.old.ended ≡ false }
     requires first { place_of placer.old.kept ≡ 0 }
-    requires cores { length placer.old.lanes ≡ config.now.cores }
-    ensures { AreHonest R.can_fail placer.new.lanes → (result ≡ Err CheckFault.Memory) ⊎ ((scanned : Scan) × IsAhead (record { recordings = R.can_fail; certificate = C.can_fail }) placer.old scanned × IsJudged config.now (relations_of rules.now) scanned result × (last.new ≡ last_of result scanned.placed)) }
+    requires cores { length placer.old.lanes ≡ terms.now.config.now.cores }
+    ensures { AreHonest R.can_fail placer.new.lanes → (result ≡ Err CheckFault.Memory) ⊎ ((scanned : Scan) × IsAhead (record { recordings = R.can_fail; certificate = C.can_fail }) placer.old scanned × IsJudged terms.now.config.now (relations_of terms.now.rules.now) scanned result × (last.new ≡ last_of result scanned.placed)) }
 {
-    let workers = options.settings.workers;
-    let gate = options.gate;
-    let size = options.size;
+    let size = terms.options.size;
     last.clear();
-    let Ok(mut judge) = Judge::start(alloc, config) else {
+    let Ok(mut judge) = Judge::start(alloc, terms.config) else {
         return Err(CheckFault::Memory);
     };
     let Ok(mut round) = Vec::with_capacity(alloc, size) else {
@@ -74,22 +78,36 @@ pub fn judge_all<
             Filled::Full => {}
             Filled::Memory => return Err(CheckFault::Memory),
             Filled::Ended(end) => {
-                let answer = judge_last(rt, config, &mut judge, &round, rules, workers, gate, end);
+                let answer = judge_last(rt, terms, &mut judge, &round, end);
                 last.keep_after_answer(&answer, first, &round);
-                tell(witness, config, rules, &judge, &answer, first, &round);
+                tell(
+                    witness,
+                    terms.config,
+                    terms.rules,
+                    &judge,
+                    &answer,
+                    first,
+                    &round,
+                );
                 return answer;
             }
         }
         next.clear();
-        let (decided, coming) = judge_and_fill(
-            rt, config, &mut judge, &round, rules, workers, gate, placer, &mut next, size,
-        );
+        let (decided, coming) = judge_and_fill(rt, terms, &mut judge, &round, placer, &mut next);
         match decided {
             Ok(None) => last.keep(&round),
             Ok(Some(verdict)) => {
                 let answer = Ok(verdict);
                 last.keep_after_answer(&answer, first, &round);
-                tell(witness, config, rules, &judge, &answer, first, &round);
+                tell(
+                    witness,
+                    terms.config,
+                    terms.rules,
+                    &judge,
+                    &answer,
+                    first,
+                    &round,
+                );
                 return answer;
             }
             Err(_) => return Err(CheckFault::Memory),
@@ -103,34 +121,47 @@ pub fn judge_all<
 // Judges a round and fills the next one: at the same time in another thread if there are several workers, and afterwards if there is one.
 fn judge_and_fill<T: Threads + Wait + Sync, R: TextSource, C: TextSource, G: Gate + Sync>(
     rt: &T,
-    config: &Config,
+    terms: &Terms<'_, G>,
     judge: &mut Judge,
     round: &[Ordered],
-    rules: &[Rule],
-    workers: usize,
-    gate: &G,
     placer: &mut Placer<R, C>,
     next: &mut Vec<Ordered>,
-    size: usize,
 ) -> (Result<Option<Verdict>, Memory>, Filled)
-    requires may { MayJudge config.now judge.old round.now }
+    requires may { MayJudge terms.now.config.now judge.old round.now }
     requires going { placer.old.ended ≡ false }
     requires empty { next.old.items ≡ [] }
-    ensures decided { IfOk result.0 (λ decided. IsDecided config.now (relations_of rules.now) judge.old round.now decided judge.new) }
-    ensures breach { IfOk result.0 (λ decided. IfSome decided (λ verdict. LeavesItsBreach config.now (relations_of rules.now) judge.old round.now (Ok verdict) judge.new)) }
+    ensures decided { IfOk result.0 (λ decided. IsDecided terms.now.config.now (relations_of terms.now.rules.now) judge.old round.now decided judge.new) }
+    ensures breach { IfOk result.0 (λ decided. IfSome decided (λ verdict. LeavesItsBreach terms.now.config.now (relations_of terms.now.rules.now) judge.old round.now (Ok verdict) judge.new)) }
     ensures placed { IsPlaced (record { recordings = R.can_fail; certificate = C.can_fail }) placer.old next.new.items result.1 placer.new }
 {
-    if workers == 1 {
-        let decided = judge_and_tell(rt, config, judge, round, rules, workers, gate);
+    let size = terms.options.size;
+    if terms.options.settings.workers == 1 {
+        let decided = judge_and_tell(rt, terms, judge, round);
         return (decided, fill(rt, placer, next, size));
     }
+    let Terms {
+        config,
+        rules,
+        options,
+    } = *terms;
     join_mut(
         rt,
         &mut ||
             requires { IsSync T.row × IsSync G.row × MayJudge config.now judge.now round.now }
             ensures decided { IfOk result (λ decided. IsDecided config.entry.now (relations_of rules.entry.now) judge.entry.now round.entry.now decided judge.exit.now) }
             ensures breach { IfOk result (λ decided. IfSome decided (λ verdict. LeavesItsBreach config.entry.now (relations_of rules.entry.now) judge.entry.now round.entry.now (Ok verdict) judge.exit.now)) }
-        { judge_and_tell(rt, config, judge, round, rules, workers, gate) },
+        {
+            judge_and_tell(
+                rt,
+                &Terms {
+                    config,
+                    rules,
+                    options,
+                },
+                judge,
+                round,
+            )
+        },
         &mut ||
             requires { (placer.now.ended ≡ false) × (next.now.items ≡ []) }
             ensures { IsPlaced (record { recordings = R.can_fail; certificate = C.can_fail }) placer.entry.now next.exit.now.items result placer.exit.now }
@@ -141,20 +172,17 @@ fn judge_and_fill<T: Threads + Wait + Sync, R: TextSource, C: TextSource, G: Gat
 // Judges a round, and tells the gate if that decides: the next round may be waiting for a reader then.
 fn judge_and_tell<T: Threads + Wait + Sync, G: Gate + Sync>(
     rt: &T,
-    config: &Config,
+    terms: &Terms<'_, G>,
     judge: &mut Judge,
     round: &[Ordered],
-    rules: &[Rule],
-    workers: usize,
-    gate: &G,
 ) -> Result<Option<Verdict>, Memory>
-    requires may { MayJudge config.now judge.old round.now }
-    ensures decided { IfOk result (λ decided. IsDecided config.now (relations_of rules.now) judge.old round.now decided judge.new) }
-    ensures breach { IfOk result (λ decided. IfSome decided (λ verdict. LeavesItsBreach config.now (relations_of rules.now) judge.old round.now (Ok verdict) judge.new)) }
+    requires may { MayJudge terms.now.config.now judge.old round.now }
+    ensures decided { IfOk result (λ decided. IsDecided terms.now.config.now (relations_of terms.now.rules.now) judge.old round.now decided judge.new) }
+    ensures breach { IfOk result (λ decided. IfSome decided (λ verdict. LeavesItsBreach terms.now.config.now (relations_of terms.now.rules.now) judge.old round.now (Ok verdict) judge.new)) }
 {
-    let decided = judge_round(rt, config, judge, round, rules, workers, gate);
+    let decided = judge_round(rt, terms, judge, round);
     if !matches!(decided, Ok(None)) {
-        gate.at_answer();
+        terms.options.gate.at_answer();
     }
     decided
 }
@@ -176,20 +204,17 @@ fn fill<T: Wait, R: TextSource, C: TextSource>(
 // Judges the last round, after which the input ends so.
 fn judge_last<T: Threads + Wait + Sync, G: Gate + Sync>(
     rt: &T,
-    config: &Config,
+    terms: &Terms<'_, G>,
     judge: &mut Judge,
     round: &[Ordered],
-    rules: &[Rule],
-    workers: usize,
-    gate: &G,
     end: Result<(), InputFault>,
 ) -> Result<Verdict, CheckFault>
-    requires may { MayJudge config.now judge.old round.now }
-    ensures answer { IsLastAnswer config.now (relations_of rules.now) judge.old round.now end result }
-    ensures leaves { LeavesItsPiece config.now judge.old round.now result judge.new }
-    ensures breach { LeavesItsBreach config.now (relations_of rules.now) judge.old round.now result judge.new }
+    requires may { MayJudge terms.now.config.now judge.old round.now }
+    ensures answer { IsLastAnswer terms.now.config.now (relations_of terms.now.rules.now) judge.old round.now end result }
+    ensures leaves { LeavesItsPiece terms.now.config.now judge.old round.now result judge.new }
+    ensures breach { LeavesItsBreach terms.now.config.now (relations_of terms.now.rules.now) judge.old round.now result judge.new }
 {
-    match judge_round(rt, config, judge, round, rules, workers, gate) {
+    match judge_round(rt, terms, judge, round) {
         Ok(Some(verdict)) => Ok(verdict),
         Ok(None) => answer_at(end, judge.count()),
         Err(_) => Err(CheckFault::Memory),
@@ -211,18 +236,17 @@ fn answer_at(end: Result<(), InputFault>, count: u64) -> Result<Verdict, CheckFa
 // Memory if memory or a thread was refused.
 fn judge_round<T: Threads + Wait + Sync, G: Gate + Sync>(
     rt: &T,
-    config: &Config,
+    terms: &Terms<'_, G>,
     judge: &mut Judge,
     round: &[Ordered],
-    rules: &[Rule],
-    workers: usize,
-    gate: &G,
 ) -> Result<Option<Verdict>, Memory>
-    requires may { MayJudge config.now judge.old round.now }
-    ensures decided { IfOk result (λ decided. IsDecided config.now (relations_of rules.now) judge.old round.now decided judge.new) }
-    ensures breach { IfOk result (λ decided. IfSome decided (λ verdict. LeavesItsBreach config.now (relations_of rules.now) judge.old round.now (Ok verdict) judge.new)) }
+    requires may { MayJudge terms.now.config.now judge.old round.now }
+    ensures decided { IfOk result (λ decided. IsDecided terms.now.config.now (relations_of terms.now.rules.now) judge.old round.now decided judge.new) }
+    ensures breach { IfOk result (λ decided. IfSome decided (λ verdict. LeavesItsBreach terms.now.config.now (relations_of terms.now.rules.now) judge.old round.now (Ok verdict) judge.new)) }
 {
-    match judge.round(rt, config, round, rules, workers, gate) {
+    let options = terms.options;
+    let workers = options.settings.workers;
+    match judge.round(rt, terms.config, round, terms.rules, workers, options.gate) {
         Ok(found) => Ok(Verdict::against(round, found, judge.breach())),
         Err(_) => Err(Memory),
     }

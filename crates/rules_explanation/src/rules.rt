@@ -15,7 +15,7 @@ use toml::{Table, Value};
 use toml_lines::{Located, Position};
 use wording::{Count, Found, Part, Words};
 
-const KIND_NAMES: [&str; 4] = ["call", "ret", "disp", "tick"];
+const KIND_NAMES: [&str; 6] = ["call", "ret", "disp", "tick", "arrive", "depart"];
 
 const OUTCOME_NAMES: [&str; 9] = [
     "NO_ERROR",

@@ -86,5 +86,7 @@ fn kind_number(kind: Kind) -> i64
         Kind::Ret => 1,
         Kind::Disp => 2,
         Kind::Tick => 3,
+        Kind::Arrive => 4,
+        Kind::Depart => 5,
     }
 }

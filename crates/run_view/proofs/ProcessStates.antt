@@ -8,8 +8,9 @@ use Rattle.run_view.specs.Processes.{state_by_wait}
 -- a process that waits for something is not ready
 pub waiting_is_not_ready : (held : Wait) → (held ≡ wait.Nothing → ⊥) → Waiting held ≡ state_by_wait held
 waiting_is_not_ready wait.Nothing waits = absurd (waits refl)
-waiting_is_not_ready wait.NormalMode waits = refl
+waiting_is_not_ready (wait.NormalMode delay) waits = refl
 waiting_is_not_ready (wait.FirstRelease due) waits = refl
+waiting_is_not_ready (wait.Delay due) waits = refl
 waiting_is_not_ready (wait.Until due) waits = refl
 waiting_is_not_ready (wait.PeriodicRelease due) waits = refl
 waiting_is_not_ready (wait.Suspended due) waits = refl

@@ -1,7 +1,7 @@
 -- Waits and services that are equal.
 use Rattle.std.proofs.Common.{◌≡◌, ◌==◌, Bool, true, Option, Some, None, option_map, Decides, rules, refl, ap, subst}
 use Rattle.std.proofs.lemmas.Bool.{false≢true}
-use Rattle.std.proofs.lemmas.Bool.Decides.{Decides-and, Decides-eqb}
+use Rattle.std.proofs.lemmas.Bool.Decides.{Decides-and, Decides-eqb, Decides-int_eq}
 use Rattle.std.specs.Option.{option_eq}
 use denote.Enum.Bare.{same_true}
 use Rattle.apex_types.specs.declared.object_kind.ObjectKind.TheVariants as kind
@@ -73,8 +73,9 @@ same_set a b =
 -- waits are equal exactly if they are the same
 pub same_wait : (a b : Wait) → Decides (waits.eq-value.it a b) (a ≡ b)
 same_wait wait.Nothing wait.Nothing = (λ _. refl, λ _. refl)
-same_wait wait.NormalMode wait.NormalMode = (λ _. refl, λ _. refl)
+same_wait (wait.NormalMode a) (wait.NormalMode b) = (λ holds. ap wait.NormalMode ((Decides-int_eq a b).0 holds), λ same. (Decides-int_eq a b).1 cc)
 same_wait (wait.FirstRelease a) (wait.FirstRelease b) = (λ holds. ap wait.FirstRelease ((Decides-eqb a b).0 holds), λ same. (Decides-eqb a b).1 cc)
+same_wait (wait.Delay a) (wait.Delay b) = (λ holds. ap wait.Delay ((Decides-eqb a b).0 holds), λ same. (Decides-eqb a b).1 cc)
 same_wait (wait.Until a) (wait.Until b) = (λ holds. ap wait.Until ((Decides-eqb a b).0 holds), λ same. (Decides-eqb a b).1 cc)
 same_wait (wait.PeriodicRelease a) (wait.PeriodicRelease b) = (λ holds. ap wait.PeriodicRelease ((Decides-eqb a b).0 holds), λ same. (Decides-eqb a b).1 cc)
 same_wait (wait.Suspended a) (wait.Suspended b) =

@@ -60,9 +60,9 @@ buffer_shown name size queue buffer view is receiving shown =
     subst (λ one. ShowsBuffer one view) is (shown.0, shown.1, shown.2, waits)
 
 -- a queuing channel is shown as its queue is
-pub queuing_shown : (number source destination : ℕ) (queue : Queue) (held : Held) (view : ThingView) → held ≡ queuing_held number source destination queue → ShowsQueued [] queue view
-    → ShowsChannel held view
-queuing_shown number source destination queue held view is shown =
+pub queuing_shown : (number size : ℕ) (source destination : Option ℕ) (queue : Queue) (held : Held) (view : ThingView)
+    → held ≡ queuing_held number size source destination queue → ShowsQueued [] queue view → ShowsChannel held view
+queuing_shown number size source destination queue held view is shown =
     subst (λ one. ShowsChannel one view) (sym is) (shown.0, (shown.1, shown.2, shown.3))
 
 -- a sampling channel is shown by what was last written

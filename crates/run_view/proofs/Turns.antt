@@ -1,5 +1,5 @@
 -- The processes that wait in a set, in the order in which their waits end.
-use Rattle.std.proofs.Common.{◌≡◌, ◌<◌, ◌≤◌, ◌+◌, ◌-◌, ◌∙◌, ℕ, zero, suc, List, [], ◌∷◌, ◌++◌, ◌||◌, Option, Some, None, Bool, true, false, length, map, refl, sym, ap, arith, inl, inr, append_assoc}
+use Rattle.std.proofs.Common.{◌≡◌, ◌<◌, ◌≤◌, ◌+◌, ◌-◌, ◌∙◌, ℕ, zero, suc, List, [], ◌∷◌, ◌++◌, ◌||◌, Option, Some, None, Bool, true, false, length, map, min, take, refl, sym, ap, arith, inl, inr, append_assoc}
 use Rattle.std.proofs.lemmas.Bool.{cases_Bool}
 use Rattle.std.proofs.lemmas.List.{append-nil}
 use Rattle.apex_types.specs.declared.discipline.Discipline.{Discipline}
@@ -7,11 +7,13 @@ use Rattle.apex_types.specs.declared.record.Who.{Who}
 use Rattle.apex_machine.specs.declared.state.Entry.{Entry}
 use Rattle.apex_machine.specs.Answer.{NamesExactly, waiters_of}
 use Rattle.apex_machine.specs.State.{is_named, is_same}
-use Rattle.apex_machine.specs.Waiting.{first_waiter, precedes, sooner_entry}
+use Rattle.apex_machine.specs.Waiting.{after_first, first_waiter, first_waiters, followed_by, precedes, sooner_entry}
 use Rattle.std.specs.Borrow.{Bor}
-use Rattle.std.specs.Option.{option_to_list}
+use Rattle.wait_set.specs.declared.ended.Ended.{Ended}
+use Rattle.wait_set.specs.declared.ended.Ended.TheVariants.{All, First}
 use Rattle.wait_set.specs.Givens.{listed}
 use Rattle.wait_set.specs.Sets.{Waiters, without_first, without_found, without_one}
+use Rattle.wait_set.proofs.FirstRanks.{without-swap}
 use Rattle.wait_set.proofs.Members.{shorter}
 use Rattle.wait_set.proofs.WaitersOf.{same_is, same_itself, is_member-named}
 use Rattle.run_view.specs.declared.waiter.Waiter.{Waiter}
@@ -122,21 +124,63 @@ named_in_turn (suc count) discipline entries most who = by (first_waiter discipl
 pub in_turn_exactly : (set : Waiters) → NamesExactly (waiters_of set.entries) (processes_of (in_turn set))
 in_turn_exactly set = λ who. named_in_turn (length set.entries) set.discipline set.entries (let e : length set.entries ≤ length set.entries = omega arith in e) who
 
+-- the first of those that wait
+
+-- in turn, the first of those that wait are the first of the set
+first_turns : (count : ℕ) (discipline : Discipline) (entries : List Entry)
+    → processes_of (first_in_turn count discipline entries) ≡ waiters_of (first_waiters discipline count entries)
+first_turns zero discipline entries = refl
+first_turns (suc count) discipline entries = by (first_waiter discipline entries) (λ rest. first_turns count discipline rest)
+  where
+    by : (found : Option Entry)
+        → ((rest : List Entry) → processes_of (first_in_turn count discipline rest) ≡ waiters_of (first_waiters discipline count rest))
+        → processes_of (with_first found (first_in_turn count discipline (without_found found entries)))
+        ≡ waiters_of (followed_by found (first_waiters discipline count (after_first found entries)))
+    by None again = refl
+    by (Some first) again =
+        ap (λ others. first.who ∷ others)
+        (again (without_one first.who entries) ∙ ap (λ rest. waiters_of (first_waiters discipline count rest)) (sym (without-swap first.who entries)))
+
+-- the first of all turns are as many turns
+fewer_turns : (count most : ℕ) (discipline : Discipline) (entries : List Entry) → length entries ≤ most
+    → take count (first_in_turn most discipline entries) ≡ first_in_turn count discipline entries
+fewer_turns zero most discipline entries whole = refl
+fewer_turns (suc count) zero discipline [] whole = refl
+fewer_turns (suc count) zero discipline (entry ∷ entries) whole = absurd (omega (arith, whole))
+fewer_turns (suc count) (suc most) discipline entries whole = by (first_waiter discipline entries) refl (λ rest fewer. fewer_turns count most discipline rest fewer)
+  where
+    by : (found : Option Entry) → first_waiter discipline entries ≡ found
+        → ((rest : List Entry) → length rest ≤ most → take count (first_in_turn most discipline rest) ≡ first_in_turn count discipline rest)
+        → take (suc count) (with_first found (first_in_turn most discipline (without_found found entries)))
+        ≡ with_first found (first_in_turn count discipline (without_found found entries))
+    by None none again = refl
+    by (Some first) there again =
+        let named : is_named first.who (waiters_of entries) ≡ true = first_named discipline entries first there in
+        let fewer : length (without_one first.who entries) < length entries = shorter first.who entries (sym (is_member-named first.who entries) ∙ named) in
+        ap (λ others. shown first ∷ others) (again (without_one first.who entries) (omega (arith, fewer, whole)))
+
+-- as many of a list as it has are all of it
+take_least : (count : ℕ) (waiters : List Waiter) → take (min count (length waiters)) waiters ≡ take count waiters
+take_least zero waiters = let least : min 0 (length waiters) ≡ 0 = omega arith in ap (λ number. take number waiters) least
+take_least (suc count) [] = let least : min (suc count) 0 ≡ 0 = omega arith in ap (λ number. take number []) least
+take_least (suc count) (waiter ∷ waiters) =
+    let least : min (suc count) (length (waiter ∷ waiters)) ≡ suc (min count (length waiters)) = omega arith in
+    ap (λ number. take number (waiter ∷ waiters)) least ∙ ap (λ others. waiter ∷ others) (take_least count waiters)
+
 -- whose waits end
 
 -- the waits of all processes in a set
-pub all_end : (one : Option Who) (all : Option (Bor Waiters)) (set : Bor Waiters) (waiters : List Waiter) (ended : List Who) → all ≡ Some set → waiters ≡ in_turn set.now
-    → ended ≡ processes_of waiters → NamesExactly (listed one all) ended
-all_end one all set waiters ended is turned so = λ who.
-    ap (is_named who) (so ∙ ap processes_of turned) ∙ in_turn_exactly set.now who ∙ sym (ap (λ (found : Option (Bor Waiters)). is_named who (listed one found)) is)
+pub all_end : (ended : Ended) (set : Bor Waiters) (waiters : List Waiter) (processes : List Who) → ended ≡ All set → waiters ≡ in_turn set.now
+    → processes ≡ processes_of waiters → NamesExactly (listed ended) processes
+all_end ended set waiters processes is turned so = λ who.
+    ap (is_named who) (so ∙ ap processes_of turned) ∙ in_turn_exactly set.now who ∙ sym (ap (λ one. is_named who (listed one)) is)
 
--- that of one process
-pub one_ends : (one : Option Who) (all : Option (Bor Waiters)) (process : Who) (ended : List Who) → all ≡ None → one ≡ Some process → ended ≡ process ∷ []
-    → NamesExactly (listed one all) ended
-one_ends one all process ended none is so = λ who.
-    ap (is_named who) (so ∙ sym (ap (λ (found : Option (Bor Waiters)). listed one found) none ∙ ap (λ (found : Option Who). option_to_list found) is))
-
--- none
-pub none_ends : (one : Option Who) (all : Option (Bor Waiters)) (ended : List Who) → all ≡ None → one ≡ None → ended ≡ [] → NamesExactly (listed one all) ended
-none_ends one all ended none is so = λ who.
-    ap (is_named who) (so ∙ sym (ap (λ (found : Option (Bor Waiters)). listed one found) none ∙ ap (λ (found : Option Who). option_to_list found) is))
+-- the waits of the first in a set
+pub first_end : (ended : Ended) (set : Bor Waiters) (count : ℕ) (waiters : List Waiter) (processes : List Who) → ended ≡ First set count
+    → waiters ≡ in_turn set.now → processes ≡ processes_of (take (min count (length waiters)) waiters) → NamesExactly (listed ended) processes
+first_end ended set count waiters processes is turned so =
+    let whole : length set.now.entries ≤ length set.now.entries = omega arith in
+    let firsts : processes ≡ waiters_of (first_waiters set.now.discipline count set.now.entries) =
+    so ∙ ap processes_of (take_least count waiters ∙ ap (take count) turned ∙ fewer_turns count (length set.now.entries) set.now.discipline set.now.entries whole)
+    ∙ first_turns count set.now.discipline set.now.entries in
+    λ who. ap (is_named who) (firsts ∙ sym (ap listed is))

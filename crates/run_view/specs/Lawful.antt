@@ -5,8 +5,9 @@ use Rattle.std.specs.Option.{option_to_list}
 use Rattle.apex_types.specs.declared.cause.Cause.{Cause}
 use Rattle.apex_types.specs.declared.cause.Cause.TheVariants as cause
 use Rattle.apex_types.specs.declared.record.Body.{Body}
-use Rattle.apex_types.specs.declared.record.Body.TheVariants.{Call, Tick}
+use Rattle.apex_types.specs.declared.record.Body.TheVariants.{Arrive, Call, Depart, Tick}
 use Rattle.apex_types.specs.declared.record.Call.{Call as CallRecord}
+use Rattle.apex_types.specs.declared.record.Crossing.{Crossing}
 use Rattle.apex_types.specs.declared.record.Ordered.{Ordered}
 use Rattle.apex_types.specs.declared.record.Who.{Who}
 use Rattle.apex_machine.specs.Answer.{Answer, NamesExactly}
@@ -57,9 +58,16 @@ IsLawfulCall answer call cause.Out shown = shown ≡ lawful.Gets call.who answer
 IsLawfulCall answer call cause.Woken shown = PutsRight answer.woken call.claim.woken shown
 IsLawfulCall answer call cause shown = shown ≡ []
 
--- what a call can claim
+-- what an arrival or a departure that gives this must name
+abbrev pub IsLawfulCrossing : Answer → Crossing → Cause → List Lawful → Type 0
+IsLawfulCrossing answer crossing cause.Woken shown = PutsRight answer.woken crossing.woken shown
+IsLawfulCrossing answer crossing cause shown = shown ≡ []
+
+-- what a call can claim, and what an arrival or a departure must name
 abbrev pub IsLawfulClaim : Answer → Body → Cause → List Lawful → Type 0
 IsLawfulClaim answer (Call call) cause shown = IsLawfulCall answer call cause shown
+IsLawfulClaim answer (Arrive crossing) cause shown = IsLawfulCrossing answer crossing cause shown
+IsLawfulClaim answer (Depart crossing) cause shown = IsLawfulCrossing answer crossing cause shown
 IsLawfulClaim answer body cause shown = shown ≡ []
 
 -- the current priority of the caller of a call

@@ -7,7 +7,7 @@ use Rattle.apex_types.specs.declared.object_kind.ObjectKind.TheVariants as kind
 use Rattle.apex_machine.specs.declared.state.Entry.{Entry}
 use Rattle.apex_machine.specs.Pieces.{Part, ChannelPart, PartitionPart}
 use Rattle.apex_machine.specs.State.{Blackboard, Buffer, Channel, Content, Event, Mutex, Partition, Queued, Sampled, Semaphore, Stamped, item_at}
-use Rattle.channel.specs.Held.{Held, Settings, QueuingSettings, SamplingSettings}
+use Rattle.channel.specs.Held.{Held, Settings, ForQueuing, ForSampling}
 use Rattle.message_queue.specs.Queues.{Queue}
 use Rattle.piece_check.specs.Parts.{Holding}
 use Rattle.run_view.specs.declared.thing.Contents.{Contents}
@@ -102,11 +102,11 @@ ShowsSample last other = ⊥
 -- channel
 abbrev pub ShowsHeld : Content → Settings → List Entry → List Entry → ThingView → Type 0
 ShowsHeld (Sampled last) settings senders receivers view = ShowsSample last view.contents × (view.senders.items ≡ []) × (view.waiters.items ≡ [])
-ShowsHeld (Queued messages) (QueuingSettings capacity sending receiving source destination) senders receivers view =
-    ShowsQueue messages capacity view.contents
-    × (view.senders.items ≡ all_in_turn sending senders)
-    × (view.waiters.items ≡ all_in_turn receiving receivers)
-ShowsHeld (Queued messages) (SamplingSettings refresh) senders receivers view = ⊥
+ShowsHeld (Queued messages) (ForQueuing settings) senders receivers view =
+    ShowsQueue messages settings.capacity view.contents
+    × (view.senders.items ≡ all_in_turn settings.sending senders)
+    × (view.waiters.items ≡ all_in_turn settings.receiving receivers)
+ShowsHeld (Queued messages) (ForSampling settings) senders receivers view = ⊥
 
 -- what is shown of a channel; it has no name
 abbrev pub ShowsChannel : Held → ThingView → Type 0

@@ -11,7 +11,7 @@ use apex_types::{Body, Call, Cause, CoreId, Ordered, Out, Who, Woken};
 use module_config::Config;
 use piece_check::{Evidence, Misnaming, Piece, Seen, misnamed_by};
 use std::alloc::{AllocError, Global};
-use wait_set::Given;
+use wait_set::{Ended, Given};
 
 /// What would have been lawful, or what is unlawful, as far as a picture can show it.
 #[derive(Clone, Copy, Debug, PartialEq, Eq)]
@@ -64,11 +64,13 @@ fn lawful_priority(alloc: Global, body: &Body, current: u8) -> Result<Vec<Lawful
 {
     match body {
         Body::Call(call) => only(alloc, Lawful::HasPriority(call.who, current)),
-        Body::Ret(_) | Body::Disp(_) | Body::Tick(_) => Ok(Vec::new(alloc)),
+        Body::Ret(_) | Body::Disp(_) | Body::Tick(_) | Body::Arrive(_) | Body::Depart(_) => {
+            Ok(Vec::new(alloc))
+        }
     }
 }
 
-// What a call can claim, by what it gives its caller.
+// What a call can claim, by what it gives its caller; of an arrival and a departure whose waits end.
 fn lawful_claim(
     alloc: Global,
     given: &Given<'_>,
@@ -79,6 +81,10 @@ fn lawful_claim(
 {
     match body {
         Body::Call(call) => lawful_call(alloc, given, call, cause),
+        Body::Arrive(crossing) | Body::Depart(crossing) => match cause {
+            Cause::Woken => put_right_by(alloc, given, &crossing.woken),
+            _ => Ok(Vec::new(alloc)),
+        },
         Body::Ret(_) | Body::Disp(_) | Body::Tick(_) => Ok(Vec::new(alloc)),
     }
 }
@@ -94,7 +100,9 @@ fn lawful_names(
 {
     match body {
         Body::Tick(woken) => put_right_at_tick(alloc, piece, core, woken),
-        Body::Call(_) | Body::Ret(_) | Body::Disp(_) => Ok(Vec::new(alloc)),
+        Body::Call(_) | Body::Ret(_) | Body::Disp(_) | Body::Arrive(_) | Body::Depart(_) => {
+            Ok(Vec::new(alloc))
+        }
     }
 }
 
@@ -124,7 +132,7 @@ fn lawful_call(
     }
 }
 
-// Corrects which processes a call names wrongly: first among those whose waits it ends, and then among those that it names.
+// Corrects which processes a record names wrongly: first among those whose waits it ends, and then among those that it names.
 fn put_right_by(alloc: Global, given: &Given<'_>, woken: &Woken) -> Result<Vec<Lawful>, AllocError>
     ensures { IfOk result (λ lawful. PutsRight (answer_given given.now).woken woken.now lawful.items) }
 {
@@ -139,13 +147,18 @@ fn put_right_by(alloc: Global, given: &Given<'_>, woken: &Woken) -> Result<Vec<L
 fn ended_by(alloc: Global, given: &Given<'_>) -> Result<Vec<Who>, AllocError>
     ensures { IfOk result (λ ended. NamesExactly (answer_given given.now).woken ended.items) }
 {
-    match (given.woken_all, given.woken) {
-        (Some(set), _) => {
+    match given.woken {
+        Ended::Nobody => Ok(Vec::new(alloc)),
+        Ended::One(who) => Ok(vec![in alloc; who]?),
+        Ended::All(set) => {
             let waiters = waiters_of(alloc, set)?;
             processes_of(alloc, waiters.as_slice())
         }
-        (None, Some(who)) => Ok(vec![in alloc; who]?),
-        (None, None) => Ok(Vec::new(alloc)),
+        Ended::First(set, count) => {
+            let waiters = waiters_of(alloc, set)?;
+            let first = count.min(waiters.len());
+            processes_of(alloc, &waiters.as_slice()[..first])
+        }
     }
 }
 

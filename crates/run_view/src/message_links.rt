@@ -5,8 +5,8 @@ ghost use Rattle.std.specs.Prelude.{◌≡◌, OnOk, length};
 use crate::thing::{Contents, ThingKey, ThingView, view_of};
 use crate::waiter::Waiter;
 use apex_types::{
-    BlackboardOperation, Body, BufferOperation, Call, Code, ObjectKind, ObjectOperation, Ordered,
-    Out, PartId, Place, QueuingOperation, Request, SamplingOperation, Who,
+    BlackboardOperation, Body, BufferOperation, Call, Code, Crossing, ObjectKind, ObjectOperation,
+    Ordered, Out, PartId, Place, QueuingOperation, Request, SamplingOperation, Who,
 };
 use partition_state::restart_of;
 use piece_check::Piece;
@@ -76,6 +76,14 @@ enum Use {
     Shows,
     Clears,
     Reads,
+    Empties,
+}
+
+// Which way a message passes an end outside.
+#[derive(Clone, Copy, PartialEq, Eq)]
+enum Way {
+    In,
+    Out,
 }
 
 impl MessageLinks {
@@ -91,9 +99,46 @@ impl MessageLinks {
     ///
     /// `AllocError` if memory is refused.
     pub fn follow(&mut self, pieces: &[Piece], ordered: &Ordered) -> Result<Followed, AllocError> {
-        let Body::Call(call) = &ordered.rec.body else {
+        match &ordered.rec.body {
+            Body::Call(call) => self.follow_call(pieces, ordered, call),
+            Body::Arrive(crossing) => self.follow_crossing(pieces, crossing, Way::In),
+            Body::Depart(crossing) => self.follow_crossing(pieces, crossing, Way::Out),
+            Body::Ret(_) | Body::Disp(_) | Body::Tick(_) => Ok(NOTHING),
+        }
+    }
+
+    // Follows a message that passes an end outside: nobody here sent a message that arrives, and nobody here receives one that departs.
+    fn follow_crossing(
+        &mut self,
+        pieces: &[Piece],
+        crossing: &Crossing,
+        way: Way,
+    ) -> Result<Followed, AllocError> {
+        let key = ThingKey::Channel(crossing.chan);
+        let Some(view) = view_of(self.alloc, pieces, &key)? else {
             return Ok(NOTHING);
         };
+        let Some(thing) = self.thing(&key)? else {
+            return Ok(NOTHING);
+        };
+        let followed = match way {
+            Way::In => thing.take_in(&view)?,
+            Way::Out => {
+                thing.take_oldest(crossing.woken.as_slice())?;
+                NOTHING
+            }
+        };
+        thing.agree_with(&view)?;
+        Ok(followed)
+    }
+
+    // Follows a call that is accepted.
+    fn follow_call(
+        &mut self,
+        pieces: &[Piece],
+        ordered: &Ordered,
+        call: &Call,
+    ) -> Result<Followed, AllocError> {
         if restart_of(call).is_some() {
             self.forget(call.who.part);
             return Ok(NOTHING);
@@ -129,6 +174,10 @@ impl MessageLinks {
             (Use::Shows, Out::Answer(Code::NoError)) => thing.show(Some(sent))?,
             (Use::Clears, Out::Answer(Code::NoError)) => thing.show(None)?,
             (Use::Receives, Out::Answer(Code::NoError)) => thing.receive(call)?,
+            (Use::Empties, Out::Answer(Code::NoError)) => {
+                thing.empty(call.claim.woken.as_slice())?;
+                NOTHING
+            }
             (Use::Reads, Out::Answer(Code::NoError)) => thing.read(call),
             _ => NOTHING,
         };
@@ -216,16 +265,45 @@ impl LinkedThing {
 
     // Removes the oldest message. The message of a sender whose wait ends comes after the others.
     fn receive(&mut self, call: &Call) -> Result<Followed, AllocError> {
-        let oldest = known(self.held.pop_front());
-        for who in call.claim.woken.as_slice() {
-            let sent = self.waiting.iter().find(|sent| sent.who == *who).copied();
-            self.held.push_back(sent)?;
-        }
+        let oldest = self.take_oldest(call.claim.woken.as_slice())?;
         Ok(Followed {
             is_sent: false,
             received: received_by(oldest, call, false),
             ended: None,
         })
+    }
+
+    // Takes out the oldest message. Those of senders whose waits end come after the others.
+    fn take_oldest(&mut self, woken: &[Who]) -> Result<Option<Sent>, AllocError> {
+        let oldest = known(self.held.pop_front());
+        for who in woken {
+            let sent = self.waiting.iter().find(|sent| sent.who == *who).copied();
+            self.held.push_back(sent)?;
+        }
+        Ok(oldest)
+    }
+
+    // Takes out all messages. Those of senders whose waits end take their place; of several, it is not known which comes first.
+    fn empty(&mut self, woken: &[Who]) -> Result<(), AllocError> {
+        self.held.clear();
+        if let [who] = woken {
+            let sent = self.waiting.iter().find(|sent| sent.who == *who).copied();
+            self.held.push_back(sent)?;
+        }
+        Ok(())
+    }
+
+    // A message comes from outside: it is the newest of a queue, unless a receiver got it or it was lost, or it replaces the last one.
+    fn take_in(&mut self, view: &ThingView) -> Result<Followed, AllocError> {
+        match &view.contents {
+            Contents::Queue { count, .. } => {
+                if self.held.len() < *count {
+                    self.held.push_back(None)?;
+                }
+                Ok(NOTHING)
+            }
+            _ => self.show(None),
+        }
     }
 
     // Follows what is shown of the object or channel: it keeps only senders that wait, and as many messages as are held.
@@ -320,6 +398,7 @@ fn used_by(call: &Call) -> Option<(ThingKey, Use)> {
             match operation {
                 QueuingOperation::Send { .. } => Use::Sends,
                 QueuingOperation::Receive { .. } => Use::Receives,
+                QueuingOperation::Clear => Use::Empties,
             },
         )),
         _ => None,

@@ -2,7 +2,7 @@
 
 use crate::held::{clock_of, partition_of};
 use crate::pieces::{Pieces, Rejection};
-use crate::reach::touched_by_call;
+use crate::reach::{touched_by_call, touched_by_crossing};
 use crate::things::Thing;
 use apex_machine::{Process, Wait};
 use apex_types::{Body, Cause, CoreId, Ordered, PartId, Who, Woken};
@@ -28,7 +28,7 @@ pub fn blame(
         Subject::Module => Ok(()),
         Subject::Channel(number) => {
             things.push(Thing::Channel(number))?;
-            blame_call(&ordered.rec.body, things)
+            blame_use(&ordered.rec.body, things)
         }
         Subject::Partition(part) => {
             things.push(Thing::Mode(part))?;
@@ -55,7 +55,9 @@ fn blame_in_partition(
             things.push(Thing::from(ret.who))?;
             Ok(())
         }
-        Body::Call(_) => blame_call(&ordered.rec.body, things),
+        Body::Call(_) | Body::Arrive(_) | Body::Depart(_) => {
+            blame_use(&ordered.rec.body, things)
+        }
         Body::Tick(woken) => match partition_of(piece) {
             Some(state) => blame_tick(state.processes(), part, ordered.core, time, woken, things),
             None => Ok(()),
@@ -63,9 +65,10 @@ fn blame_in_partition(
     }
 }
 
-// Adds what a call is about, and its caller.
-fn blame_call(body: &Body, things: &mut Vec<Thing>) -> Result<(), AllocError> {
+// Adds what a call is about, and its caller; of an arrival and a departure what they are about.
+fn blame_use(body: &Body, things: &mut Vec<Thing>) -> Result<(), AllocError> {
     match body {
+        Body::Arrive(crossing) | Body::Depart(crossing) => touched_by_crossing(crossing, things),
         Body::Call(call) => {
             things.push(Thing::from(call.who))?;
             touched_by_call(call, things)
@@ -99,6 +102,7 @@ pub fn expected_by(piece: &Piece, ordered: &Ordered) -> Option<Who> {
         Body::Tick(_) => clock_of(piece)?.on(ordered.core),
         Body::Call(call) => Some(call.who),
         Body::Ret(ret) => Some(ret.who),
+        Body::Arrive(_) | Body::Depart(_) => None,
     }
 }
 
@@ -127,8 +131,11 @@ fn blame_tick(
 // Whether the wait of a process ends at this time of a core.
 fn falls_due(process: &Process, core: CoreId, time: u64) -> bool {
     let due = match process.wait {
-        Wait::Nothing | Wait::NormalMode => None,
-        Wait::FirstRelease(due) | Wait::Until(due) | Wait::PeriodicRelease(due) => Some(due),
+        Wait::Nothing | Wait::NormalMode(_) => None,
+        Wait::FirstRelease(due)
+        | Wait::Delay(due)
+        | Wait::Until(due)
+        | Wait::PeriodicRelease(due) => Some(due),
         Wait::Suspended(due) => due,
         Wait::At(_, due) => due,
     };

@@ -2,9 +2,9 @@
 
 use crate::things::Thing;
 use apex_types::{
-    BlackboardOperation, Body, Call, CallerOperation, Code, CoreId, EventOperation, NewObject,
-    ObjectKind, ObjectOperation, Out, PartId, ProcessOperation, QueuingOperation, Request,
-    SamplingOperation, Who,
+    BlackboardOperation, Body, Call, CallerOperation, Code, CoreId, Crossing, EventOperation,
+    MutexOperation, NewObject, ObjectKind, ObjectOperation, Out, PartId, ProcessOperation,
+    QueuingOperation, Request, SamplingOperation, Who,
 };
 use module_config::{ChannelKind, Config};
 use std::alloc::{AllocError, Global};
@@ -88,6 +88,8 @@ pub fn is_free(reaches: &[Reach], body: &Body) -> bool {
             .as_slice()
             .iter()
             .all(|who| reach_of(reaches, who.part).alone),
+        // Whoever uses the channel can tell.
+        Body::Arrive(_) | Body::Depart(_) => false,
         Body::Call(call) => is_free_call(reach_of(reaches, call.who.part), call),
     }
 }
@@ -103,9 +105,13 @@ fn is_free_call(reach: Reach, call: &Call) -> bool {
         Request::SamplingPort(_, SamplingOperation::Read) => reach.one_core,
         Request::SamplingPort(_, SamplingOperation::Write { .. }) => false,
         Request::QueuingPort(_, _) => false,
-        Request::GetId(_, _) | Request::GetStatus(_, _) => true,
-        Request::Caller(CallerOperation::GetMyId) | Request::Caller(CallerOperation::GetTime) =>
-            true,
+        Request::GetId(_, _) | Request::GetStatus(_, _) | Request::ReportMessage { .. } => true,
+        Request::Process(_, ProcessOperation::GetStatus | ProcessOperation::GetMutexState) => true,
+        Request::Caller(
+            CallerOperation::GetMyId
+            | CallerOperation::GetTime
+            | CallerOperation::GetPartitionStatus,
+        ) => true,
         Request::Caller(CallerOperation::TimedWait { .. })
         | Request::Caller(CallerOperation::PeriodicWait) => {
             reach.alone || call.claim.out == Out::Waits
@@ -130,7 +136,17 @@ pub fn touched(body: &Body, into: &mut Vec<Thing>) -> Result<(), AllocError> {
             Ok(())
         }
         Body::Call(call) => touched_by_call(call, into),
+        Body::Arrive(crossing) | Body::Depart(crossing) => touched_by_crossing(crossing, into),
     }
+}
+
+/// Adds what an arrival or a departure is about.
+pub fn touched_by_crossing(crossing: &Crossing, into: &mut Vec<Thing>) -> Result<(), AllocError> {
+    into.push(Thing::Channel(crossing.chan))?;
+    for who in crossing.woken.as_slice() {
+        into.push(Thing::from(*who))?;
+    }
+    Ok(())
 }
 
 /// Adds what a call is about.
@@ -146,6 +162,16 @@ pub fn touched_by_call(call: &Call, into: &mut Vec<Thing>) -> Result<(), AllocEr
     }
     if let Some(thing) = requested(call) {
         into.push(thing)?;
+    }
+    if let Request::Object(
+        _,
+        ObjectOperation::Mutex(MutexOperation::Reset { process }),
+    ) = &call.request
+    {
+        into.push(Thing::Process {
+            partition: call.who.part,
+            number: *process,
+        })?;
     }
     Ok(())
 }
@@ -167,8 +193,10 @@ fn requested(call: &Call) -> Option<Thing> {
                 number: *number,
             });
         }
-        Request::SetPartitionMode(_) => return Some(Thing::Mode(partition)),
-        Request::Caller(_) | Request::GetId(_, _) => return None,
+        Request::Caller(CallerOperation::GetPartitionStatus)
+        | Request::SetPartitionMode(_)
+        | Request::CreateErrorHandler => return Some(Thing::Mode(partition)),
+        Request::Caller(_) | Request::GetId(_, _) | Request::ReportMessage { .. } => return None,
         Request::Create(_, object) => (object.kind(), made),
         Request::Object(number, operation) => (operation.kind(), *number),
         Request::SamplingPort(number, _) => (ObjectKind::SamplingPort, *number),

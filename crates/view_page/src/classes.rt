@@ -95,7 +95,7 @@ pub(crate) fn class_of_point(kind: MarkKind) -> &'static str
     match kind {
         MarkKind::Tick => "tick",
         MarkKind::Dispatch => "dispatch",
-        MarkKind::Call => "call",
+        MarkKind::Call | MarkKind::Crossing => "call",
         MarkKind::Return => "return",
         MarkKind::Restart => "restart",
         MarkKind::Rejected | MarkKind::Unlawful => "unlawful",
@@ -115,6 +115,7 @@ pub(crate) fn classes_of_box(kind: MarkKind) -> &'static str
         | MarkKind::Dispatch
         | MarkKind::Call
         | MarkKind::Return
+        | MarkKind::Crossing
         | MarkKind::Restart => "mark unlawful",
     }
 }
@@ -131,6 +132,7 @@ pub(crate) fn sign_of_box(kind: MarkKind) -> &'static str
         | MarkKind::Dispatch
         | MarkKind::Call
         | MarkKind::Return
+        | MarkKind::Crossing
         | MarkKind::Restart => "✗ ",
     }
 }

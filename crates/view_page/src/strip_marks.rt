@@ -122,6 +122,7 @@ fn tell_point(
         }
         MarkKind::Call
         | MarkKind::Return
+        | MarkKind::Crossing
         | MarkKind::Rejected
         | MarkKind::Lawful
         | MarkKind::Unlawful => {

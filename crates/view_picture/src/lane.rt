@@ -11,6 +11,8 @@ pub enum MarkKind {
     Dispatch,
     Call,
     Return,
+    /// A message arrives from outside, or departs to it.
+    Crossing,
     /// The partition restarts.
     Restart,
     /// What the rejected record says.
@@ -30,6 +32,7 @@ impl MarkKind {
             | MarkKind::Dispatch
             | MarkKind::Call
             | MarkKind::Return
+            | MarkKind::Crossing
             | MarkKind::Restart => false,
         }
     }

@@ -6,13 +6,13 @@ use crate::picture::Picture;
 use apex_machine::Mode;
 use apex_types::{Body, Ordered, PartId};
 use partition_state::restart_of;
-use run_view::{Lawful, Sent};
+use run_view::{Lawful, Sent, ThingKey};
 use std::alloc::AllocError;
 use view_words::{LaneKey, ShortOccupant, mode_saying, words_of};
 use wording::out_name;
 
 impl Picture {
-    // Marks what a record does, in the lane of the core and of the process that makes it.
+    // Marks what a record does, in the lane of the core or the process that makes it; an arrival and a departure in the lane of their channel.
     pub(crate) fn mark_record(
         &mut self,
         column: usize,
@@ -33,6 +33,9 @@ impl Picture {
             }
             Body::Ret(ret) => {
                 self.add_mark(LaneKey::Process(ret.who), column, MarkKind::Return, words)
+            }
+            Body::Arrive(_) | Body::Depart(_) => {
+                self.add_mark(actor_of(ordered), column, MarkKind::Crossing, words)
             }
             Body::Call(call) => {
                 self.add_mark(LaneKey::Process(call.who), column, MarkKind::Call, words)?;
@@ -72,6 +75,7 @@ impl Picture {
         let woken = match &ordered.rec.body {
             Body::Call(call) => call.claim.woken.as_slice(),
             Body::Tick(woken) => woken.as_slice(),
+            Body::Arrive(crossing) | Body::Depart(crossing) => crossing.woken.as_slice(),
             Body::Ret(_) | Body::Disp(_) => &[],
         };
         let place = ordered.pos.number();
@@ -158,11 +162,14 @@ impl Picture {
     }
 }
 
-// The lane of the process or the core that makes a record.
+// The lane of the process or the core that makes a record; of an arrival and a departure, that of their channel.
 pub(crate) fn actor_of(ordered: &Ordered) -> LaneKey {
     match &ordered.rec.body {
         Body::Call(call) => LaneKey::Process(call.who),
         Body::Ret(ret) => LaneKey::Process(ret.who),
+        Body::Arrive(crossing) | Body::Depart(crossing) => {
+            LaneKey::Thing(ThingKey::Channel(crossing.chan))
+        }
         Body::Disp(_) | Body::Tick(_) => LaneKey::Core(ordered.core),
     }
 }

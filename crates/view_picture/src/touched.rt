@@ -1,6 +1,6 @@
 // What a record touches, by the record itself and by what is on its core. No rule of the machine is asked.
 
-use apex_types::{Body, Call, Ordered, Request, Who};
+use apex_types::{Body, Call, MutexOperation, NamedKind, ObjectOperation, Ordered, Request, Who};
 use run_view::{CoreView, ThingKey};
 use view_words::LaneKey;
 
@@ -12,6 +12,9 @@ pub(crate) fn names(ordered: &Ordered, key: &LaneKey) -> bool {
         LaneKey::Process(who) => names_process(&ordered.rec.body, who),
         LaneKey::Thing(key) => match &ordered.rec.body {
             Body::Call(call) => names_thing(call, key),
+            Body::Arrive(crossing) | Body::Depart(crossing) => {
+                *key == ThingKey::Channel(crossing.chan)
+            }
             Body::Ret(_) | Body::Disp(_) | Body::Tick(_) => false,
         },
     }
@@ -33,6 +36,9 @@ fn names_process(body: &Body, who: &Who) -> bool {
     match body {
         Body::Disp(occupant) => *occupant == Some(*who),
         Body::Tick(woken) => woken.as_slice().iter().any(|named| *named == *who),
+        Body::Arrive(crossing) | Body::Depart(crossing) => {
+            crossing.woken.as_slice().iter().any(|named| *named == *who)
+        }
         Body::Ret(ret) => ret.who == *who,
         Body::Call(call) => {
             call.who == *who
@@ -48,11 +54,14 @@ fn names_process(body: &Body, who: &Who) -> bool {
     }
 }
 
-// The number of the process that a call names or creates.
+// The number of the process that a call names, creates or looks up.
 fn process_of(call: &Call) -> Option<i64> {
     match &call.request {
         Request::Process(number, _) => Some(*number),
-        Request::CreateProcess { .. } => call.claim.val,
+        Request::CreateProcess { .. } | Request::GetId(NamedKind::Process, _) => call.claim.val,
+        Request::Object(_, ObjectOperation::Mutex(MutexOperation::Reset { process })) => Some(
+            *process,
+        ),
         Request::Caller(_)
         | Request::SetPartitionMode(_)
         | Request::Create(..)
@@ -60,7 +69,9 @@ fn process_of(call: &Call) -> Option<i64> {
         | Request::SamplingPort(..)
         | Request::QueuingPort(..)
         | Request::GetId(..)
-        | Request::GetStatus(..) => None,
+        | Request::GetStatus(..)
+        | Request::ReportMessage { .. }
+        | Request::CreateErrorHandler => None,
     }
 }
 
@@ -73,7 +84,7 @@ fn names_thing(call: &Call, key: &ThingKey) -> bool {
                 Request::Object(number, operation) if operation.kind() == *kind => Some(*number),
                 Request::GetStatus(one, number) if *one == *kind => Some(*number),
                 Request::Create(_, object) if object.kind() == *kind => call.claim.val,
-                Request::GetId(one, _) if *one == *kind => call.claim.val,
+                Request::GetId(NamedKind::Object(one), _) if *one == *kind => call.claim.val,
                 _ => None,
             };
             call.who.part == *part && named == Some(i64::from(*number))

@@ -25,7 +25,8 @@ impl fmt::Display for Waits {
     fn fmt<W: fmt::Write>(&self, f: &mut fmt::Formatter<W>) -> fmt::Result {
         match self.0 {
             Wait::Nothing => write!(f, "ready"),
-            Wait::NormalMode => write!(f, "waits for NORMAL"),
+            Wait::NormalMode(_) => write!(f, "waits for NORMAL"),
+            Wait::Delay(_) => write!(f, "waits for its delay"),
             Wait::FirstRelease(_) => write!(f, "waits for its first release"),
             Wait::Until(_) => write!(f, "waits in TIMED_WAIT"),
             Wait::PeriodicRelease(_) => write!(f, "waits for its release"),
@@ -42,8 +43,11 @@ pub fn due_text(alloc: Global, view: &ProcessView) -> Result<String, AllocError>
         ProcessState::Dormant | ProcessState::Ready => Wait::Nothing,
     };
     let due = match wait {
-        Wait::Nothing | Wait::NormalMode => None,
-        Wait::FirstRelease(time) | Wait::Until(time) | Wait::PeriodicRelease(time) => Some(time),
+        Wait::Nothing | Wait::NormalMode(_) => None,
+        Wait::FirstRelease(time)
+        | Wait::Delay(time)
+        | Wait::Until(time)
+        | Wait::PeriodicRelease(time) => Some(time),
         Wait::Suspended(due) | Wait::At(_, due) => due,
     };
     match due {

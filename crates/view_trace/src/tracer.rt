@@ -11,11 +11,12 @@ use crate::fault::TraceFault;
 use crate::known::{TracedProcess, close_process, renew_core, renew_process};
 use crate::said::{counter_name, due_text, held_number, mode_name, state_name};
 use crate::tracks::{
-    CHANNELS, CORES, actor_of, core_track, mode_track, process_of, process_track, woken_by,
+    CHANNELS, CORES, actor_of, channel_track, core_track, mode_track, process_of, process_track,
+    woken_by,
 };
 use apex_machine::Mode;
 use apex_types::{Body, CoreId, Ordered, PartId, Who};
-use piece_check::{Piece, Seen, Subject};
+use piece_check::{Piece, Seen};
 use run_view::{Change, CoreView, Followed, ProcessState, ProcessView, ThingKey, view_of};
 use sink::Sink;
 use std::alloc::{AllocError, Global};
@@ -77,30 +78,37 @@ impl<'a, W: Sink> Tracer<'a, W> {
         self.events.add_mark(&Event::process_name(CORES, "cores"))?;
         self.events
             .add_mark(&Event::process_name(CHANNELS, "channels"))?;
-        self.name_partitions(pieces)
+        self.name_pieces(pieces)
     }
 
-    fn name_partitions(&mut self, pieces: &[Piece]) -> Result<(), TraceFault>
+    fn name_pieces(&mut self, pieces: &[Piece]) -> Result<(), TraceFault>
         ensures { OnOk result (AddsOthers (traced W.bytes self.old) (traced W.bytes self.new)) }
     {
         for piece in pieces {
-            self.name_partition(piece)?;
+            self.name_piece(piece)?;
         }
         Ok(())
     }
 
-    // Names the process of a partition, if the piece is one.
+    // Names the process of a partition, if the piece is one, and the track of a channel that has an end outside.
     #[tactic(auto, using(crate::proofs::Traces::others_none))]
-    fn name_partition(&mut self, piece: &Piece) -> Result<(), TraceFault>
+    fn name_piece(&mut self, piece: &Piece) -> Result<(), TraceFault>
         ensures { OnOk result (AddsOthers (traced W.bytes self.old) (traced W.bytes self.new)) }
     {
-        match piece.subject() {
-            Subject::Partition(part) => {
-                let name = format!(in self.alloc; "partition {}", part.number())?;
+        match piece.seen() {
+            Seen::Partition { number, .. } => {
+                let name = format!(in self.alloc; "partition {}", number.number())?;
                 self.events
-                    .add_mark(&Event::process_name(process_of(part), name.as_str()))
+                    .add_mark(&Event::process_name(process_of(number), name.as_str()))
             }
-            _ => Ok(()),
+            Seen::Channel { channel, .. } if channel.is_from_outside() || channel.is_to_outside() =>
+                {
+                    let number = channel.number();
+                    let name = format!(in self.alloc; "channel {}", number.number())?;
+                    self.events
+                        .add_mark(&Event::thread_name(channel_track(number), name.as_str()))
+                }
+            Seen::Module { .. } | Seen::Channel { .. } => Ok(()),
         }
     }
 
@@ -152,6 +160,12 @@ impl<'a, W: Sink> Tracer<'a, W> {
                 format!(in self.alloc; "{}", Ascii(call.request.service().name()))?
             }
             Body::Ret(ret) => format!(in self.alloc; "return {}", Ascii(ret.service.name()))?,
+            Body::Arrive(crossing) => {
+                format!(in self.alloc; "arrive at channel {}", crossing.chan.number())?
+            }
+            Body::Depart(crossing) => {
+                format!(in self.alloc; "depart from channel {}", crossing.chan.number())?
+            }
             Body::Disp(_) => String::from_str(self.alloc, "dispatch")?,
             Body::Tick(_) => String::from_str(self.alloc, "tick")?,
         };

@@ -1,7 +1,7 @@
 // Where the events of a trace are.
 
 use crate::event::Track;
-use apex_types::{Body, CoreId, Ordered, PartId, Who};
+use apex_types::{Body, ChanId, CoreId, Ordered, PartId, Who};
 
 /// The processes of the trace: one for the cores, one for the channels, and one for each partition from a number on.
 pub const CORES: u64 = 1;
@@ -20,15 +20,17 @@ pub fn woken_by(ordered: &Ordered) -> &[Who] {
     match &ordered.rec.body {
         Body::Call(call) => call.claim.woken.as_slice(),
         Body::Tick(woken) => woken.as_slice(),
+        Body::Arrive(crossing) | Body::Depart(crossing) => crossing.woken.as_slice(),
         Body::Ret(_) | Body::Disp(_) => &[],
     }
 }
 
-// The track of the process or the core that makes a record.
+// The track of the process or the core that makes a record; of an arrival and a departure, that of their channel.
 pub fn actor_of(ordered: &Ordered) -> Track {
     match &ordered.rec.body {
         Body::Call(call) => process_track(call.who),
         Body::Ret(ret) => process_track(ret.who),
+        Body::Arrive(crossing) | Body::Depart(crossing) => channel_track(crossing.chan),
         Body::Disp(_) | Body::Tick(_) => core_track(ordered.core),
     }
 }
@@ -37,6 +39,13 @@ pub fn core_track(core: CoreId) -> Track {
     Track {
         process: CORES,
         thread: u64::from(core.number()) + 1,
+    }
+}
+
+pub fn channel_track(channel: ChanId) -> Track {
+    Track {
+        process: CHANNELS,
+        thread: u64::from(channel.number()) + 1,
     }
 }
 

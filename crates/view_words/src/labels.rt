@@ -65,6 +65,12 @@ pub fn label_of(alloc: Global, ordered: &Ordered, time: Option<u64>) -> Result<S
             Some(time) => format!(in alloc; "tick, time {time}"),
             None => String::from_str(alloc, "tick"),
         },
+        Body::Arrive(crossing) => {
+            format!(in alloc; "arrive at channel {}", crossing.chan.number())
+        }
+        Body::Depart(crossing) => {
+            format!(in alloc; "depart from channel {}", crossing.chan.number())
+        }
         Body::Disp(Some(who)) => format!(in alloc; "dispatch {}", Short(*who)),
         Body::Disp(None) => String::from_str(alloc, "dispatch nobody"),
         Body::Ret(ret) if ret.code == Code::NoError => {

@@ -124,7 +124,8 @@ impl fmt::Display for Waits {
     fn fmt<W: fmt::Write>(&self, f: &mut fmt::Formatter<W>) -> fmt::Result {
         match self.0 {
             Wait::Nothing => write!(f, "waits for nothing"),
-            Wait::NormalMode => write!(f, "waits for NORMAL"),
+            Wait::NormalMode(_) => write!(f, "waits for NORMAL"),
+            Wait::Delay(time) => write!(f, "waits for its delay until time {time}"),
             Wait::FirstRelease(time) => write!(f, "waits for its release at time {time}"),
             Wait::Until(time) => write!(f, "waits until time {time}"),
             Wait::PeriodicRelease(time) => write!(f, "waits for its release at time {time}"),

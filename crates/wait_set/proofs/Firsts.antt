@@ -166,6 +166,14 @@ first_at discipline rank (entry ∷ entries) rising has none =
         ∙ subst (λ (own : Rank). rank_precedes own (rank_of discipline entry) ≡ true) at.same (rank_total rank (rank_of discipline entry) none.0 elsewhere) in
         rw before refl
 
+-- the first of a set has the rank that no rank of the set precedes
+pub first_ranked : (discipline : Discipline) (rank : Rank) (entries : List Entry) → PlacesRise entries → has_rank discipline rank entries ≡ true
+    → ((other : Rank) → has_rank discipline other entries ≡ true → rank_precedes other rank ≡ false)
+    → (first : Entry) × (first_waiter discipline entries ≡ Some first) × (rank ≡ rank_of discipline first)
+first_ranked discipline rank entries rising has least =
+    let at : RankedAt discipline rank entries = ranked_at discipline rank entries rising has in
+    (at.entry, sym (first_at discipline rank entries rising has (none_before discipline rank entries least)) ∙ at.found, at.same)
+
 -- what is found at the place of the least rank that is kept is the first of the set
 pub first_of_least : (discipline : Discipline) (stored : List (ℕ × Entry)) (places : List (Who × ℕ)) (ranks : List Rank) (rank : Rank)
     → IsKept discipline stored places ranks → list_any (is_at (rank_order.cmp-value.it rank)) ranks ≡ true

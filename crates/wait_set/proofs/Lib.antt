@@ -12,3 +12,4 @@ pub mod WaiterLists
 pub mod Last
 pub mod Failing
 pub mod Calls
+pub mod FirstRanks

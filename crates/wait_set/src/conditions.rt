@@ -24,12 +24,12 @@ impl Model for Conditions {
 
     ghost view = { λ held. take held.count held.conditions };
 
-    ghost invariant = { λ held. held.count ≤ 6 };
+    ghost invariant = { λ held. held.count ≤ 8 };
 }
 
 impl Conditions {
     /// The most error conditions that a service has.
-    pub const LIMIT: usize = 6;
+    pub const LIMIT: usize = 8;
 
     /// No condition.
     pub fn none() -> Conditions

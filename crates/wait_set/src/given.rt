@@ -4,14 +4,18 @@ ghost use Rattle.std.specs.Prelude.{◌≡◌, ◌↔◌, [], None, pos, option_
 ghost use Rattle.std.specs.Option.{option_to_list};
 ghost use Rattle.apex_types.specs.declared.record.Out.TheVariants as out;
 ghost use Rattle.apex_machine.specs.Answer as answer;
-ghost use Rattle.apex_machine.specs.Answer.{HasNoValues, HasValue, HasValues, NamesExactly, Nothing, Number, Value};
+ghost use Rattle.apex_machine.specs.Answer.{HasNoValues, HasValue, HasValues, Nothing, Number, Value};
 ghost use Rattle.apex_machine.specs.Demands.{Judges, answer_demands};
-ghost use Rattle.apex_machine.specs.Statuses.{telling};
-ghost use Rattle.apex_machine.specs.Waiting.{is_waiting};
+ghost use Rattle.apex_machine.specs.Statuses.{reporting, telling};
+ghost use Rattle.apex_machine.specs.Waiting.{first_waiters, is_waiting};
+ghost use Rattle.wait_set.specs.declared.ended.Ended.TheVariants.{Nobody};
 ghost use Rattle.wait_set.specs.Actors.{WaitsAlone, value_of};
+ghost use Rattle.wait_set.specs.GivenNumbers.{value_given};
 
+use crate::ended::Ended;
 use crate::named::names_only;
 use crate::set::WaitSet;
+use crate::value::GivenValue;
 use apex_machine::Status;
 use apex_types::{Cause, Claim, Code, Out, Who};
 
@@ -19,20 +23,17 @@ use apex_types::{Cause, Claim, Code, Out, Who};
 #[derive(Clone, Copy)]
 pub struct Given<'a> {
     pub out: Out,
-    pub val: Option<u64>,
-    pub val2: Option<u64>,
-    pub val3: Option<u64>,
+    pub val: Option<GivenValue>,
+    pub val2: Option<GivenValue>,
+    pub val3: Option<GivenValue>,
     pub bytes: &'a [u8],
-    /// The process whose wait ends, if there is one.
-    pub woken: Option<Who>,
-    /// The set in which all waits end, if the operation ends them.
-    pub woken_all: Option<&'a WaitSet>,
+    pub woken: Ended<'a>,
     /// A caller that waits ends no wait.
-    pub ghost alone: { IsTrue (is_waiting out) → (woken ≡ None) × (woken_all ≡ None) },
+    pub ghost alone: { IsTrue (is_waiting out) → woken ≡ Nobody },
 }
 
 impl<'a> Given<'a> {
-    ghost use Rattle.wait_set.specs.Givens.{answer_given, listed};
+    ghost use Rattle.wait_set.specs.Givens.{answer_given};
 
     // This outcome without a value or a message; no process's wait ends.
     fn leaving(out: Out) -> Given<'a>
@@ -44,8 +45,7 @@ impl<'a> Given<'a> {
             val2: None,
             val3: None,
             bytes: &[],
-            woken: None,
-            woken_all: None,
+            woken: Ended::Nobody,
         }
     }
 
@@ -107,8 +107,21 @@ impl<'a> Given<'a> {
             val2: None,
             val3: None,
             bytes: &[],
-            woken: None,
-            woken_all: Some(set),
+            woken: Ended::All(set),
+        }
+    }
+
+    /// The operation is done at once, and the waits of the first in a set end, as many as this number or all.
+    pub fn waking_first(set: &'a WaitSet, count: usize) -> Given<'a>
+        ensures { answer_given result ≡ answer.waking (answer.waiters_of (first_waiters set.now.discipline count set.now.entries)) }
+    {
+        Given {
+            out: Out::Answer(Code::NoError),
+            val: None,
+            val2: None,
+            val3: None,
+            bytes: &[],
+            woken: Ended::First(set, count),
         }
     }
 
@@ -122,8 +135,7 @@ impl<'a> Given<'a> {
             val2: None,
             val3: None,
             bytes,
-            woken,
-            woken_all: None,
+            woken: Ended::at_most_one(woken),
         }
     }
 
@@ -147,12 +159,25 @@ impl<'a> Given<'a> {
         };
         Given {
             out: Out::Answer(Code::NoError),
-            val: Some(status.val),
-            val2: status.val2,
-            val3: status.val3,
+            val: Some(GivenValue::Natural(status.val)),
+            val2: status.val2.map(GivenValue::Natural),
+            val3: status.val3.map(GivenValue::Natural),
             bytes: &[],
-            woken: None,
-            woken_all: None,
+            woken: Ended::Nobody,
+        }
+    }
+
+    /// The service reports these values at once.
+    pub fn values(val: GivenValue, val2: Option<GivenValue>, val3: Option<GivenValue>) -> Given<'a>
+        ensures { answer_given result ≡ reporting (value_given val) (option_map value_given val2) (option_map value_given val3) }
+    {
+        Given {
+            out: Out::Answer(Code::NoError),
+            val: Some(val),
+            val2,
+            val3,
+            bytes: &[],
+            woken: Ended::Nobody,
         }
     }
 
@@ -162,12 +187,11 @@ impl<'a> Given<'a> {
     {
         Given {
             out: Out::Answer(code),
-            val: Some(val),
+            val: Some(GivenValue::Natural(val)),
             val2: None,
             val3: None,
             bytes: message,
-            woken: None,
-            woken_all: None,
+            woken: Ended::Nobody,
         }
     }
 
@@ -187,7 +211,7 @@ impl<'a> Given<'a> {
         if claim.bytes.as_bytes() != self.bytes {
             return Err(Cause::Data);
         }
-        if !self.is_named_by(claim) {
+        if !self.woken.is_exactly(&claim.woken) {
             return Err(Cause::Woken);
         }
         Ok(())
@@ -195,30 +219,20 @@ impl<'a> Given<'a> {
 
     // Whether a claim has exactly these values.
     fn has_values(&self, claim: &Claim) -> bool
-        ensures { IsTrue result ↔ HasValues (value_of (option_map pos self.now.val)) (option_map pos self.now.val2) (option_map pos self.now.val3) claim.now }
+        ensures { IsTrue result ↔ HasValues (value_of (option_map value_given self.now.val)) (option_map value_given self.now.val2) (option_map value_given self.now.val3) claim.now }
     {
-        is_number(self.val, claim.val)
-            && is_number(self.val2, claim.val2)
-            && is_number(self.val3, claim.val3)
-    }
-
-    // Whether a claim names exactly the processes whose waits end.
-    fn is_named_by(&self, claim: &Claim) -> bool
-        ensures { IsTrue result ↔ NamesExactly (listed self.now.woken self.now.woken_all) claim.now.woken }
-    {
-        match self.woken_all {
-            Some(set) => names_all(set, claim),
-            None => names_only(self.woken, claim.woken.as_slice()),
-        }
+        is_value(self.val, claim.val)
+            && is_value(self.val2, claim.val2)
+            && is_value(self.val3, claim.val3)
     }
 }
 
-// Whether a claimed value is this number; if there is none, whether no value is claimed.
-fn is_number(number: Option<u64>, claimed: Option<i64>) -> bool
-    ensures { IsTrue result ↔ (claimed ≡ option_map pos number) }
+// Whether a claimed value is this one; if there is none, whether no value is claimed.
+fn is_value(value: Option<GivenValue>, claimed: Option<i64>) -> bool
+    ensures { IsTrue result ↔ (claimed ≡ option_map value_given value) }
 {
-    match number {
-        Some(number) => claimed.is_some_and(|value| value >= 0 && value as u64 == number),
+    match value {
+        Some(value) => value.is_claimed(claimed),
         None => claimed.is_none(),
     }
 }
@@ -264,11 +278,4 @@ pub fn has_no_values(claim: &Claim) -> bool
     ensures { IsTrue result ↔ HasNoValues claim.now }
 {
     claim.val.is_none() && claim.val2.is_none() && claim.val3.is_none()
-}
-
-// Whether a claim names exactly the processes that wait in a set.
-fn names_all(set: &WaitSet, claim: &Claim) -> bool
-    ensures { IsTrue result ↔ NamesExactly (answer.waiters_of set.now.entries) claim.now.woken }
-{
-    set.is_exactly(claim.woken.as_slice())
 }

@@ -13,23 +13,27 @@
 //!   only ACQUIRE_MUTEX requires something.
 //! - An accepted operation gives an `Effect`: whether its caller waits, and who owns the object before and after (`Owners`). The ghost
 //!   member `owners` fixes these owners; only a mutex has an owner.
-//! - `Given` is what an operation gives its caller: the outcome, up to three values, the message, and whose waits end (one process's, or
-//!   those of all in a set). It judges a claim, and the explanation prints it. Services of processes and services that report a status have
+//! - `Given` is what an operation gives its caller: the outcome, up to three values, the message, and whose waits end (`Ended`: one
+//!   process's, or those of all or of the first in a set). It judges a claim, and the explanation prints it. Services of processes and services that report a status have
 //!   one too. `judge_value` judges the claim of a creation, which may give any new number; `judge_outcome` judges a claim that must give
 //!   nothing beside its outcome.
 //! - `Conditions` serves ports, pieces and the explanation.
 #![tactic(auto)]
 
 mod conditions;
+mod ended;
 mod given;
 mod laws;
 mod named;
 mod object;
 mod rank;
 mod set;
+mod value;
 
 pub use conditions::Conditions;
+pub use ended::Ended;
 pub use given::{Given, has_no_values, judge_outcome, judge_value};
 pub use laws::{enters_last, rising_is_list_of_waiters};
 pub use object::{Actor, ApexObject, Effect, Named, ObjFault, Owners};
 pub use set::{Refused, WaitSet};
+pub use value::GivenValue;

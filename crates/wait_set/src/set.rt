@@ -1,12 +1,14 @@
 // A waiting set.
 
-ghost use Rattle.std.specs.Prelude.{◌≡◌, ◌↔◌, ◌<◌, ◌^◌, [], None, Some, length, IfErr, IfOk, IfSome, IsTrue, OnErr, OnOk};
+ghost use Rattle.std.specs.Prelude.{◌≡◌, ◌↔◌, ◌<◌, ◌^◌, [], None, Some, length, option_map, IfErr, IfOk, IfSome, IsTrue, OnErr, OnOk};
 ghost use Rattle.std.specs.List.{list_all};
 ghost use Rattle.std.specs.Option.{option_copied};
 ghost use Rattle.apex_machine.specs.Answer.{NamesExactly, waiters_of};
 ghost use Rattle.apex_machine.specs.Demands.{has_entry_in};
-ghost use Rattle.apex_machine.specs.Waiting.{first_waiter, is_waiting};
+ghost use Rattle.apex_machine.specs.Waiting.{first_waiter, first_waiters, is_waiting};
 ghost use Rattle.wait_set.specs.Actors.{WaitsAlone, entry_with, joined_by};
+ghost use Rattle.apex_machine.specs.State.{is_named};
+ghost use Rattle.wait_set.specs.Ranks.{rank_of};
 ghost use Rattle.wait_set.specs.Sets as sets;
 ghost use Rattle.wait_set.specs.Sets.{IsNew, IsListOfWaiters, NobodyTwice, PlacesRise, entered, waiter_of, without_first, without_named, without_one, without_part};
 
@@ -191,6 +193,35 @@ impl WaitSet {
             return false;
         }
         names_nobody_twice(named) && self.all_have_entries(named)
+    }
+
+    /// Whether a list names exactly the first processes that wait here, as many as this number or all, each once. Takes no memory.
+    pub fn is_first(&self, count: usize, named: &[Who]) -> bool
+        ensures { IsTrue result ↔ IsListOfWaiters (first_waiters self.now.discipline count self.now.entries) named.now }
+    {
+        if named.len() != count.min(self.entries.len()) {
+            return false;
+        }
+        names_nobody_twice(named) && named.iter().all(|who| self.has_among_first(*who, count))
+    }
+
+    /// Whether a process is among the first that wait here, as many as this number or all. Takes no memory.
+    pub fn has_among_first(&self, who: Who, count: usize) -> bool
+        ensures { result ≡ is_named who (waiters_of (first_waiters self.now.discipline count self.now.entries)) }
+    {
+        let Some(rank) = self.rank_of(who) else {
+            return false;
+        };
+        self.ranks.iter().take(count).any(|other| *other == rank)
+    }
+
+    // The rank of a process, if it waits here.
+    fn rank_of(&self, who: Who) -> Option<Rank>
+        ensures { result ≡ option_map (rank_of self.now.discipline) (sets.entry_of who self.now.entries) }
+    {
+        let place = self.places.get(&who)?;
+        let entry = self.entries.get(place)?;
+        Some(Rank::new(self.discipline, entry))
     }
 
     // Whether all processes that a list names wait here.

@@ -16,10 +16,11 @@ pub fn tell_request(words: &mut Words, request: &Request) {
             name,
             priority,
             period,
-        } => words.say(format_args!(
-            " for \"{}\" with priority {priority} and period {period}",
-            Ascii(name.as_bytes())
-        )),
+            time_capacity,
+        } => {
+            words.say(format_args!(" for \"{}\"", Ascii(name.as_bytes())));
+            tell_scheduling(words, *priority, *period, *time_capacity);
+        }
         Request::Process(process, operation) => {
             words.say(format_args!(" for process {process}"));
             tell_process(words, operation);
@@ -39,6 +40,22 @@ pub fn tell_request(words: &mut Words, request: &Request) {
         Request::GetStatus(kind, object) => {
             words.say(format_args!(" for {} {object}", kind_name(*kind)));
         }
+        Request::ReportMessage { length, message } => words.say(format_args!(
+            " with {} and length {length}",
+            Bytes(message.as_bytes())
+        )),
+        Request::CreateErrorHandler => {}
+    }
+}
+
+// Reports how a new process is to be scheduled. A time capacity of -1 means that it has no deadlines.
+fn tell_scheduling(words: &mut Words, priority: i64, period: i64, time_capacity: i64) {
+    if time_capacity == -1 {
+        words.say(format_args!(" with priority {priority} and period {period}"));
+    } else {
+        words.say(format_args!(
+            " with priority {priority}, period {period} and time capacity {time_capacity}"
+        ));
     }
 }
 
@@ -62,10 +79,13 @@ fn tell_process(words: &mut Words, operation: &ProcessOperation) {
         ProcessOperation::SetPriority { priority } => words.say(format_args!(
             " with priority {priority}"
         )),
+        ProcessOperation::DelayedStart { delay } => words.say(format_args!(" with delay {delay}")),
         ProcessOperation::Start
         | ProcessOperation::Stop
         | ProcessOperation::Suspend
-        | ProcessOperation::Resume => {}
+        | ProcessOperation::Resume
+        | ProcessOperation::GetStatus
+        | ProcessOperation::GetMutexState => {}
     }
 }
 
@@ -79,7 +99,8 @@ fn tell_caller(words: &mut Words, operation: &CallerOperation) {
         CallerOperation::StopSelf
         | CallerOperation::GetMyId
         | CallerOperation::PeriodicWait
-        | CallerOperation::GetTime => {}
+        | CallerOperation::GetTime
+        | CallerOperation::GetPartitionStatus => {}
     }
 }
 
@@ -181,6 +202,9 @@ fn tell_mutex(words: &mut Words, mutex: i64, operation: &MutexOperation) {
             words.say(format_args!(" for mutex {mutex} with time-out {time_out}"));
         }
         MutexOperation::Release => words.say(format_args!(" for mutex {mutex}")),
+        MutexOperation::Reset { process } => {
+            words.say(format_args!(" for mutex {mutex} and process {process}"));
+        }
     }
 }
 
@@ -207,5 +231,6 @@ fn tell_queuing(words: &mut Words, port: i64, operation: &QueuingOperation) {
         QueuingOperation::Receive { time_out } => {
             words.say(format_args!(" at queuing port {port} with time-out {time_out}"));
         }
+        QueuingOperation::Clear => words.say(format_args!(" at queuing port {port}")),
     }
 }

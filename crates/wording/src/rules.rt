@@ -83,7 +83,25 @@ fn rules_of(service: Service) -> Rules {
         ),
         Service::SendQueuingMessage => row(SENDING, SOURCE),
         Service::ReceiveQueuingMessage => row(RECEIVING, DESTINATION),
-        Service::GetBufferId
+        Service::ClearQueuingPort => row("part 4, CLEAR_QUEUING_PORT (emptied)", DESTINATION),
+        Service::DelayedStart => row(ANSWER, "delayed_start_conditions"),
+        Service::ReportApplicationMessage => row(ANSWER, "report_conditions"),
+        Service::CreateErrorHandler => row(ANSWER, "create_handler_conditions"),
+        Service::ResetMutex => row("part 4, RESET_MUTEX (handed_on)", "reset_conditions"),
+        Service::GetPartitionStatus => row(
+            "part 7, the status of a partition (partition_status)",
+            SHARED,
+        ),
+        Service::GetProcessStatus => row(
+            "part 7, the status of a process (process_status)",
+            "named_conditions",
+        ),
+        Service::GetProcessMutexState => row(
+            "part 7, the mutex of a process (mutex_owned)",
+            "named_conditions",
+        ),
+        Service::GetProcessId
+        | Service::GetBufferId
         | Service::GetBlackboardId
         | Service::GetSemaphoreId
         | Service::GetEventId

@@ -3,7 +3,7 @@
 use crate::naming::{Ascii, Bytes, Numbered, out_name};
 use crate::request::tell_request;
 use crate::words::Words;
-use apex_types::{Body, Call, Claim, Ordered, Out, Return, Who};
+use apex_types::{Body, Call, Claim, Crossing, Ordered, Out, Return, Who};
 
 /// How many processes of a list are shown.
 const MOST_NAMED: usize = 8;
@@ -22,7 +22,16 @@ pub fn tell_record(words: &mut Words, ordered: &Ordered) {
             words.say(format_args!("core {core} ticks"));
             tell_woken(words, woken.as_slice());
         }
+        Body::Arrive(crossing) => tell_crossing(words, crossing, "arrives at"),
+        Body::Depart(crossing) => tell_crossing(words, crossing, "departs from"),
     }
+}
+
+// Reports a message that passes an end outside the module.
+fn tell_crossing(words: &mut Words, crossing: &Crossing, passes: &str) {
+    words.say(Bytes(crossing.message.as_bytes()));
+    words.say(format_args!(" {passes} channel {}", crossing.chan.number()));
+    tell_woken(words, crossing.woken.as_slice());
 }
 
 fn tell_call(words: &mut Words, call: &Call) {

@@ -27,7 +27,7 @@ pub(super) fn create_conditions(
     ensures { result ≡ creations.create_conditions config.now number state.now name.now object.now }
 {
     let kind = object.kind();
-    let is_taken = state.number_of(kind, name).is_some();
+    let is_taken = state.object_number_of(kind, name).is_some();
     let is_full = is_full(config, number, state, kind);
     with_parameters(
         creation(state, is_taken, is_full),

@@ -116,7 +116,7 @@ fn event_conditions(
     }
 }
 
-// ACQUIRE_MUTEX and RELEASE_MUTEX.
+// ACQUIRE_MUTEX, RELEASE_MUTEX and RESET_MUTEX.
 fn mutex_conditions(
     state: &PartitionState,
     who: Who,
@@ -128,6 +128,7 @@ fn mutex_conditions(
     match operation {
         MutexOperation::Acquire { time_out } => acquire_mutex(who, state, mutex, *time_out),
         MutexOperation::Release => release_mutex(who, state.mutexes().given(mutex)),
+        MutexOperation::Reset { process } => reset_mutex(state, mutex, *process),
     }
 }
 
@@ -197,6 +198,22 @@ fn acquire_mutex(who: Who, state: &PartitionState, mutex: i64, time_out: i64) ->
         .with(!is_time_out(time_out), Condition::TimeOutOutOfRange)
         .with(who.proc.number() == 0, Condition::InitialisingCaller)
         .with(state.owns_another(mutex, who.proc), Condition::OwnsAnother)
+}
+
+// RESET_MUTEX: a created mutex, and a created process, which owns it.
+fn reset_mutex(state: &PartitionState, mutex: i64, process: i64) -> Conditions
+    ensures { result ≡ objects.reset_conditions state.now mutex process }
+{
+    let found = state.mutexes().given(mutex);
+    let process = state.processes().created_number(process);
+    let is_another = match (found, process) {
+        (Some(found), Some(process)) => !found.is_owned_by(process),
+        (None, _) | (_, None) => false,
+    };
+    Conditions::none()
+        .with(found.is_none(), Condition::NotCreated)
+        .with(process.is_none(), Condition::NoSuchProcess)
+        .with(is_another, Condition::ProcessNotOwner)
 }
 
 // RELEASE_MUTEX: a created mutex, which the caller owns.

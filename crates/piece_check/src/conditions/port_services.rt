@@ -31,8 +31,8 @@ pub(super) fn sampling_conditions(
     }
 }
 
-/// SEND_QUEUING_MESSAGE and RECEIVE_QUEUING_MESSAGE: a created port; to send, a source port whose size is enough for the message; to
-/// receive, a destination port; a time-out in range; a caller that may wait.
+/// SEND_QUEUING_MESSAGE, RECEIVE_QUEUING_MESSAGE and CLEAR_QUEUING_PORT: a created port; to send, a source port whose size is enough for the
+/// message; to receive and to clear, a destination port; to send and to receive, a time-out in range and a caller that may wait.
 pub(super) fn queuing_conditions(
     state: &PartitionState,
     who: Who,
@@ -58,6 +58,7 @@ pub(super) fn queuing_conditions(
             state,
             *time_out,
         ),
+        QueuingOperation::Clear => taken_from(state.queuing_ports(), port),
     }
 }
 

@@ -11,8 +11,8 @@ ghost use Rattle.apex_machine.specs.ServiceConditions.{conditions_of};
 
 use super::{creation, is_normal, is_reached, may_not_wait};
 use crate::arguments::{
-    is_mode, is_negative, is_normal_mode, is_period, is_priority, is_process, is_time_out,
-    is_warm_start_mode, suits_period,
+    is_above_period, is_at_least, is_mode, is_negative, is_normal_mode, is_period, is_priority,
+    is_process, is_time_capacity, is_time_out, is_warm_start_mode, suits_period,
 };
 use apex_machine::{Condition, Mode, Process, Wait};
 use apex_types::{CallerOperation, Name, PartId, ProcessOperation, Who};
@@ -36,14 +36,17 @@ pub(super) fn process_conditions(
             initialize_affinity(config, who.part, state, process, *core)
         }
         ProcessOperation::Start => start(target),
+        ProcessOperation::DelayedStart { delay } => delayed_start(target, *delay),
         ProcessOperation::Stop => stop(who, target, process),
         ProcessOperation::Suspend => suspend(who, target, process),
         ProcessOperation::Resume => resume(who, target, process),
         ProcessOperation::SetPriority { priority } => set_priority(target, *priority),
+        ProcessOperation::GetStatus | ProcessOperation::GetMutexState => named(target),
     }
 }
 
-/// STOP_SELF and all other services that a process requests for itself. STOP_SELF and GET_TIME have no error condition.
+/// STOP_SELF and all other services that a process requests for itself. STOP_SELF, GET_TIME and GET_PARTITION_STATUS have no error
+/// condition.
 pub(super) fn caller_conditions(
     state: &PartitionState,
     who: Who,
@@ -56,28 +59,46 @@ pub(super) fn caller_conditions(
         CallerOperation::GetMyId => get_my_id(who),
         CallerOperation::TimedWait { delay } => timed_wait(who, state, *delay),
         CallerOperation::PeriodicWait => periodic_wait(who, state),
-        CallerOperation::StopSelf | CallerOperation::GetTime => Conditions::none(),
+        CallerOperation::StopSelf
+        | CallerOperation::GetTime
+        | CallerOperation::GetPartitionStatus => Conditions::none(),
     }
 }
 
-/// CREATE_PROCESS: the conditions of every creation; a priority and a period in range, and a period that suits the partition's.
+/// How a new process is to be scheduled, as its creator gives it: its base priority, and its period and time capacity in ticks.
+#[derive(Clone, Copy)]
+pub(super) struct Scheduling {
+    pub(super) priority: i64,
+    pub(super) period: i64,
+    pub(super) time_capacity: i64,
+}
+
+/// CREATE_PROCESS: the conditions of every creation; a priority, a period and a time capacity in range, a period that suits the partition's,
+/// and a time capacity that is not above the period.
 pub(super) fn create_process(
     config: &Config,
     number: PartId,
     state: &PartitionState,
     name: &Name,
-    priority: i64,
-    period: i64,
+    given: Scheduling,
 ) -> Conditions
-    ensures { result ≡ processes.create_process_conditions config.now number state.now name.now priority period }
+    ensures { result ≡ processes.create_process_conditions config.now number state.now name.now given.priority given.period given.time_capacity }
 {
     let processes = state.processes();
     let is_full = is_reached(config.process_limit(number), processes.len());
-    let suits = suits_period(config.period(number), period);
+    let suits = suits_period(config.period(number), given.period);
     creation(state, processes.named(name), is_full)
-        .with(!is_priority(priority), Condition::PriorityOutOfRange)
-        .with(!is_period(period), Condition::PeriodOutOfRange)
+        .with(!is_priority(given.priority), Condition::PriorityOutOfRange)
+        .with(!is_period(given.period), Condition::PeriodOutOfRange)
         .with(!suits, Condition::PeriodNotMultiple)
+        .with(
+            !is_time_capacity(given.time_capacity),
+            Condition::TimeCapacityOutOfRange,
+        )
+        .with(
+            is_above_period(given.period, given.time_capacity),
+            Condition::TimeCapacityAbovePeriod,
+        )
 }
 
 // INITIALIZE_PROCESS_CORE_AFFINITY: a created process; a mode other than NORMAL; one of the partition's cores.
@@ -102,12 +123,42 @@ fn initialize_affinity(
 
 // START: a created process that is dormant.
 fn start(target: Option<&Process>) -> Conditions
-    ensures { result ≡ processes.start_conditions (option_copied target.entry) }
+    ensures value { result ≡ processes.start_conditions (option_copied target.entry) }
+    ensures few { length result ≤ 1 }
 {
     match target {
         Some(process) => Conditions::none().with(process.alive, Condition::AlreadyStarted),
         None => Conditions::none().with(true, Condition::NotCreated),
     }
+}
+
+// DELAYED_START: a created process that is dormant; a delay that is not below 0, and below the period of a periodic process.
+fn delayed_start(target: Option<&Process>, delay: i64) -> Conditions
+    ensures { result ≡ processes.delayed_start_conditions (option_copied target.entry) delay }
+{
+    start(target)
+        .with(is_negative(delay), Condition::DelayOutOfRange)
+        .with(
+            target.is_some_and(|found| reaches_period(delay, found)),
+            Condition::DelayNotBelowPeriod,
+        )
+}
+
+// Whether a process is periodic and this delay is not below its period, both in ticks.
+fn reaches_period(delay: i64, process: &Process) -> bool
+    ensures { result ≡ processes.reaches_period delay process.now }
+{
+    match process.period {
+        Some(period) => is_at_least(period, delay),
+        None => false,
+    }
+}
+
+// GET_PROCESS_STATUS and GET_PROCESS_MUTEX_STATE: a created process.
+fn named(target: Option<&Process>) -> Conditions
+    ensures { result ≡ processes.named_conditions (option_copied target.entry) }
+{
+    Conditions::none().with(target.is_none(), Condition::NotCreated)
 }
 
 // STOP: a created process, other than the caller, that is not dormant.
@@ -258,8 +309,9 @@ fn suspends_itself(wait: Wait) -> bool
     match wait {
         Wait::Suspended(_) => true,
         Wait::Nothing
-        | Wait::NormalMode
+        | Wait::NormalMode(_)
         | Wait::FirstRelease(_)
+        | Wait::Delay(_)
         | Wait::Until(_)
         | Wait::PeriodicRelease(_)
         | Wait::At(..) => false,

@@ -6,12 +6,12 @@ ghost use Rattle.apex_machine.specs.Statuses.{get_status_conditions};
 
 use super::objects::use_of;
 use apex_machine::Condition;
-use apex_types::{Name, ObjectKind};
+use apex_types::{Name, NamedKind, ObjectKind};
 use partition_state::PartitionState;
 use wait_set::Conditions;
 
-/// GET_BUFFER_ID and its counterparts: an object or port of the kind has the name.
-pub(super) fn id_conditions(state: &PartitionState, kind: ObjectKind, name: &Name) -> Conditions
+/// GET_PROCESS_ID, GET_BUFFER_ID and its counterparts: a process, or an object or port of the kind, has the name.
+pub(super) fn id_conditions(state: &PartitionState, kind: NamedKind, name: &Name) -> Conditions
     ensures { result ≡ get_id_conditions (number_of state.now kind name.now) }
 {
     Conditions::none().with(state.number_of(kind, name).is_none(), Condition::NoSuchName)

@@ -14,7 +14,7 @@ ghost use Rattle.process_state.specs.Transfers.{transferred};
 ghost use Rattle.process_state.specs.Timely.{IsTimely, TimesFit};
 
 use super::ProcTable;
-use crate::moment::Moment;
+use crate::moment::{self, Moment};
 use crate::number::process_number;
 use crate::order::{DueTime, Rank};
 use crate::process;
@@ -24,8 +24,8 @@ use apex_types::{CoreId, Message, Name, Place, ProcId};
 use std::alloc::AllocError;
 
 impl ProcTable {
-    /// Adds a new process after the others: dormant, on the partition's first core; aperiodic if the period is below 0. The caller must
-    /// ensure that no process has its number.
+    /// Adds a new process after the others: dormant, on the partition's first core; aperiodic if the period is below 0, and without deadlines
+    /// if the time capacity is. The caller must ensure that no process has its number.
     ///
     /// AllocError if memory is refused; nothing has changed then.
     pub fn create(
@@ -35,13 +35,14 @@ impl ProcTable {
         name: &Name,
         priority: u8,
         period: i64,
+        time_capacity: i64,
     ) -> Result<(), AllocError>
         requires new { IsTrue (is_new (is_free self.old.table) (Some (pos number))) }
-        ensures added { OnOk result (self.new ≡ record self.old { table = self.old.table ++ (number, new_process first_core name.now (pos priority) period) ∷ [] }) }
+        ensures added { OnOk result (self.new ≡ record self.old { table = self.old.table ++ (number, new_process first_core name.now (pos priority) period time_capacity) ∷ [] }) }
         ensures unchanged { OnErr result (self.new ≡ self.old) }
     {
         let alloc = *self.processes.allocator();
-        let created = process::created(alloc, first_core, name, priority, period)?;
+        let created = process::created(alloc, first_core, name, priority, period, time_capacity)?;
         let count = self.processes.len().saturating_add(1);
         self.ready.reserve(count)?;
         self.due.reserve(count)?;
@@ -218,15 +219,5 @@ pub(super) fn time_at(cores: &[CoreState], core: CoreId) -> u64
     ensures value { result ≡ time_of cores.now core }
     ensures below { result < PLACE_COUNT }
 {
-    time_among(cores, core)
-}
-
-#[tactic(auto, using(crate::proofs::Times::time_of_there, crate::proofs::Times::time_of_past))]
-fn time_among(cores: &[CoreState], core: CoreId) -> u64
-    ensures { result ≡ time_of cores.now core }
-{
-    match cores.get(core.number() as usize) {
-        Some(state) => state.time,
-        None => 0,
-    }
+    moment::time_of(cores, core)
 }

@@ -50,8 +50,8 @@ impl ProcTable {
 
     /// A call of one of the partition's processes at this moment: what it sets in the partition, what becomes of its caller, which process
     /// it stops, and whose waits it ends. The period is the partition's, in ticks. A process that it creates runs on the first core. The
-    /// transfer is what the call makes of the owners of its mutex. A call of a service other than ACQUIRE_MUTEX and RELEASE_MUTEX changes
-    /// no owner, and its transfer is not used.
+    /// transfer is what the call makes of the owners of its mutex. A call of a service other than ACQUIRE_MUTEX, RELEASE_MUTEX and
+    /// RESET_MUTEX changes no owner, and its transfer is not used.
     ///
     /// AllocError if memory for a process that it creates is refused; nothing has changed then. No other call takes memory, apart from what
     /// was prepared.
@@ -88,17 +88,22 @@ impl ProcTable {
         Ok(())
     }
 
-    /// A call of another partition, at this place, that ends the waits of the processes of this partition that it names: each gets the
-    /// message that the call hands over.
+    /// A record of others, at this place, that ends the waits of the processes of this partition that it names: each gets this message.
     ///
     /// AllocError if memory for the messages is refused; nothing has changed then.
-    pub fn wake_named(&mut self, part: PartId, place: Place, call: &Call) -> Result<(), AllocError>
-        ensures ok { OnOk result (self.new ≡ with_each (λ number process. after.woken_if_named place call.now (record { part = part; proc = number }) process) self.old) }
+    pub fn wake_named(
+        &mut self,
+        part: PartId,
+        place: Place,
+        message: &[u8],
+        woken: &Woken,
+    ) -> Result<(), AllocError>
+        ensures ok { OnOk result (self.new ≡ with_each (λ number process. after.woken_if_named place message.now woken.now (record { part = part; proc = number }) process) self.old) }
         ensures unchanged { OnErr result (self.new ≡ self.old) }
     {
         let alloc = *self.processes.allocator();
-        let woken = call.claim.woken.as_slice();
-        let mut messages = messages_for(alloc, &call.request, woken.len())?;
+        let woken = woken.as_slice();
+        let mut messages = messages_for(alloc, message, woken.len())?;
         for who in woken {
             if is_of(*who, part) {
                 if let Some(message) = messages.pop() {
@@ -146,9 +151,18 @@ impl ProcTable {
                 name,
                 priority,
                 period: own_period,
+                time_capacity,
             } => {
                 if let Some(number) = claimed_number(call.claim.val) {
-                    self.create(first_core, number, name, *priority as u8, *own_period)?;
+                    let priority = *priority as u8;
+                    self.create(
+                        first_core,
+                        number,
+                        name,
+                        priority,
+                        *own_period,
+                        *time_capacity,
+                    )?;
                 }
             }
             Request::Process(process, operation) => {

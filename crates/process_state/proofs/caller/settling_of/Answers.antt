@@ -1,5 +1,5 @@
 -- The outcome, the ready position and the last release of a caller to which an outcome is due.
-use Rattle.std.proofs.Common.{sym, ◌∙◌, Some}
+use Rattle.std.proofs.Common.{sym, ◌∙◌}
 use Rattle.process_state.proofs.Owed.{owed-settles}
 use Rattle.process_state.proofs.caller.settling_of.Goals as goal
 

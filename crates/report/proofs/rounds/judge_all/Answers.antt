@@ -18,7 +18,7 @@ use Rattle.report.proofs.rounds.judge_all.Goals as goal
 
 pub tell-requires-clause-rejects : goal.tell-requires-clause-rejects
 tell-requires-clause-rejects g c =
-    let config = c.args.config.now in
+    let config = c.args.terms.now.config.now in
     let outcome = c.rounds.invariant.outcome in
     let round : List Ordered = c.rounds.round.items in
     let leaves : LeavesItsPiece config c.rounds.judge round c.judge_last-answer.result c.judge_last-answer.new.judge =
@@ -28,8 +28,8 @@ tell-requires-clause-rejects g c =
 
 pub tell-requires-in-Ok-Some-clause-rejects : goal.tell-requires-in-Ok-Some-clause-rejects
 tell-requires-in-Ok-Some-clause-rejects g c =
-    let config = c.args.config.now in
-    let relations = relations_of c.args.rules.now in
+    let config = c.args.terms.now.config.now in
+    let relations = relations_of c.args.terms.now.rules.now in
     let outcome = c.rounds.invariant.outcome in
     let round : List Ordered = c.rounds.round.items in
     let verdict = c.in-Ok-Some.verdict in
@@ -41,8 +41,8 @@ tell-requires-in-Ok-Some-clause-rejects g c =
 
 pub tell-requires-clause-breaks : goal.tell-requires-clause-breaks
 tell-requires-clause-breaks g c =
-    let config = c.args.config.now in
-    let relations = relations_of c.args.rules.now in
+    let config = c.args.terms.now.config.now in
+    let relations = relations_of c.args.terms.now.rules.now in
     let outcome = c.rounds.invariant.outcome in
     let round : List Ordered = c.rounds.round.items in
     let judged = c.judge_last-answer.new.judge in
@@ -54,8 +54,8 @@ tell-requires-clause-breaks g c =
 
 pub tell-requires-in-Ok-Some-clause-breaks : goal.tell-requires-in-Ok-Some-clause-breaks
 tell-requires-in-Ok-Some-clause-breaks g c =
-    let config = c.args.config.now in
-    let relations = relations_of c.args.rules.now in
+    let config = c.args.terms.now.config.now in
+    let relations = relations_of c.args.terms.now.rules.now in
     let outcome = c.rounds.invariant.outcome in
     let round : List Ordered = c.rounds.round.items in
     let verdict = c.in-Ok-Some.verdict in
@@ -75,15 +75,15 @@ returns-in-Ended g c = λ honest.
     let outcome = c.rounds.invariant.outcome in
     let round : List Ordered = c.rounds.round.items in
     rw (rw (c.deref-in-Ended.ensures.value, c.count-first.ensures, outcome.3) at c.keep_after_answer.ensures)
-    (last_on can_fail c.args.config.now (relations_of c.args.rules.now) c.args.placer.now c.rounds.placer c.rounds.judge outcome.0 round c.in-Ended.end c.judge_last-answer.result
+    (last_on can_fail c.args.terms.now.config.now (relations_of c.args.terms.now.rules.now) c.args.placer.now c.rounds.placer c.rounds.judge outcome.0 round c.in-Ended.end c.judge_last-answer.result
     (subst (λ filled. IsFilled can_fail c.args.placer.now (outcome.0 ++ round) filled c.rounds.placer) c.in-Ended.is (outcome.1 honest)) outcome.2 c.rounds.invariant.may.placed
     (rw c.deref.ensures.value at c.judge_last-answer.ensures.answer))
 
 pub returns-in-Ok-Some : goal.returns-in-Ok-Some
 returns-in-Ok-Some g c =
     let can_fail : CanFail = record { recordings = g.R.TextSource.can_fail; certificate = g.C.TextSource.can_fail } in
-    let config = c.args.config.now in
-    let relations = relations_of c.args.rules.now in
+    let config = c.args.terms.now.config.now in
+    let relations = relations_of c.args.terms.now.rules.now in
     let outcome = c.rounds.invariant.outcome in
     let round : List Ordered = c.rounds.round.items in
     let verdict = c.in-Ok-Some.verdict in
@@ -98,8 +98,8 @@ returns-in-Ok-Some g c =
 pub rounds-preserved : goal.rounds-preserved
 rounds-preserved g c =
     let can_fail : CanFail = record { recordings = g.R.TextSource.can_fail; certificate = g.C.TextSource.can_fail } in
-    let config = c.args.config.now in
-    let relations = relations_of c.args.rules.now in
+    let config = c.args.terms.now.config.now in
+    let relations = relations_of c.args.terms.now.rules.now in
     let is = c.rounds.invariant in
     let outcome = is.outcome in
     let round : List Ordered = c.rounds.round.items in

@@ -12,9 +12,9 @@ use Rattle.report.proofs.rounds.judge_all.Given as goal
 
 abbrev pub invariant-rounds : goal.invariant-rounds
 invariant-rounds g l = record {
-  may : MayJudge l.config l.judge l.round.items;
-  outcome : (before : List Ordered) × (AreHonest g.R.TextSource.can_fail l.placer.lanes → IsFilled (record { recordings = g.R.TextSource.can_fail; certificate = g.C.TextSource.can_fail }) l.fn.placer (before ++ l.round.items) l.filled l.placer) × HoldBefore l.config (relations_of l.rules) before l.judge × (l.last ≡ keep_last most_last (map item_of before));
+  may : MayJudge l.terms.config.now l.judge l.round.items;
+  outcome : (before : List Ordered) × (AreHonest g.R.TextSource.can_fail l.placer.lanes → IsFilled (record { recordings = g.R.TextSource.can_fail; certificate = g.C.TextSource.can_fail }) l.fn.placer (before ++ l.round.items) l.filled l.placer) × HoldBefore l.terms.config.now (relations_of l.terms.rules.now) before l.judge × (l.last ≡ keep_last most_last (map item_of before));
   going : l.filled ≡ Full → l.placer.ended ≡ false;
   place : l.filled ≡ Full → place_of l.placer.kept ≡ l.judge.count + length l.round.items;
-  lanes : length l.placer.lanes ≡ l.config.cores;
+  lanes : length l.placer.lanes ≡ l.terms.config.now.cores;
 }

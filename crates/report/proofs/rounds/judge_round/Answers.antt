@@ -10,8 +10,8 @@ use Rattle.report.proofs.rounds.judge_round.Goals as goal
 
 pub against-requires : goal.against-requires
 against-requires g c =
-    let config = c.args.config.now in
-    let relations = relations_of c.args.rules.now in
+    let config = c.args.terms.now.config.now in
+    let relations = relations_of c.args.terms.now.rules.now in
     let parts = parts_of c.args.judge.now in
     let tested : IsTested config relations parts c.args.round.now c.in-Ok.found c.breach.result =
     subst (IsTested config relations parts c.args.round.now c.in-Ok.found) (sym c.breach.ensures) c.in-Ok.ensures.tested in
@@ -19,8 +19,8 @@ against-requires g c =
 
 pub returns-in-Ok-clause-decided : goal.returns-in-Ok-clause-decided
 returns-in-Ok-clause-decided g c =
-    let config = c.args.config.now in
-    let relations = relations_of c.args.rules.now in
+    let config = c.args.terms.now.config.now in
+    let relations = relations_of c.args.terms.now.rules.now in
     let parts = parts_of c.args.judge.now in
     let tested : IsTested config relations parts c.args.round.now c.in-Ok.found c.breach.result =
     subst (IsTested config relations parts c.args.round.now c.in-Ok.found) (sym c.breach.ensures) c.in-Ok.ensures.tested in
@@ -29,8 +29,8 @@ returns-in-Ok-clause-decided g c =
 
 pub returns-in-Ok-clause-breach : goal.returns-in-Ok-clause-breach
 returns-in-Ok-clause-breach g c =
-    let config = c.args.config.now in
-    let relations = relations_of c.args.rules.now in
+    let config = c.args.terms.now.config.now in
+    let relations = relations_of c.args.terms.now.rules.now in
     let judging = c.args.judge.now in
     let judged = c.round.new.self in
     let decides : c.against.result ≡ against judging.count c.in-Ok.found (broken_of judged.breach) =

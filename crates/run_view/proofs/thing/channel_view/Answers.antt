@@ -7,7 +7,7 @@ use Rattle.run_view.proofs.Showing.{queuing_shown, sampling_shown}
 use Rattle.run_view.proofs.thing.channel_view.Goals as goal
 
 pub returns-in-Some : goal.returns-in-Some
-returns-in-Some c = IfOk-weaker c.queue_view.result _ _ (λ view shown. queuing_shown _ _ _ _ c.args.channel.now view c.in-Some.ensures.held shown) c.queue_view.ensures
+returns-in-Some c = IfOk-weaker c.queue_view.result _ _ (λ view shown. queuing_shown _ _ _ _ _ c.args.channel.now view c.in-Some.ensures.held shown) c.queue_view.ensures
 
 pub returns : goal.returns
 returns c =

@@ -11,7 +11,7 @@ pub apply-requires-in-Queuing-QueuingPort : goal.apply-requires-in-Queuing-Queui
 apply-requires-in-Queuing-QueuingPort c =
     let free : (apart c.args.call.now c.args.self.now).holds = search rules in
     record {
-      new = new_caller _ _ _ c.args.place c.in-Queuing-QueuingPort.channel.queue c.args.call.now c.args.self.now (rw c.in-Queuing-QueuingPort.is-0 at c.self.view_is)
+      new = new_caller _ _ _ _ c.args.place c.in-Queuing-QueuingPort.channel.queue c.args.call.now c.args.self.now (rw c.in-Queuing-QueuingPort.is-0 at c.self.view_is)
           free c.requires.below;
     }
 
@@ -29,13 +29,13 @@ returns-clause-ok c =
       | in-Queuing-QueuingPort w ↦
           let arm = w.in-Queuing-QueuingPort in
           rw w.result-is (accepted w.apply-in-Queuing-QueuingPort.result now call held (apart call held ∷ suited ∷ []) _
-          (queuing_demanded now _ _ _ arm.channel.queue call held _ arm.operation (rw arm.is-0 at c.self.view_is) arm.is-1) (free, (refl, tt))
+          (queuing_demanded now _ _ _ _ arm.channel.queue call held _ arm.operation (rw arm.is-0 at c.self.view_is) arm.is-1) (free, (refl, tt))
           w.apply-in-Queuing-QueuingPort.ensures.ok)
       | in-Queuing-GetStatus-QueuingPort-default w ↦
           let arm = w.in-Queuing-GetStatus-QueuingPort-default in
           let asked : (port : ℤ) × (call.request ≡ request.GetStatus kind.QueuingPort port) = search rules in
           rw w.result-is (accepted w.ask.result now call held (apart call held ∷ []) _
-          (asked_demanded now _ _ _ arm.channel.queue call held _ (rw arm.is-0 at c.self.view_is) asked.1) (free, tt) w.ask.ensures.ok)
+          (asked_demanded now _ _ _ _ arm.channel.queue call held _ (rw arm.is-0 at c.self.view_is) asked.1) (free, tt) w.ask.ensures.ok)
       | in_default w ↦ rw w.result-is tt
       | in_default-2 w ↦ rw w.result-is tt
       | in_default-3 w ↦ rw w.result-is tt
@@ -60,7 +60,7 @@ returns-clause-after c =
           let arm = w.in-Queuing-GetStatus-QueuingPort-default in
           let asked : (port : ℤ) × (call.request ≡ request.GetStatus kind.QueuingPort port) = search rules in
           rw (w.result-is, w.self-inside-is, ← c.self.view_is, arm.is-0) (asked_after w.ask.result now c.self.inside.number c.args.place
-          arm.channel.source arm.channel.destination arm.channel.queue call _ _ refl asked.1 (rw (← c.self.view_is, arm.is-0) at c.requires.through) w.ask.ensures.ok)
+          arm.channel.size arm.channel.source arm.channel.destination arm.channel.queue call _ _ refl asked.1 (rw (← c.self.view_is, arm.is-0) at c.requires.through) w.ask.ensures.ok)
       | in_default w ↦ rw w.result-is tt
       | in_default-2 w ↦ rw w.result-is tt
       | in_default-3 w ↦ rw w.result-is tt
@@ -80,13 +80,13 @@ returns-clause-refused c =
       | in-Queuing-QueuingPort w ↦
           let arm = w.in-Queuing-QueuingPort in
           rw w.result-is (refused w.apply-in-Queuing-QueuingPort.result now call held (apart call held ∷ suited ∷ []) _
-          (queuing_demanded now _ _ _ arm.channel.queue call held _ arm.operation (rw arm.is-0 at c.self.view_is) arm.is-1) (free, (refl, tt))
+          (queuing_demanded now _ _ _ _ arm.channel.queue call held _ arm.operation (rw arm.is-0 at c.self.view_is) arm.is-1) (free, (refl, tt))
           w.apply-in-Queuing-QueuingPort.ensures.refused)
       | in-Queuing-GetStatus-QueuingPort-default w ↦
           let arm = w.in-Queuing-GetStatus-QueuingPort-default in
           let asked : (port : ℤ) × (call.request ≡ request.GetStatus kind.QueuingPort port) = search rules in
           rw w.result-is (refused w.ask.result now call held (apart call held ∷ []) _
-          (asked_demanded now _ _ _ arm.channel.queue call held _ (rw arm.is-0 at c.self.view_is) asked.1) (free, tt) w.ask.ensures.refused)
+          (asked_demanded now _ _ _ _ arm.channel.queue call held _ (rw arm.is-0 at c.self.view_is) asked.1) (free, tt) w.ask.ensures.refused)
       | in_default w ↦ rw (w.result-is, ← c.self.view_is, w.in_default.is-0) (search rules)
       | in_default-2 w ↦ rw (w.result-is, ← c.self.view_is, w.in_default.is-0) (search rules)
       | in_default-3 w ↦ rw (w.result-is, ← c.self.view_is, w.in_default.is-0) (search rules)

@@ -15,7 +15,7 @@ returns-then-is_some-clause-after c =
     let holds : AllHold (answer_demands (received_from time_out queue).answer claim) = search rules in
     let receivers : Waiters = record queue.receivers { entries = joined_by c.args.actor claim [] queue.receivers.entries } in
     let some : is_some (slice_get queue.messages 0) ≡ true = search rules in
-    let taken = after_taking time_out claim queue receivers (first_of queue.senders) queue.messages some holds.1.1.1.0 in
+    let taken = after_taking time_out claim.woken queue receivers (first_of queue.senders) queue.messages some holds.1.1.1.0 in
     search rules
 
 pub returns-else-is_some-clause-after : goal.returns-else-is_some-clause-after
@@ -26,5 +26,5 @@ returns-else-is_some-clause-after c =
     let holds : AllHold (answer_demands (received_from time_out queue).answer claim) = search rules in
     let receivers : Waiters = record queue.receivers { entries = joined_by c.args.actor claim [] queue.receivers.entries } in
     let none : is_some (slice_get queue.messages 0) ≡ false = search rules in
-    let kept = after_none time_out claim queue receivers (first_of queue.senders) queue.messages none holds.1.1.1.0 in
+    let kept = after_none time_out claim.woken queue receivers (first_of queue.senders) queue.messages none holds.1.1.1.0 in
     search rules

@@ -4,7 +4,7 @@ use Rattle.record_read.specs.Steps.{IsOutside}
 use Rattle.order_run.specs.Left.{left_since}
 use Rattle.order_run.proofs.Lefts.{read_ahead, read_known, read_none, was_going}
 use Rattle.order_run.proofs.lane.Lane.read_on.Goals as goal
-use Rattle.order_run.proofs.lane.Lane.read_on.Goals.{in-Ok, in-Err, in-Err+in-Call-1, in-Err+in-Ret-1, in-Err+in-Tick-1, in-Err+in-Disp-1, in-Ok-1}
+use Rattle.order_run.proofs.lane.Lane.read_on.Goals.{in-Ok, in-Err, in-Err+in-Call-1, in-Err+in-Ret-1, in-Err+in-Tick-1, in-Err+in-Disp-1, in-Err+in-Arrive-1, in-Err+in-Depart-1, in-Ok-1}
 
 pub returns-in-None : goal.returns-in-None
 returns-in-None g c =
@@ -38,6 +38,8 @@ returns-after-push_back g c = elim c.match-push_back.branch [
         | in-Err+in-Ret-1 v ↦ v.self-is ∙ ahead
         | in-Err+in-Tick-1 v ↦ v.self-is ∙ ahead
         | in-Err+in-Disp-1 v ↦ v.self-is ∙ ahead
+        | in-Err+in-Arrive-1 v ↦ v.self-is ∙ ahead
+        | in-Err+in-Depart-1 v ↦ v.self-is ∙ ahead
         | in-Ok-1 v ↦ v.self-is ∙ ahead
       ])
   | in-Err w ↦ rw w.result-is tt

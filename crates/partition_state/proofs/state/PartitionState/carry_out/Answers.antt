@@ -1,8 +1,7 @@
 -- The objects are those after the call, and so are the processes.
-use Rattle.std.proofs.Common.{◌<◌, ap, refl, sym, ◌∙◌, arith}
+use Rattle.std.proofs.Common.{◌<◌, ap, sym, ◌∙◌, arith}
 use Rattle.apex_types.specs.declared.limits.TheConstants.{PLACE_COUNT}
 use Rattle.apex_machine.specs.Demands.{AllHold}
-use Rattle.apex_machine.specs.State.{time_of}
 use Rattle.process_state.specs.Processes.{Processes, processes_of}
 use Rattle.partition_state.specs.Calls.{served_demands}
 use Rattle.partition_state.proofs.Served.{is_called, served_is_called, served_keeps}
@@ -20,7 +19,7 @@ call-requires-clause-sound c =
     let call = a.call.now in
     let after = c.self-2.view_is ∙ c.in_ok-transfer.ensures.after in
     let same = ap processes_of after ∙ served_keeps config place call a.self.now call.request in
-    let served : AllHold (served_demands (time_of cores core) a.self.now call) = rw c.requires.now at c.in_ok-transfer.ensures.ok in
+    let served : AllHold (served_demands cores core a.self.now call) = c.in_ok-transfer.ensures.ok in
     let below : place < PLACE_COUNT = omega (arith, c.number-place.ensures.number, c.number-place.ensures.bound) in
     rw (ap (λ (processes : Processes). processes.table) same)
     (sound_served config cores place core a.self.now call c.requires.clear served c.keeps_limits.ensures.limits.cores.most c.keeps_limits.ensures.cores
@@ -36,8 +35,8 @@ returns-clause-after c =
     let call = a.call.now in
     let after = c.self-2.view_is ∙ c.in_ok-transfer.ensures.after in
     let same = ap processes_of after ∙ served_keeps config place call a.self.now call.request in
-    let served : AllHold (served_demands (time_of cores core) a.self.now call) = rw c.requires.now at c.in_ok-transfer.ensures.ok in
-    let objects = after ∙ sym (served_is_called config cores place core a.self.now call c.requires.clear served c.requires.goes_on call.request refl) in
+    let served : AllHold (served_demands cores core a.self.now call) = c.in_ok-transfer.ensures.ok in
+    let objects = after ∙ sym (served_is_called config cores place core a.self.now call c.requires.clear served c.requires.goes_on) in
     elim c.match-call.branch [
       | in-Ok-call w ↦ rw w.result-is
           (is_called config cores place core call a.self.now _ c.call.new.self objects

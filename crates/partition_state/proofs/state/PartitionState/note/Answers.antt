@@ -6,7 +6,7 @@ use Rattle.process_state.specs.Processes.{processes_of}
 use Rattle.partition_state.specs.Calls.{objects_noted}
 use Rattle.partition_state.proofs.Clear.{port_found}
 use Rattle.partition_state.proofs.Served.{is_called, noted_with, reads_with}
-use Rattle.partition_state.proofs.Uses.{leaves_objects, noted_goes_on, noted_transfer, sound_noted}
+use Rattle.partition_state.proofs.Uses.{leaves_all, noted_goes_on, noted_transfer, sound_noted}
 use Rattle.partition_state.proofs.state.PartitionState.note.Goals as goal
 
 pub call-requires-clause-sound : goal.call-requires-clause-sound
@@ -33,7 +33,7 @@ returns-clause-ok c =
     let place = a.moment.now.place in
     let core = a.moment.now.core in
     let call = a.call.now in
-    let leaves = leaves_objects config call.who.part place core cores a.self.now call
+    let leaves = leaves_all config call.who.part place core cores a.self.now call
     (record { sound = c.requires.sound; own = refl; demands = c.requires.lawful }) c.requires.leaves in
     let processes = c.in_ok-call.ensures.ok config a.self.now (sym c.first_core-first_core.ensures.value) (sym c.period-period.ensures.value)
     (sym (ap processes_of c.self.view_is)) (λ done. noted_transfer a.self.now call _ c.requires.leaves done) in

@@ -1,7 +1,6 @@
 -- The process that leaves has its entry where it waits.
 use Rattle.partition_state.proofs.Leavers.{where_it_waits}
 use Rattle.partition_state.proofs.state.PartitionState.stop.Goals as goal
-use Rattle.std.proofs.Common.{Some}
 
 pub leave-requires-clause-alone : goal.leave-requires-clause-alone
 leave-requires-clause-alone c =

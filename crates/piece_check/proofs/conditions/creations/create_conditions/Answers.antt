@@ -12,7 +12,7 @@ returns c =
       c.with_parameters.ensures,
       c.creation.ensures.value,
       c.is_some-is_taken.ensures,
-      c.number_of.ensures,
+      c.object_number_of.ensures,
       c.is_full-is_full.ensures,
       c.kind-kind.ensures,
       named_is_taken (name_in kind) c.args.name.now (objects_of c.args.state.now kind),

@@ -3,7 +3,6 @@ use Rattle.std.proofs.Common.{◌≡◌, ◌≢◌, [], Some, None, inl, rules}
 use Rattle.apex_machine.specs.Ports.{channel_of}
 use Rattle.apex_machine.specs.ServiceConditions.{conditions_of}
 use Rattle.apex_machine.specs.Services.{answer_of}
-use Rattle.apex_machine.specs.State.{time_of}
 use Rattle.partition_state.specs.Calls.{LeavesObjects}
 use Rattle.piece_check.proofs.Passing.{refused_holds, refused_not_done, through_fails, through_holds}
 use Rattle.piece_check.proofs.partition_piece.PartitionPiece.judge_before_service.Goals as goal
@@ -15,7 +14,7 @@ returns-then-not-is_empty-clause-ok c =
     let call = a.call.now in
     let conditions = c.in_ok-conditions.conditions in
     let judged = c.in_ok-judge_refused.ensures in
-    let answer = answer_of (time_of own.clock.cores a.core) call.who own.state call.request in
+    let answer = answer_of own.clock.cores a.core call.who own.state call.request in
     let some : conditions ≢ [] = search rules in (
       refused_holds a.config.now own.number own.clock.cores own.state a.core call conditions c.in_ok-conditions.ensures.ok c.in_ok-conditions.ensures.conditions judged,
       inl (refused_not_done conditions own.number call.request answer call.claim some (judged None own.number call.request answer)),

@@ -13,6 +13,6 @@ returns-clause-refused c =
     let a = c.args in
     let own = a.self.now in
     IfErr-weaker c.serve.result _ _
-    (λ fault. served_fails a.config.now own.number own.clock.cores own.state a.ordered.now.core c.now-now.result a.call.now fault
-    c.requires.caller c.requires.clear c.requires.through c.requires.apart c.now-now.ensures)
-    c.serve.ensures.refused
+    (λ fault. served_fails a.config.now own.number own.clock.cores own.state a.ordered.now.core a.call.now fault
+    c.requires.caller c.requires.clear c.requires.through c.requires.apart)
+    (rw c.states.ensures at c.serve.ensures.refused)

@@ -1,4 +1,4 @@
-use Rattle.std.proofs.Common.{ap, refl, rules, FitsSigned, w64, Some}
+use Rattle.std.proofs.Common.{ap, refl, rules, FitsSigned, w64}
 use Rattle.std.proofs.lemmas.Int.{to_z-of_z}
 use Rattle.process_state.specs.Processes.{Processes}
 use Rattle.process_state.proofs.Carried.{carried-create, carried-none, carried-object, carried-target}
@@ -10,9 +10,10 @@ returns-in_ok-create-in-CreateProcess-clause-ok c = λ partition seen tied.
     let sound = rw c.in-CreateProcess.is at c.requires.sound.asks in
     let fits : FitsSigned w64 c.in-CreateProcess.priority = search rules in
     let fits_too : FitsSigned w64 c.in-CreateProcess.own_period = search rules in
+    let fits_last : FitsSigned w64 c.in-CreateProcess.time_capacity = search rules in
     let added = simp to_z-of_z at c.in_ok-create-in-CreateProcess.ensures.added in
     rw c.in-CreateProcess.is
-    (carried-create c.args.moment.now.place c.args.period c.args.first_core c.args.moment.now.cores.now c.args.call.now c.in-CreateProcess.name c.in-CreateProcess.priority c.in-CreateProcess.own_period
+    (carried-create c.args.moment.now.place c.args.period c.args.first_core c.args.moment.now.cores.now c.args.call.now c.in-CreateProcess.name c.in-CreateProcess.priority c.in-CreateProcess.own_period c.in-CreateProcess.time_capacity
     partition c.args.self.now _ c.claimed_number.result c.in-Some.number _ added refl c.requires.done sound c.claimed_number.ensures c.in-Some.is)
 
 pub returns-in-Process-clause-ok : goal.returns-in-Process-clause-ok

@@ -1,5 +1,5 @@
 -- The one process of the number is changed in place, and its rank and its due time with it.
-use Rattle.std.proofs.Common.{refl, rules, Some}
+use Rattle.std.proofs.Common.{refl, rules}
 use Rattle.process_state.specs.Ranks.{due_before, due_laws, due_time_of, rank_before, rank_laws, rank_of}
 use Rattle.process_state.proofs.Kept.{IsKept-written, found_there, room_left, is_member}
 use Rattle.process_state.proofs.Tables.{processes-kept, processes-written}

@@ -1,4 +1,4 @@
-use Rattle.std.proofs.Common.{sym, ◌∙◌, Some}
+use Rattle.std.proofs.Common.{sym, ◌∙◌}
 use Rattle.std.proofs.lemmas.Int.{to_z-of_z}
 use Rattle.process_state.proofs.Carried.{named-found, named-none}
 use Rattle.process_state.proofs.table.ProcTable.change_named.Goals as goal

@@ -13,6 +13,7 @@ pub invariant_of-self-2 : goal.invariant_of-self-2
 invariant_of-self-2 c =
     let new = rw (← c.self.view_is) at c.requires.new in
     let fits = c.ranges.period in
+    let fits_too = c.ranges.time_capacity in
     let made = simp to_z-of_z at c.in_ok-created.ensures in
     let process = c.in_ok-created.created in
     let no_rank : rank_of c.args.number process ≡ None = rw made refl in
@@ -27,6 +28,7 @@ pub returns-clause-added : goal.returns-clause-added
 returns-clause-added c =
     let new = rw (← c.self.view_is) at c.requires.new in
     let fits = c.ranges.period in
+    let fits_too = c.ranges.time_capacity in
     let made = simp to_z-of_z at c.in_ok-created.ensures in
     rw (← c.self.view_is, ← made)
     (ap (processes_in c.self.inside.mode)

@@ -1,5 +1,5 @@
 -- A process that is at the index of its number, and else the one under the number.
-use Rattle.std.proofs.Common.{◌≡◌, sym, ◌∙◌, arith, Some}
+use Rattle.std.proofs.Common.{◌≡◌, sym, ◌∙◌, arith}
 use Rattle.std.proofs.lemmas.Bool.Decides.{nat_tests}
 use Rattle.process_state.proofs.Tables.{lookup-item_at}
 use Rattle.process_state.proofs.table.ProcTable.proc.Goals as goal

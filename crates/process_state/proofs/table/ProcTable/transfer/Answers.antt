@@ -1,5 +1,5 @@
 -- Who no longer owns the mutex, and then who owns it.
-use Rattle.std.proofs.Common.{◌≡◌, ◌∙◌, Some}
+use Rattle.std.proofs.Common.{◌≡◌, ◌∙◌}
 use Rattle.process_state.specs.Changes.{with_each}
 use Rattle.process_state.specs.Transfers.{freed}
 use Rattle.process_state.proofs.Transfers.{freed-none, freed-some, granted-none, granted-some}

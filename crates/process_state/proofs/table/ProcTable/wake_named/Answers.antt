@@ -1,15 +1,14 @@
 -- Each process of this partition that is named gets one copy of the message.
-use Rattle.std.proofs.Common.{sym, ◌∙◌, true, arith, Some}
+use Rattle.std.proofs.Common.{sym, ◌∙◌, true, arith}
 use Rattle.apex_machine.specs.Processes.{woken_by}
 use Rattle.process_state.proofs.HandedOver.{handed-more, handed-same}
 use Rattle.process_state.proofs.Ticks.{let-none-yet}
 use Rattle.process_state.proofs.table.ProcTable.wake_named.Goals as goal
 use Rattle.process_state.proofs.table.ProcTable.wake_named.Goals.{then-is_of+in-Some, then-is_of+in_default, else-is_of}
-use Rattle.apex_machine.specs.Waiting.{message_of}
 
 pub loop-who-init : goal.loop-who-init
 loop-who-init c = record {
-  named = let-none-yet c.args.part (λ number. true) (woken_by c.args.place (message_of c.args.call.now.request)) c.args.self.now;
+  named = let-none-yet c.args.part (λ number. true) (woken_by c.args.place c.args.message.now) c.args.self.now;
   alike = c.in_ok-messages.ensures.alike;
   enough = omega (arith, c.in_ok-messages.ensures.length);
 }

@@ -1,5 +1,5 @@
 -- Each peer that is named and not stopped gets one copy of the message.
-use Rattle.std.proofs.Common.{ap, sym, ◌∙◌, length, arith, Some}
+use Rattle.std.proofs.Common.{ap, sym, ◌∙◌, length, arith}
 use Rattle.apex_machine.specs.Processes.{woken_by}
 use Rattle.process_state.specs.Peers.{wakes}
 use Rattle.process_state.proofs.HandedOver.{handed-more, handed-same}
