@@ -64,6 +64,7 @@ parts_of_allocations() {
     done | cat - $slow/rules.toml > "$room/many_rules.toml"
     allocations "many rules" partition_waits_too_long --rules "$room/many_rules.toml"
     allocations "a message between partitions" message_to_another_partition
+    allocations "messages from and to the outside" telemetry_departs
     allocations "readers of a blackboard" blackboard_wakes_its_readers
     for format in html svg trace; do
         allocations_of_view "$format"

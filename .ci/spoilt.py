@@ -11,11 +11,13 @@ MAKER = Path(__file__).resolve().parent.parent / "bench/make_random_recording.py
 # The fields of a row, by their number.
 PART, PROC, PRIO, OUT, VAL, WOKEN = 2, 3, 10, 11, 12, 15
 SERVICES = ["GET_TIME", "TIMED_WAIT", "SIGNAL_SEMAPHORE", "SEND_BUFFER", "SET_EVENT", "RELEASE_MUTEX", "SET_PARTITION_MODE"]
+# Those of odd seeds are in format 3.
+FORMATS = ["1", "3"]
 
 
 def make(seed, records, folder):
     """Makes the lawful recording of a seed, of at most so many records, with some rules in its options.txt."""
-    subprocess.run([sys.executable, MAKER, str(seed), str(records), folder], check=True, capture_output=True)
+    subprocess.run([sys.executable, MAKER, str(seed), str(records), folder, FORMATS[seed % 2]], check=True, capture_output=True)
     chance = random.Random(seed)
     words = []
     if chance.random() < 0.3:
@@ -77,4 +79,4 @@ def _spoil_row(chance, rows):
 def _fields_of(values):
     """The fields of a row that can be changed."""
     filled = [field for field in (PART, PROC, PRIO, OUT, VAL) if values[field]]
-    return filled + [WOKEN] if values[1] in ("tick", "call") else filled
+    return filled + [WOKEN] if values[1] in ("tick", "call", "arrive", "depart") else filled

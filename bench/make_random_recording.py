@@ -1,10 +1,11 @@
 #!/usr/bin/env python3
 """Makes lawful recordings of a random module with partitions on several cores, ties, messages and queues.
 
-    make_random_recording.py SEED RECORDS FOLDER
+    make_random_recording.py SEED RECORDS FOLDER [FORMAT]
 
 writes config.toml, a recording for each core (core0.csv and on) and order.csv to FOLDER. A seed gives the same module and the same
-recordings each time. The recordings have at most RECORDS records together.
+recordings each time. The recordings have at most RECORDS records together. They are in format 1, or in format 3 if FORMAT is 3: the module
+then also has channels that lead outside, and its processes call the services that are in format 3 alone.
 """
 import os
 import random
@@ -19,7 +20,8 @@ class Proc:
         self.suspended = False
         self.wait = None            # None | ('normal',) ('until',t) ('first',t) ('rel',t) ('self',t|None) ('set',key,t|None)
         self.pos = 0
-        self.due = None             # (service, code, val, data)
+        self.due = None             # (service, code, val, data, val2, val3)
+        self.delay = 0              # of a start before NORMAL
         self.release = 0
         self.retained = None
         self.service = None
@@ -48,9 +50,9 @@ class Done(Exception):
 
 
 class Sim:
-    def __init__(self, seed, records):
+    def __init__(self, seed, records, is_format_3=False):
         r = self.r = random.Random(seed)
-        self.records = records
+        self.records, self.is_format_3 = records, is_format_3
         self.ncores = r.choice([2, 2, 3, 4])
         self.frame = r.choice([6, 10, 20])
         self.skew = r.choice([1, 2, 3, 5, 10])
@@ -87,6 +89,9 @@ class Sim:
                 dst = [b for b in range(nparts) if b != a]
                 self.sampling.append(dict(chan=chan, refresh=r.choice([1, 3, 10]), src=a, dst=dst, msg=None, stamp=0))
                 chan += 1
+        if is_format_3:
+            self.add_channels_outside(chan, nparts)
+            self.crossing_rate = r.choice([0.01, 0.02, 0.1])
         self.time = [0] * self.ncores
         self.occ = [None] * self.ncores
         self.seq = [0] * self.ncores
@@ -96,6 +101,18 @@ class Sim:
         self.msg = 0
         for p in self.parts:
             self.make_plan(p)
+
+    def add_channels_outside(self, chan, nparts):
+        """Channels of which one end is outside: None in place of a partition."""
+        r = self.r
+        for chan in range(chan, chan + r.choice([1, 2, 3, 4])):
+            part, kind = r.randrange(nparts), r.choice(["into", "into", "out", "out", "sampled", "shown"])
+            if kind in ("into", "out"):
+                src, dst = (None, part) if kind == "into" else (part, None)
+                self.queuing.append(dict(chan=chan, cap=r.randint(1, 3), src=src, dst=dst, sd=r.choice([0, 1]), dd=r.choice([0, 1]), msgs=[], send=[], recv=[]))
+            else:
+                src, dst = (None, [part]) if kind == "sampled" else (part, [])
+                self.sampling.append(dict(chan=chan, refresh=r.choice([1, 3, 10]), src=src, dst=dst, msg=None, stamp=0))
 
     # -- plan of the initialising process
     def make_plan(self, p):
@@ -127,7 +144,10 @@ class Sim:
         p.starts = list(range(1, count + 1))
         for n in p.starts:
             if r.random() < 0.9 or n == 1:
-                plan.append(('start', n))
+                plan.append(('delayed' if self.is_format_3 and r.random() < 0.4 else 'start', n))
+        if self.is_format_3:
+            plan.insert(r.randrange(len(plan) + 1), ('handler',))
+            plan.insert(r.randrange(len(plan) + 1), ('status',))
         plan.append(('normal',))
 
     # -- rows
@@ -137,7 +157,8 @@ class Sim:
         names = "part proc service n1 n2 n3 name msg prio out val data chan".split()
         g = [str(f.get(n, "")) for n in names]
         w = ";".join("%d:%d" % x for x in sorted(woken))
-        self.rows[core].append("%d,%s,%s,%s" % (self.seq[core], kind, ",".join(g), w))
+        later = ",%s,%s," % (f.get("val2", ""), f.get("val3", "")) if self.is_format_3 else ""
+        self.rows[core].append("%d,%s,%s,%s%s" % (self.seq[core], kind, ",".join(g), w, later))
         self.order.append("%d,%d" % (core, self.seq[core]))
         self.seq[core] += 1
         self.place += 1
@@ -196,11 +217,11 @@ class Sim:
                 q.release = w[1]
             elif w[0] == 'rel':
                 q.release = w[1]
-                q.due = (q.service, 'NO_ERROR', '', '')
+                q.due = (q.service, 'NO_ERROR', '', '', '', '')
             elif w[0] == 'until':
-                q.due = (q.service, 'NO_ERROR', '', '')
-            else:
-                q.due = (q.service, 'TIMED_OUT', '', '')
+                q.due = (q.service, 'NO_ERROR', '', '', '', '')
+            elif w[0] != 'delay':
+                q.due = (q.service, 'TIMED_OUT', '', '', '', '')
             self.leave(q)
             q.wait = None
             q.pos = place
@@ -209,7 +230,7 @@ class Sim:
         self.leave(q)
         q.wait = None
         q.pos = place
-        q.due = (q.service, 'NO_ERROR', '', data)
+        q.due = (q.service, 'NO_ERROR', '', data, '', '')
 
     @staticmethod
     def first(entries, discipline):
@@ -238,15 +259,16 @@ class Sim:
             q.service = service
             return self.put(core, "call", woken=woken, service=service, out=out, **base, **more)
 
-        def answer(service, code='NO_ERROR', val='', data=''):
-            q.due = (service, code, val, data)
+        def answer(service, code='NO_ERROR', val='', data='', val2='', val3=''):
+            q.due = (service, code, val, data, val2, val3)
 
         if q.number == 0:
             step = p.plan.pop(0)
             kind = step[0]
             if kind == 'create':
                 _, n, c, prio, period = step
-                emit("CREATE_PROCESS", "NO_ERROR", n1=prio, n2=period or -1, name="P%d" % n, val=n)
+                capacity = r.choice(["", -1, r.randint(1, period or 100)]) if self.is_format_3 else ""
+                emit("CREATE_PROCESS", "NO_ERROR", n1=prio, n2=period or -1, n3=capacity, name="P%d" % n, val=n)
                 p.procs[n] = Proc(p.number, n, p.cores[0], prio, period)
                 answer("CREATE_PROCESS", val=n)
                 if c != p.cores[0]:
@@ -296,6 +318,17 @@ class Sim:
                 t = p.procs[step[1]]
                 t.alive, t.prio, t.wait, t.pos = True, t.base, ('normal', None), place
                 answer("START")
+            elif kind == 'delayed':
+                t = p.procs[step[1]]
+                t.delay = self.some_delay(t)
+                place = emit("DELAYED_START", "NO_ERROR", n1=step[1], n2=t.delay)
+                t.alive, t.prio, t.wait, t.pos = True, t.base, ('normal', None), place
+                answer("DELAYED_START")
+            elif kind == 'handler':
+                emit("CREATE_ERROR_HANDLER", "NO_ERROR")
+                answer("CREATE_ERROR_HANDLER")
+            elif kind == 'status':
+                self.tell_partition(p, emit, answer)
             else:
                 place = emit("SET_PARTITION_MODE", "none", n1=3)
                 p.mode = 'normal'
@@ -308,7 +341,11 @@ class Sim:
         options += ['sem'] * 4 * bool(p.sems) + ['event'] * 3 * bool(p.events) + ['buffer'] * 4 * bool(p.buffers)
         options += ['board'] * 3 * bool(p.boards) + ['port'] * 5 * bool(p.ports) + ['mutex'] * 3 * bool(p.mutexes)
         options += ['start', 'stop', 'suspend', 'resume', 'selfsus', 'prio', 'periodic', 'status']
+        if self.is_format_3:
+            options += ['delayed', 'delayed', 'state', 'state', 'owned', 'named', 'mode', 'report', 'reset', 'clear', 'clear', 'port status']
         o = r.choice(options)
+        if self.call_of_format_3(o, core, q, emit, answer):
+            return
         own = self.may_not_wait(q)
         if o == 'periodic' and q.period and not own:
             nxt = q.release + q.period
@@ -521,6 +558,128 @@ class Sim:
         emit("GET_TIME", "NO_ERROR", val=self.time[core])
         answer("GET_TIME", val=self.time[core])
 
+    # -- what is in format 3 alone
+
+    def some_delay(self, t):
+        return self.r.choice([0, 1, 2, 5]) % (t.period or 100)
+
+    def tell_partition(self, p, emit, answer):
+        mode = 3 if p.mode == 'normal' else 1
+        emit("GET_PARTITION_STATUS", "NO_ERROR", val=mode, val2=0, val3=0)
+        answer("GET_PARTITION_STATUS", val=mode, val2=0, val3=0)
+
+    def state_of(self, t):
+        """The state of a process, as its status gives it."""
+        if not t.alive:
+            return 0
+        if not t.ready():
+            return 3
+        return 2 if self.occ[t.core] == (t.part, t.number) else 1
+
+    def call_of_format_3(self, o, core, q, emit, answer):
+        """A call of a service of format 3 alone, if the word asks for one that can be made. Returns whether it was made."""
+        r, p = self.r, self.parts[q.part]
+        procs = [t for t in p.procs.values() if t.number > 0]
+        if o == 'mode':
+            self.tell_partition(p, emit, answer)
+        elif o == 'state':
+            t = r.choice(procs)
+            told = dict(val=self.state_of(t), val2=t.prio, val3=-1)
+            emit("GET_PROCESS_STATUS", "NO_ERROR", n1=t.number, **told)
+            answer("GET_PROCESS_STATUS", **told)
+        elif o == 'owned':
+            t = r.choice(procs)
+            owned = next((n for n, m in p.mutexes.items() if m['owner'] is t), -2)
+            emit("GET_PROCESS_MUTEX_STATE", "NO_ERROR", n1=t.number, val=owned)
+            answer("GET_PROCESS_MUTEX_STATE", val=owned)
+        elif o == 'named':
+            t = r.choice(procs)
+            emit("GET_PROCESS_ID", "NO_ERROR", name="P%d" % t.number, val=t.number)
+            answer("GET_PROCESS_ID", val=t.number)
+        elif o == 'report':
+            m = self.message() * r.choice([0, 1, 64])
+            emit("REPORT_APPLICATION_MESSAGE", "NO_ERROR", n2=len(m) // 2, msg=m)
+            answer("REPORT_APPLICATION_MESSAGE")
+        elif o == 'delayed' and any(not t.alive for t in procs):
+            t = r.choice([t for t in procs if not t.alive])
+            t.delay = self.some_delay(t)
+            place = emit("DELAYED_START", "NO_ERROR", n1=t.number, n2=t.delay)
+            t.alive, t.prio, t.suspended = True, t.base, False
+            self.enter_normal(p, t, place)
+            answer("DELAYED_START")
+        elif o == 'reset' and any(m['owner'] for m in p.mutexes.values()):
+            n = r.choice([n for n, m in p.mutexes.items() if m['owner']])
+            self.reset_mutex(p, n, p.mutexes[n], emit)
+            answer("RESET_MUTEX")
+        elif o in ('clear', 'port status'):
+            ports = [(key[1], *port) for key, port in p.ports.items() if key[0] == 'q' and (port[1] or o == 'port status')]
+            if not ports:
+                return False
+            n, ch, dst = r.choice(ports)
+            if o == 'clear':
+                self.clear_port(n, ch, emit)
+                answer("CLEAR_QUEUING_PORT")
+            else:
+                told = dict(val=len(ch['msgs']), val2=len(ch['recv' if dst else 'send']))
+                emit("GET_QUEUING_PORT_STATUS", "NO_ERROR", n1=n, chan=ch['chan'], **told)
+                answer("GET_QUEUING_PORT_STATUS", **told)
+        else:
+            return False
+        return True
+
+    def reset_mutex(self, p, n, m, emit):
+        e = self.first(m['wait'], m['disc']) if m['wait'] else None
+        place = emit("RESET_MUTEX", "NO_ERROR", n1=n, n2=m['owner'].number, woken=[(p.number, e['who'].number)] if e else ())
+        m['owner'].prio = m['owner'].retained
+        if e:
+            t = e['who']
+            t.retained, t.prio = t.prio, m['prio']
+            m['owner'], m['count'] = t, 1
+            self.wake(t, place)
+        else:
+            m['owner'], m['count'] = None, 0
+
+    def clear_port(self, n, ch, emit):
+        left, entries = list(ch['send']), []
+        while left and len(entries) < ch['cap']:
+            entries.append(self.first(left, ch['sd']))
+            left.remove(entries[-1])
+        place = emit("CLEAR_QUEUING_PORT", "NO_ERROR", n1=n, chan=ch['chan'], woken=[(e['who'].part, e['who'].number) for e in entries])
+        ch['msgs'][:] = [e['msg'] for e in entries]
+        for e in entries:
+            self.wake(e['who'], place)
+
+    def cross(self, core):
+        """A message from outside or to the outside, if there is a channel for it. Returns whether there was one."""
+        into = [ch for ch in self.queuing + self.sampling if ch['src'] is None]
+        out = [ch for ch in self.queuing if ch['dst'] is None and ch['msgs']]
+        if not into + out:
+            return False
+        ch = self.r.choice(into + out)
+        if ch in into:
+            self.arrive(core, ch, self.message())
+        else:
+            self.depart(core, ch)
+        return True
+
+    def arrive(self, core, ch, m):
+        e = self.first(ch['recv'], ch['dd']) if ch.get('recv') else None
+        place = self.put(core, "arrive", msg=m, chan=ch['chan'], woken=[(e['who'].part, e['who'].number)] if e else ())
+        if 'recv' not in ch:
+            ch['msg'], ch['stamp'] = m, self.time[core]
+        elif e:
+            self.wake(e['who'], place, m)
+        elif len(ch['msgs']) < ch['cap']:
+            ch['msgs'].append(m)
+
+    def depart(self, core, ch):
+        e = self.first(ch['send'], ch['sd']) if ch['send'] else None
+        place = self.put(core, "depart", data=ch['msgs'][0], chan=ch['chan'], woken=[(e['who'].part, e['who'].number)] if e else ())
+        ch['msgs'].pop(0)
+        if e:
+            ch['msgs'].append(e['msg'])
+            self.wake(e['who'], place)
+
     def message(self):
         # few different messages, so that they may be mistaken for one another
         self.msg += 1
@@ -588,11 +747,14 @@ class Sim:
     def enter_normal(self, p, t, place):
         t.pos = place
         if t.period:
-            t.wait = ('first', (self.time[t.core] // p.period + 1) * p.period)
+            t.wait = ('first', (self.time[t.core] // p.period + 1) * p.period + t.delay)
         else:
-            t.wait = None
+            t.wait = ('delay', self.time[t.core] + t.delay) if t.delay else None
+        t.delay = 0
 
     def step(self, core):
+        if self.is_format_3 and self.r.random() < self.crossing_rate and self.cross(core):
+            return
         q = self.choice(core)
         num = (q.part, q.number) if q else None
         if self.occ[core] != num:
@@ -608,8 +770,8 @@ class Sim:
         if q is None:
             return
         if q.due is not None:
-            s, code, val, data = q.due
-            self.put(core, "ret", part=q.part, proc=q.number, service=s, out=code, val=val, data=data)
+            s, code, val, data, val2, val3 = q.due
+            self.put(core, "ret", part=q.part, proc=q.number, service=s, out=code, val=val, data=data, val2=val2, val3=val3)
             q.due = None
         else:
             self.call(core, q)
@@ -636,9 +798,18 @@ class Sim:
             for c, p, s, l in self.windows:
                 t.write("[[window]]\ncore = %d\npartition = %d\nstart = %d\nlength = %d\n" % (c, p, s, l))
             for q in self.queuing:
-                t.write('[[queuing]]\nchannel = %d\nsize = 8\ncapacity = %d\nsource = { partition = %d, port = "Q%d" }\nsource_discipline = "%s"\ndestination = { partition = %d, port = "Q%d" }\ndestination_discipline = "%s"\n' % (q['chan'], q['cap'], q['src'], q['chan'], ["FIFO", "PRIORITY"][q['sd']], q['dst'], q['chan'], ["FIFO", "PRIORITY"][q['dd']]))
+                ends = [(key, q[key], way, ["FIFO", "PRIORITY"][q[d]]) for key, way, d in (("src", "source", "sd"), ("dst", "destination", "dd"))]
+                t.write('[[queuing]]\nchannel = %d\nsize = 8\ncapacity = %d\n' % (q['chan'], q['cap']))
+                for _, part, way, discipline in ends:
+                    if part is None:
+                        t.write('outside = "%s"\n' % way.upper())
+                    else:
+                        t.write('%s = { partition = %d, port = "Q%d" }\n%s_discipline = "%s"\n' % (way, part, q['chan'], way, discipline))
             for s in self.sampling:
-                t.write('[[sampling]]\nchannel = %d\nsize = 8\nrefresh = %d\nsource = { partition = %d, port = "X%d" }\ndestinations = [ %s ]\n' % (s['chan'], s['refresh'], s['src'], s['chan'], ", ".join('{ partition = %d, port = "X%d" }' % (d, s['chan']) for d in s['dst'])))
+                t.write('[[sampling]]\nchannel = %d\nsize = 8\nrefresh = %d\n' % (s['chan'], s['refresh']))
+                end = '{ partition = %d, port = "X' + str(s['chan']) + '" }'
+                t.write('outside = "SOURCE"\n' if s['src'] is None else ('source = ' + end + '\n') % s['src'])
+                t.write('destinations = [ %s ]\n' % ", ".join(end % d for d in s['dst']) if s['dst'] else 'outside = "DESTINATION"\n')
         for c in range(self.ncores):
             with open(folder + "/core%d.csv" % c, "w") as t:
                 t.write("".join(x + "\n" for x in self.rows[c]))
@@ -648,7 +819,7 @@ class Sim:
 
 def main():
     seed, records, folder = int(sys.argv[1]), int(sys.argv[2]), sys.argv[3]
-    sim = Sim(seed, records)
+    sim = Sim(seed, records, sys.argv[4:] == ["3"])
     sim.run()
     sim.write(folder)
 
