@@ -6,21 +6,24 @@ from pathlib import Path
 
 @dataclass
 class Link:
-    """What is linked by hand to the one rule whose text begins with `rule`."""
+    """What is linked by hand to the one rule whose text begins with `rule`, and that is under the one whose text begins with `under`."""
     rule: str
+    under: str = ""
     definitions: list[str] = field(default_factory=list)
     laws: list[str] = field(default_factory=list)
     services: list[str] = field(default_factory=list)
     cases: list[str] = field(default_factory=list)
     bodies: list[str] = field(default_factory=list)
+    tests: list[str] = field(default_factory=list)
     known_as: str = ""
 
 
 @dataclass
 class Broken:
-    """The one rule or promise whose words begin so and that wrong bodies break, by patterns over CRATE/NAME."""
+    """The one rule or promise whose words begin so and that wrong bodies break, by patterns over CRATE/NAME. A rule is chosen as for a link."""
     bodies: list[str]
     rule: str = ""
+    under: str = ""
     promise: str = ""
 
 

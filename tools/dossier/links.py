@@ -47,13 +47,17 @@ class Carried:
 
 @dataclass
 class Row:
-    """A rule with all its partners. `how` says whether it names its definitions, the rule above does, or they are linked by hand."""
+    """A rule with all its partners. `how` says whether it names its definitions, the rule above does, or they are linked by hand.
+
+    `tests` has the places of tests that are no cases.
+    """
     rule: Rule
     definitions: list[Definition] = field(default_factory=list)
     how: str = ""
     laws: list[Law] = field(default_factory=list)
     carried: list[Carried] = field(default_factory=list)
     exercises: list[Exercise] = field(default_factory=list)
+    tests: list[tuple[str, int]] = field(default_factory=list)
     bodies: list[tuple[WrongBody, str]] = field(default_factory=list)
     explains: bool = False
     is_law: bool = False
@@ -79,8 +83,8 @@ class Row:
     @property
     def missing(self) -> list[str]:
         """The kinds of partner that a rule has none of. A law is proved of all recordings, and has no code to be wrong."""
-        have = {"definition": self.definitions, "law": self.laws, "clause": self.carried, "chain": self.chain, "case": self.exercises,
-                "wrong body": self.bodies}
+        have = {"definition": self.definitions, "law": self.laws, "clause": self.carried, "chain": self.chain,
+                "case": self.exercises or self.tests, "wrong body": self.bodies}
         if self.explains or self.is_plain:
             return []
         asked = ("definition", "law") if self.is_a_law else tuple(have)
@@ -136,7 +140,7 @@ class Dossier:
             for pattern in given.bodies:
                 if not any(fnmatchcase(f"{body.crate}/{body.name}", pattern) for body in self.code.bodies):
                     self.said.append(f"bodies.toml has {pattern}, which no wrong body fits")
-            rules = [rule.text for rule in self.rules if given.rule and rule.text.startswith(given.rule)]
+            rules = [rule.number for rule in self.rules if rule.is_chosen(given)]
             promises = [it.number for it in self.code.promises if given.promise and it.words.startswith(given.promise)]
             if len(rules) + len(promises) != 1:
                 self.said.append(f"{len(rules) + len(promises)} rules or promises begin with: {given.rule or given.promise}")
@@ -261,7 +265,7 @@ class Dossier:
 
     def link_of(self, rule: Rule) -> Link | None:
         """The link by hand of a rule."""
-        found = [link for link in self.hand.links if rule.text.startswith(link.rule)]
+        found = [link for link in self.hand.links if rule.is_chosen(link)]
         return found[0] if found else None
 
     def _row(self, rule: Rule) -> Row:
@@ -289,13 +293,24 @@ class Dossier:
             row.chain = self.chains.of([self.whole(it) for it in row.definitions], [(it.definition, it.path[::-1]) for it in row.laws])
         row.carried = self.carried_by(row)
         row.exercises = exercises_of(self.cases, self.hand, rule, row.services, services_of_objects(self.services, rule), link)
+        row.tests = [self.test_of(it) for it in link.tests]
         row.bodies = self.bodies_of(row, link)
         return row
+
+    def test_of(self, words: str) -> tuple[str, int]:
+        """The place of a test that is no case: `SCRIPT`, or `FILE: FUNCTION`. One that there is not is noted as a fault."""
+        path, _, function = words.partition(": ")
+        file = self.index.root / path
+        lines = file.read_text(encoding="utf-8").splitlines() if file.is_file() else []
+        line = next((number for number, it in enumerate(lines, 1) if function and f"fn {function}(" in it), 0)
+        if not lines or (function and not line):
+            self.said.append(f"links.toml has {words} under tests, which there is not")
+        return path, line
 
     def bodies_of(self, row: Row, link: Link) -> list[tuple[WrongBody, str]]:
         """The wrong bodies of a rule: of the functions whose clause cites its definitions; else of those that carry it by way of
         others; else of the files of these functions."""
-        by_hand = [body for body in self.code.bodies if body.name in link.bodies] + self.broken_rules.get(row.rule.text, [])
+        by_hand = [body for body in self.code.bodies if body.name in link.bodies] + self.broken_rules.get(row.rule.number, [])
         found = {body.path: (body, BY_HAND) for body in by_hand}
         cited = [it.function.key for it in row.carried if len(it.path) == 1 and it.clause.word == "ensures"]
         direct = [body for key in cited for body in self.in_function[key]]
@@ -312,10 +327,10 @@ class Dossier:
     def faults(self) -> list[str]:
         """What of the links by hand fits nothing, or more than one rule, and which names of a rule mean none or several."""
         said = list(self.said)
-        for text in [link.rule for link in self.hand.links] + self.hand.explains:
-            count = sum(rule.text.startswith(text) for rule in self.rules)
+        for link in self.hand.links + [Link(text) for text in self.hand.explains]:
+            count = sum(rule.is_chosen(link) for rule in self.rules)
             if count != 1:
-                said.append(f"{count} rules begin with: {text}")
+                said.append(f"{count} rules begin with: {link.rule}")
         of_rules = {body.path for row in self.rows for body, _ in row.bodies}
         said += [f"{body.path} has no rule and no promise: tools/dossier/bodies.toml gives it one"
                  for body in self.code.bodies if body.path not in of_rules and not self.promises_of(body)[1]]

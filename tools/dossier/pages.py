@@ -182,7 +182,7 @@ def rule_section(dossier: Dossier, row: Row) -> list[str]:
     parts.append(("Law", cut([law_item(dossier, it) for it in row.laws], "rule_law.csv", MOST_LAWS) if row.laws else ""))
     parts.append(("Up to check", chain_part(dossier, row.chain)))
     parts.append(("Clause and call", cut([carried_item(dossier, it) for it in row.carried], "rule_clause.csv") if row.carried else ""))
-    cases = [case_item(it) for it in row.exercises]
+    cases = [case_item(it) for it in row.exercises] + [f"{at(*place)}, a test that is no case" for place in row.tests]
     why = f' <i>({row.exercises[0].why})</i>' if row.exercises else ""
     parts.append(("Cases", why + cut(cases, "rule_case.csv") if cases else ""))
     parts.append(("Wrong bodies", bodies_part(dossier, row)))
@@ -226,7 +226,7 @@ the nearest definitions that mention it; where only laws mention it, those of th
 <li><b>Cases.</b> Files of crates/case_runner/data and folders of examples. A case belongs to a service that a call of its own rows has, or of
 the rows that it shares with its file, except for creations, START, SET_PARTITION_MODE and INITIALIZE_PROCESS_CORE_AFFINITY there. In part 6, only calls
 with the code of a condition count, and a No about the outcome of a call. A rule that names no service goes by its object, by the kind of the record that is rejected, or by the cause or
-fault that the case expects. A link says that the case has such a record, and not that the case tests nothing else. Beside each file is how many of its cases count,
+fault that the case expects. A link says that the case has such a record, and not that the case tests nothing else. What no case can hold, such as a reader that fails, has a script or a test of crates/ instead. Beside each file is how many of its cases count,
 and how many of those expect a No or a refusal there.</li>
 <li><b>Wrong bodies.</b> Those that are given by hand, and the edits of the functions whose clause cites a definition of the rule: these are the rule's own.
 Where there is none, those of the functions that carry the rule by way of others, and else those in the same file: they are near the rule, and it is listed as open. docs/AUDIT.md counts by crate, so an audit is given by crate.</li>

@@ -4,7 +4,7 @@ from dataclasses import dataclass, field
 
 from contracts import cells_of
 from definitions import Definition, Index
-from hand import Hand
+from hand import Broken, Hand, Link
 
 SENTENCE = re.compile(r"(?<=[.!?])\s+(?=[A-Z*`])")
 QUOTED = re.compile(r"`([^`]+)`")
@@ -47,6 +47,11 @@ class Rule:
     def inherited(self) -> list[Definition]:
         """The definitions that the rule names, or else those of its lead."""
         return self.named or (self.lead.inherited() if self.lead else [])
+
+    def is_chosen(self, given: Link | Broken) -> bool:
+        """Whether a link by hand chooses the rule: by its own beginning, and by that of its lead if rules have the same words."""
+        leads = self.lead.text if self.lead else ""
+        return bool(given.rule) and self.text.startswith(given.rule) and leads.startswith(given.under)
 
 
 @dataclass

@@ -32,7 +32,7 @@ def clause_cells(it: Carried) -> list[str | int]:
 def sentences(dossier: Dossier) -> Table:
     """Each sentence of each rule, with the definitions that it names itself."""
     return [[row.rule.number, number, row.rule.line, "explains" if row.explains else "law" if row.is_law else row.rule.kind, sentence.text,
-             " ".join(it.shown for it in sentence.names), "; ".join(standard_of(row)), row.exercises[0].why if row.exercises else "",
+             " ".join(it.shown for it in sentence.names), "; ".join(standard_of(row)), row.exercises[0].why if row.exercises else "a test that is no case" if row.tests else "",
              "; ".join(row.missing)]
             for row in dossier.rows for number, sentence in enumerate(row.rule.sentences, 1)]
 
