@@ -95,7 +95,9 @@ enum rec_format { REC_FORMAT_1 = 1, REC_FORMAT_2 = 2, REC_FORMAT_3 = 3 };
     service(RESET_MUTEX, HAS_N1 | HAS_N2)                                         \
     service(GET_PROCESS_MUTEX_STATE, HAS_N1)                                      \
     service(REPORT_APPLICATION_MESSAGE, HAS_N2 | HAS_MESSAGE)                     \
-    service(CREATE_ERROR_HANDLER, 0)
+    service(CREATE_ERROR_HANDLER, 0)                                              \
+    service(LOCK_PREEMPTION, 0)                                                   \
+    service(UNLOCK_PREEMPTION, 0)
 
 /* REC_CREATE_PROCESS, and so on. */
 enum rec_service {

@@ -3,7 +3,7 @@
     python3 tools/command_line            writes it
     python3 tools/command_line --check    compares it, and compares the parsers of the programs with the table
 
-It generates the tables and the short helps of `program_words`, the head of tools/apexrun, the synopsis and the list of options of each
+It generates the tables and the short helps of `wording`, the head of tools/apexrun, the synopsis and the list of options of each
 manual page, the completions, and the usages and tables of docs/FORMATS.md. What a parser accepts is written by hand. The check requires
 that each parser has exactly the options of the table, with a value or without, required or not, and that the constants of the sources
 have the table's numbers.
@@ -26,7 +26,7 @@ from table import Program, programs_of, services_of  # noqa: E402
 
 ROOT = Path(__file__).resolve().parent.parent.parent
 TABLE = ROOT / "tools/command_line.toml"
-WORDS = "crates/program_words/src"
+WORDS = "crates/wording/src"
 FORMATS = "docs/FORMATS.md"
 PAGE_OF_FORMATS = "packaging/man/apexcheck-formats.5"
 

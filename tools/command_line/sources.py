@@ -1,4 +1,4 @@
-"""What the sources of the programs have of the table: the tables and the short helps of program_words, and the head of a script."""
+"""What the sources of the programs have of the table: the tables and the short helps of wording, and the head of a script."""
 import re
 import textwrap
 

@@ -4,9 +4,9 @@ use Rattle.std.proofs.lemmas.Bool.Decides.{leb_tells}
 use Rattle.apex_types.specs.declared.limits.TheConstants.{LONGEST_CONFIGURATION}
 use Rattle.module_config.specs.Reading.{configuration_of}
 use Rattle.module_config.specs.declared.fault.ConfigFault.TheVariants as config
-use Rattle.rules_file.specs.Reading.{rules_of}
-use Rattle.rules_file.specs.declared.fault.RuleFault.TheVariants as rule
-use Rattle.rules_file.specs.declared.fault.RulesFault.TheVariants as rules
+use Rattle.asked_rules.specs.Reading.{rules_of}
+use Rattle.asked_rules.specs.declared.fault.RuleFault.TheVariants as rule
+use Rattle.asked_rules.specs.declared.fault.RulesFault.TheVariants as rules
 
 -- a text that is no longer than a limit stays whole, and a longer one stays longer
 whole_or_longer : (limit : ℕ) (text : List ℕ)

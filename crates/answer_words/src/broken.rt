@@ -1,9 +1,8 @@
 // The rule that is broken, in words.
 
 use crate::explainer::Explainer;
+use asked_rules::{NamedRule, RuleOption};
 use report::{CheckFault, Verdict};
-use rule_options::RuleOption;
-use rules_file::NamedRule;
 use std::alloc::Global;
 
 /// Notes which rule is broken, if one is: a rule of an option by its words, a rule of a file by its name; and the fields of the record's

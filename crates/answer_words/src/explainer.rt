@@ -3,16 +3,15 @@
 use crate::names::InputNames;
 use crate::terminal::Terminal;
 use apex_types::{Cause, Ordered, View};
-use config_explanation::{tell_unknown_keys, tell_warnings};
+use asked_rules::{RulesFault, RulesRefusal};
 use explanation::Explanation;
 use input_explanation::{Foreign, tell_foreign};
 use module_config::Config;
 use piece_check::Piece;
 use report::{Last, LastItem, Witness};
-use rules_explanation::{RefusedRules, tell_rules};
-use rules_file::{RulesFault, RulesRefusal};
 use std::alloc::Global;
 use std::fmt::Display;
+use toml_explanation::{RefusedRules, tell_rules, tell_unknown_keys, tell_warnings};
 use user_rules::{Relation, Rule};
 use wording::Words;
 

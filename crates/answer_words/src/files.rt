@@ -3,7 +3,7 @@
 ghost use Rattle.std.specs.Prelude.{◌≡◌, ◌+◌, IfOk, IfSome, take};
 ghost use Rattle.apex_types.specs.declared.limits.TheConstants.{LONGEST_CONFIGURATION};
 ghost use Rattle.module_config.specs.Reading.{configuration_of};
-ghost use Rattle.rules_file.specs.Reading.{rules_of};
+ghost use Rattle.asked_rules.specs.Reading.{rules_of};
 
 use apex_types::limits::LONGEST_CONFIGURATION;
 use std::alloc::Global;
@@ -27,7 +27,7 @@ pub fn open<R: Files<File = F>, F: Read + Drop>(rt: &R, name: &str) -> io::Resul
 
 // The text that a reader gives, or only its first bytes if it is longer than a configuration or a rules file may be. These bytes configure
 // the same as the whole text, and give the same rules. Of a longer text, one byte above the limit is enough to show that it is longer:
-// `check` and `rules_file::read` refuse it as `TooMany`. Both have the same limit.
+// `check` and `asked_rules::read` refuse it as `TooMany`. Both have the same limit.
 fn read_text<R: Read + Drop>(alloc: Global, reader: R) -> io::Result<Vec<u8>>
     ensures first { IfOk result (λ read. IfSome (R.remaining reader) (λ text. read.items ≡ take (LONGEST_CONFIGURATION + 1) text)) }
     ensures configures { IfOk result (λ read. IfSome (R.remaining reader) (λ text. configuration_of read.items ≡ configuration_of text)) }

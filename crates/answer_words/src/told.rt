@@ -5,7 +5,6 @@ ghost use Rattle.std.specs.Prelude.{◌≡◌, map, option_map, slice_get, strin
 use crate::explainer::Explainer;
 use crate::files::{open, open_text};
 use crate::names::InputNames;
-use config_explanation::{tell_configuration, tell_recording_count};
 use csv_rows::{RowFields, read_decimal};
 use explanation::{Explanation, RecordNumber};
 use input_explanation::{
@@ -19,6 +18,7 @@ use std::alloc::{AllocError, Global};
 use std::fs::Files;
 use std::io::{ErrorKind, Read};
 use std::{fs, io};
+use toml_explanation::{tell_configuration, tell_recording_count};
 use wording::Words;
 
 /// Why the answer is not Yes: in words, with the file that they are about, and the line and the row there, if they are found again.

@@ -11,11 +11,12 @@ use Rattle.apex_laws.proofs.Common.{initialising_process, is_done, is_in, is_nam
 use Rattle.apex_laws.proofs.Common.{objects_by, outcome_demands, partition_by, partition_demands, period_given, period_of, release_after, release_reached, release_taken, released, released_once, returned, set_after, set_by, stopped, stops}
 use Rattle.apex_laws.proofs.Common.{ticked, time_of, waiting, waits_at, waits_for_normal, with_sets, woken_by, woken_if_named}
 use Rattle.apex_laws.proofs.Common.{Arrive, Depart, Receivers, Senders, channel_set, time_of}
+use Rattle.apex_laws.proofs.Common.{is_for_lock, waits_for_lock}
 use Rattle.apex_laws.proofs.Booleans.{by_test, either_way, impossible, never_found, one_item}
 use Rattle.apex_laws.proofs.Codes.{no_error_is_done, not_done}
 use Rattle.apex_laws.proofs.Keeps.{set_by_wait, set_case}
 use Rattle.apex_laws.proofs.Restarts.{call_case, done_case, return_case, woken_table}
-use Rattle.apex_laws.proofs.SoundParts.{named_across, named_wait, own_holds, WaitsInSet}
+use Rattle.apex_laws.proofs.SoundParts.{named_across, named_wait, own_holds, WaitsInSet, WaitsForLock}
 use Rattle.apex_laws.proofs.Tables.{at_each}
 use Rattle.apex_laws.proofs.Waiters.{all_weaker}
 use Rattle.apex_laws.proofs.WaitersOf.{not_named}
@@ -167,6 +168,10 @@ in_set_ends : (wanted : WaitingSet) (one : Wait) → is_in wanted one ≡ true �
 in_set_ends wanted (Wait.At found due) is = (refl, λ last. refl)
 in_set_ends wanted _ is = impossible is
 
+lock_ends : (one : Wait) → is_for_lock one ≡ true → EndsNoRelease one
+lock_ends Wait.ForLock is = (refl, λ last. refl)
+lock_ends _ is = impossible is
+
 suspension_ends : (one : Wait) → is_suspension one ≡ true → EndsNoRelease one
 suspension_ends (Wait.Suspended due) is = (refl, λ last. refl)
 suspension_ends _ is = impossible is
@@ -176,6 +181,12 @@ waiter_ends : (table : Table) (wanted : WaitingSet) (number : ℕ) (x : Process)
 waiter_ends table wanted number x waits at =
     let here : waits_at wanted (Some x) ≡ true = subst (λ one. waits_at wanted one ≡ true) at waits in
     in_set_ends wanted x.wait (and_parts x.alive (is_in wanted x.wait) here).1
+
+-- so does who waits for the lock
+lock_waiter_ends : (table : Table) (number : ℕ) (x : Process) → waits_for_lock (item_at table number) ≡ true → item_at table number ≡ Some x → EndsNoRelease x.wait
+lock_waiter_ends table number x waits at =
+    let here : waits_for_lock (Some x) ≡ true = subst (λ one. waits_for_lock one ≡ true) at waits in
+    lock_ends x.wait (and_parts x.alive (is_for_lock x.wait) here).1
 
 -- such a wait ends with the last release as it was
 woken_keeps : (place : ℕ) (message : List ℕ) (x : Process) → EndsNoRelease x.wait → KeepsRelease x (woken_by place message x)
@@ -204,13 +215,15 @@ own_ends number place core period cores partition caller asked claim sound [] (S
 own_ends number place core period cores partition caller asked claim sound [] None hold who here named x at =
     let Ends : Who → Type 0 = λ one. (y : Process) → item_at partition.table one.proc ≡ Some y → EndsNoRelease y.wait in
     let answered = sym (hold.1.1.1.1.0 who) ∙ named in
-    let ends : EndsNoRelease x.wait = (answer_wakes Ends cores core caller partition asked
+    let ends : EndsNoRelease x.wait = answer_wakes Ends cores core caller partition asked
     (λ wanted used. all_weaker (WaitsInSet number wanted partition) (λ entry. Ends entry.who)
     (λ entry is_member y at. waiter_ends partition.table wanted entry.who.proc y is_member.1 at) (entries_at partition wanted) (sound.is_member wanted))
     (λ process target is suspends y at.
     (let is_member = created_is partition.table process target is in
     let same = one_item (sym is_member.2 ∙ ap (λ one. item_at partition.table (natural_of one)) (sym is_member.1) ∙ at) in
-    subst (λ one. EndsNoRelease one.wait) same (suspension_ends target.wait suspends)))).has who answered x at in
+    subst (λ one. EndsNoRelease one.wait) same (suspension_ends target.wait suspends)))
+    (λ gives. all_weaker (WaitsForLock number partition) (λ entry. Ends entry.who)
+    (λ entry is_member y at. lock_waiter_ends partition.table entry.who.proc y is_member.1 at) partition.lock.waiters sound.lock.is_member) who answered x at in
     (ends, waking_keeps_wait place period cores core partition caller asked who.proc x who answered ends.0)
 
 -- the caller

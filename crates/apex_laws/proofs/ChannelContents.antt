@@ -1,10 +1,10 @@
 -- What channels hold is of their kind.
-use Rattle.std.proofs.Common.{◌≡◌, ℕ, List, [], ◌∷◌, Bool, true, false, Option, Some, None, is_none, is_some, cond, refl, sym, ap, subst, ◌∙◌, true≢false, nat_eq, ℤ, pos}
+use Rattle.std.proofs.Common.{◌≡◌, ℕ, List, [], ◌∷◌, true, false, Option, Some, None, is_none, is_some, cond, refl, sym, ap, subst, ◌∙◌, nat_eq, pos}
 use Rattle.std.specs.Option.{option_map_or}
 use Rattle.apex_types.specs.declared.record.Body.TheVariants.{Arrive, Call, Depart}
 use Rattle.apex_machine.specs.Channels.{queuing_of}
 use Rattle.apex_laws.specs.Laws.{HoldTheirKind, KindsStay, holds_messages}
-use Rattle.apex_laws.proofs.Common.{Ask, Body, Channel, Clear, Configuration, Content, Messages, Ordered, Queued, QueuingChannel, Read, Receive, Run, Sampled, Send, State, Step, Use, Write, after, arrival_use, arrived, channel_effect, cold_state}
+use Rattle.apex_laws.proofs.Common.{Ask, Body, Channel, Clear, Configuration, Content, Messages, Ordered, Queued, QueuingChannel, Read, Receive, Run, Sampled, Send, State, Step, Use, Write, arrival_use, arrived, channel_effect, cold_state}
 use Rattle.apex_laws.proofs.Common.{content_by, departed, is_channel, is_to_outside, time_of, use_of, used}
 use Rattle.apex_laws.proofs.Booleans.{by_test, impossible}
 

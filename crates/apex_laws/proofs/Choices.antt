@@ -3,16 +3,16 @@ use Rattle.std.proofs.Common.{◌≡◌, ℕ, Option, Some, None, sym, ap, subst
 use Rattle.std.proofs.lemmas.Bool.{and_parts, and_from, eqb-true, eq-eqb}
 use Rattle.std.proofs.lemmas.List.Elements.{All-cons, All-contains, All-contains_itself, All-filter, All-nil, All-weaker, filter_passes}
 use Rattle.std.specs.Prelude.{All, Contains}
-use Rattle.apex_laws.proofs.Common.{ChoiceIsTheSentence, GoesBefore, InNoWindow, InWindowOf, IsChosen, IsReady, Partition, Process, Table, Wait, WaitingSet, Who, are_distinct, choice_in, choice_of, foremost, goes_before, is_in, is_ready}
-use Rattle.apex_laws.proofs.Common.{item_at, ready_entries, sooner, waits_at, waits_for_nothing}
-use Rattle.apex_laws.proofs.Booleans.{by_test, cannot_hold, either_way, is_itself, member_first, member_later, never_found, one_item}
+use Rattle.apex_laws.proofs.Common.{ChoiceIsTheSentence, GoesBefore, InNoWindow, InWindowOf, IsChosen, IsChosenUnder, IsReady, IsReadyOwner, Partition, Process, Table, Wait, WaitingSet, Who, are_distinct, choice_in, choice_of, choice_under, foremost, goes_before, is_in, is_one_ready, is_ready, partition_choice}
+use Rattle.apex_laws.proofs.Common.{is_for_lock, item_at, ready_entries, sooner, waits_at, waits_for_lock, waits_for_nothing}
+use Rattle.apex_laws.proofs.Booleans.{by_test, cannot_hold, either_way, impossible, is_itself, member_first, member_later, never_found, one_item}
 use Rattle.apex_laws.proofs.SetNames.{in_no_set}
 
 -- The choice of a core, as the module and as each partition see it.
 
 -- if the module finds the idle core idle, and the partition of the window finds its choice, the core has its choice
 pub joined_choice : (window : Option ℕ) (partitions : ℕ → Partition) (core : ℕ) (who : Option Who) → InNoWindow window (who ≡ None)
-    → ((number : ℕ) → window ≡ Some number → InWindowOf number window (choice_in number core (partitions number).table ≡ who))
+    → ((number : ℕ) → window ≡ Some number → InWindowOf number window (partition_choice number core (partitions number) ≡ who))
     → choice_of window partitions core ≡ who
 joined_choice None partitions core who idle own = sym idle
 joined_choice (Some number) partitions core who idle own = own number refl refl
@@ -25,35 +25,43 @@ idle_choice (Some number) partitions core who chosen = tt
 
 -- in the windows of a partition the choice is the partition's
 pub own_choice : (window : Option ℕ) (partitions : ℕ → Partition) (core : ℕ) (who : Option Who) (number : ℕ)
-    → choice_of window partitions core ≡ who → InWindowOf number window (choice_in number core (partitions number).table ≡ who)
+    → choice_of window partitions core ≡ who → InWindowOf number window (partition_choice number core (partitions number) ≡ who)
 own_choice None partitions core who number chosen = tt
 own_choice (Some partition) partitions core who number chosen =
-    λ same. subst (λ of. choice_in of core (partitions of).table ≡ who) same chosen
+    λ same. subst (λ of. partition_choice of core (partitions of) ≡ who) same chosen
 
 -- some process is the choice: the window is of its partition, whose choice it is
 pub record IsChoice (window : Option ℕ) (partitions : ℕ → Partition) (core : ℕ) (who : Who) : Type 0 where
   pub of : window ≡ Some who.part
-  pub choice : choice_in who.part core (partitions who.part).table ≡ Some who
+  pub choice : partition_choice who.part core (partitions who.part) ≡ Some who
 
 -- a choice among the processes of a partition is of that partition
-part_of_choice : (number : ℕ) (found : Option (ℕ × Process)) (who : Who)
+part_of_first : (number : ℕ) (found : Option (ℕ × Process)) (who : Who)
     → option_map (λ entry. record { part = number; proc = entry.0 }) found ≡ Some who → number ≡ who.part
-part_of_choice number None who chosen = cc
-part_of_choice number (Some entry) who chosen =
+part_of_first number None who chosen = cc
+part_of_first number (Some entry) who chosen =
     let same : ◌≡◌ {A = Who} (record { part = number; proc = entry.0 }) who = cc in
     ap (λ one. one.part) same
+
+part_of_choice : (number core : ℕ) (owner : Option ℕ) (table : Table) (who : Who) → choice_under number core owner table ≡ Some who → number ≡ who.part
+part_of_choice number core None table who chosen = part_of_first number (foremost (ready_entries core table)) who chosen
+part_of_choice number core (Some owner) table who chosen =
+    by_test (λ (choice : Option Who). choice ≡ Some who → number ≡ who.part) (is_one_ready core (item_at table owner))
+    (Some (record { part = number; proc = owner })) (choice_in number core table)
+    (λ ready is. (let same : ◌≡◌ {A = Who} (record { part = number; proc = owner }) who = one_item is in ap (λ one. one.part) same))
+    (λ not_ready is. part_of_first number (foremost (ready_entries core table)) who is) chosen
 
 -- a process that is the core's choice is the choice of the window's partition
 pub choice_is : (window : Option ℕ) (partitions : ℕ → Partition) (core : ℕ) (who : Who)
     → choice_of window partitions core ≡ Some who → IsChoice window partitions core who
 choice_is None partitions core who chosen = cc
 choice_is (Some number) partitions core who chosen =
-    let same = part_of_choice number (foremost (ready_entries core (partitions number).table)) who chosen in
-    record { of = ap Some same; choice = subst (λ of. choice_in of core (partitions of).table ≡ Some who) same chosen }
+    let same = part_of_choice number core (partitions number).lock.owner (partitions number).table who chosen in
+    record { of = ap Some same; choice = subst (λ of. partition_choice of core (partitions of) ≡ Some who) same chosen }
 
 -- and the other way round
 pub choice_from : (window : Option ℕ) (partitions : ℕ → Partition) (core : ℕ) (who : Who) → window ≡ Some who.part
-    → choice_in who.part core (partitions who.part).table ≡ Some who → choice_of window partitions core ≡ Some who
+    → partition_choice who.part core (partitions who.part) ≡ Some who → choice_of window partitions core ≡ Some who
 choice_from window partitions core who of chosen = rw of chosen
 
 -- if some process is the choice, there is a window
@@ -312,13 +320,7 @@ none_is_foremost core table nobody = by (foremost (ready_entries core table)) re
         let chosen = foremost_is_chosen core table other some in
         absurd (nobody other chosen.is_member chosen.ready)
 
-pub choice_is_the_sentence : ChoiceIsTheSentence
-choice_is_the_sentence core table distinct = (
-  λ entry. (foremost_is_chosen core table entry, chosen_is_foremost core table distinct entry),
-  (nobody_is_ready core table, none_is_foremost core table),
-)
-
--- The caller of a call: it is in its partition's table and is ready.
+-- The choice under an owner of the lock: the owner if it is ready, else the choice among all.
 
 -- a process exists and is ready
 pub record FoundReady (core : ℕ) (found : Option Process) : Type 0 where
@@ -326,10 +328,121 @@ pub record FoundReady (core : ℕ) (found : Option Process) : Type 0 where
   pub is_member : found ≡ Some process
   pub ready : IsReady core process
 
--- the choice of a partition is in its table and is ready
-pub choice_exists : (number core : ℕ) (table : Table) (who : Who) → are_distinct table ≡ true → choice_in number core table ≡ Some who
+-- the test of an owner says what the sentence says
+owner_is_ready : (core : ℕ) (found : Option Process) → is_one_ready core found ≡ true → FoundReady core found
+owner_is_ready core None passes = impossible passes
+owner_is_ready core (Some process) passes = record { process = process; is_member = refl; ready = ready_is core process passes }
+
+-- a process that is found under a number is in the table, with that number
+pub entry_found : (table : Table) (number : ℕ) (process : Process) → item_at table number ≡ Some process → Contains table (number, process)
+entry_found [] number process at = never_found at
+entry_found (entry ∷ entries) number process at =
+    either_way (nat_eq number entry.0)
+    (λ same. (let here : entry.1 ≡ process = one_item (rw same at at) in
+    let number_is : entry.0 ≡ number = sym (eqb-true number entry.0 same) in
+    let is : ◌≡◌ {A = ℕ × Process} entry (number, process) = λ i. (number_is i, here i) in
+    subst (Contains (entry ∷ entries)) is (member_first entry entries)))
+    (λ other. member_later entry (number, process) entries (entry_found entries number process (rw other at at)))
+
+-- in a table of distinct numbers an entry is found under its number
+pub found_entry : (table : Table) → are_distinct table ≡ true → (entry : ℕ × Process) → Contains table entry → item_at table entry.0 ≡ Some entry.1
+found_entry table distinct entry is_member = All-contains (λ one. item_at table one.0 ≡ Some one.1) table entry (at_its_number table distinct) is_member
+
+-- an owner that is in the table and ready passes the test
+ready_owner : (core : ℕ) (table : Table) → are_distinct table ≡ true → (owner : ℕ) → IsReadyOwner core owner table → is_one_ready core (item_at table owner) ≡ true
+ready_owner core table distinct owner (process, is_member, ready) =
+    ap (is_one_ready core) (found_entry table distinct (owner, process) is_member) ∙ is_ready_by core process ready
+
+-- an owner that passes the test is in the table and ready
+owner_ready : (core : ℕ) (table : Table) (owner : ℕ) → is_one_ready core (item_at table owner) ≡ true → IsReadyOwner core owner table
+owner_ready core table owner passes =
+    let is = owner_is_ready core (item_at table owner) passes in
+    (is.process, entry_found table owner is.process is.is_member, is.ready)
+
+-- the choice among all, by its number
+
+-- a choice of this number is of the entry that the fold finds
+first_number : (number : ℕ) (found : Option (ℕ × Process)) (proc : ℕ)
+    → option_map {U = Who} (λ entry. record { part = number; proc = entry.0 }) found ≡ Some (record { part = number; proc = proc })
+    → (entry : ℕ × Process) × (found ≡ Some entry) × (entry.0 ≡ proc)
+first_number number None proc is = never_found is
+first_number number (Some entry) proc is =
+    let same : ◌≡◌ {A = Who} (record { part = number; proc = entry.0 }) (record { part = number; proc = proc }) = one_item is in
+    (entry, refl, ap (λ one. one.proc) same)
+
+first_is_chosen : (number core : ℕ) (table : Table) → are_distinct table ≡ true → (entry : ℕ × Process) → Contains table entry
+    → choice_in number core table ≡ Some (record { part = number; proc = entry.0 }) → IsChosen core table entry
+first_is_chosen number core table distinct entry is_member is =
+    let found = first_number number (foremost (ready_entries core table)) entry.0 is in
+    let chosen = foremost_is_chosen core table found.0 found.1 in
+    subst (IsChosen core table) (one_entry table distinct found.0 entry chosen.is_member is_member found.2) chosen
+
+chosen_is_first : (number core : ℕ) (table : Table) → are_distinct table ≡ true → (entry : ℕ × Process) → IsChosen core table entry
+    → choice_in number core table ≡ Some (record { part = number; proc = entry.0 })
+chosen_is_first number core table distinct entry chosen =
+    ap (option_map {U = Who} (λ one. record { part = number; proc = one.0 })) (chosen_is_foremost core table distinct entry chosen)
+
+-- there is no choice among all exactly if the fold finds none
+not_mapped : (number : ℕ) (found : Option (ℕ × Process)) → ◌≡◌ {A = Option Who} (option_map {U = Who} (λ entry. record { part = number; proc = entry.0 }) found) None → found ≡ None
+not_mapped number None is = refl
+not_mapped number (Some entry) is = never_found (sym is)
+
+-- the choice under an owner
+
+choice_is_under : (number core : ℕ) (owner : Option ℕ) (table : Table) → are_distinct table ≡ true → (entry : ℕ × Process) → Contains table entry
+    → choice_under number core owner table ≡ Some (record { part = number; proc = entry.0 }) → IsChosenUnder core owner table entry
+choice_is_under number core None table distinct entry is_member is =
+    IsChosenUnder.first_runs (λ other owns. never_found owns) (first_is_chosen number core table distinct entry is_member is)
+choice_is_under number core (Some owner) table distinct entry is_member is =
+    by_test (λ (choice : Option Who). choice ≡ Some (record { part = number; proc = entry.0 }) → IsChosenUnder core (Some owner) table entry)
+    (is_one_ready core (item_at table owner)) (Some (record { part = number; proc = owner })) (choice_in number core table)
+    (λ passes is. (let same : ◌≡◌ {A = Who} (record { part = number; proc = owner }) (record { part = number; proc = entry.0 }) = one_item is in
+    let owns : owner ≡ entry.0 = ap (λ one. one.proc) same in
+    let there = owner_is_ready core (item_at table owner) passes in
+    let process : there.process ≡ entry.1 = one_item (sym there.is_member ∙ ap (item_at table) owns ∙ found_entry table distinct entry is_member) in
+    IsChosenUnder.owner_runs (ap Some owns) is_member (subst (IsReady core) process there.ready)))
+    (λ fails is. IsChosenUnder.first_runs
+    (λ other owns ready. true≢false (sym (ready_owner core table distinct owner (subst (λ one. IsReadyOwner core one table) (sym (one_item owns)) ready)) ∙ fails))
+    (first_is_chosen number core table distinct entry is_member is)) is
+
+under_is_choice : (number core : ℕ) (owner : Option ℕ) (table : Table) → are_distinct table ≡ true → (entry : ℕ × Process)
+    → IsChosenUnder core owner table entry → choice_under number core owner table ≡ Some (record { part = number; proc = entry.0 })
+under_is_choice number core owner table distinct entry (IsChosenUnder.owner_runs owns is_member ready) =
+    ap (λ one. choice_under number core one table) owns ∙ rw (ready_owner core table distinct entry.0 (entry.1, is_member, ready)) refl
+under_is_choice number core None table distinct entry (IsChosenUnder.first_runs nobody chosen) = chosen_is_first number core table distinct entry chosen
+under_is_choice number core (Some owner) table distinct entry (IsChosenUnder.first_runs nobody chosen) =
+    rw (cannot_hold (is_one_ready core (item_at table owner)) (λ passes. nobody owner refl (owner_ready core table owner passes)))
+    (chosen_is_first number core table distinct entry chosen)
+
+no_choice_under : (number core : ℕ) (owner : Option ℕ) (table : Table) → choice_under number core owner table ≡ None
+    → (entry : ℕ × Process) → Contains table entry → ¬ IsReady core entry.1
+no_choice_under number core None table none = nobody_is_ready core table (not_mapped number (foremost (ready_entries core table)) none)
+no_choice_under number core (Some owner) table none =
+    by_test (λ (choice : Option Who). choice ≡ None → (entry : ℕ × Process) → Contains table entry → ¬ IsReady core entry.1)
+    (is_one_ready core (item_at table owner)) (Some (record { part = number; proc = owner })) (choice_in number core table)
+    (λ passes none. never_found (sym none)) (λ fails none. nobody_is_ready core table (not_mapped number (foremost (ready_entries core table)) none)) none
+
+under_no_choice : (number core : ℕ) (owner : Option ℕ) (table : Table) → ((entry : ℕ × Process) → Contains table entry → ¬ IsReady core entry.1)
+    → choice_under number core owner table ≡ None
+under_no_choice number core None table nobody = ap (option_map {U = Who} (λ one. record { part = number; proc = one.0 })) (none_is_foremost core table nobody)
+under_no_choice number core (Some owner) table nobody =
+    rw (cannot_hold (is_one_ready core (item_at table owner)) (λ passes. (let is = owner_ready core table owner passes in nobody (owner, is.0) is.1 is.2)))
+    (ap (option_map {U = Who} (λ one. record { part = number; proc = one.0 })) (none_is_foremost core table nobody))
+
+pub choice_is_the_sentence : ChoiceIsTheSentence
+choice_is_the_sentence core table distinct = (
+  λ entry. (foremost_is_chosen core table entry, chosen_is_foremost core table distinct entry),
+  (nobody_is_ready core table, none_is_foremost core table),
+  λ number owner entry is_member. (choice_is_under number core owner table distinct entry is_member, under_is_choice number core owner table distinct entry),
+  λ number owner. (no_choice_under number core owner table, under_no_choice number core owner table),
+)
+
+-- The caller of a call: it is in its partition's table and is ready.
+
+-- the first of a partition is in its table and is ready
+first_exists : (number core : ℕ) (table : Table) (who : Who) → are_distinct table ≡ true → choice_in number core table ≡ Some who
     → FoundReady core (item_at table who.proc)
-choice_exists number core table who distinct chosen = by (foremost (ready_entries core table)) refl chosen
+first_exists number core table who distinct chosen = by (foremost (ready_entries core table)) refl chosen
   where
     by : (first : Option (ℕ × Process)) → foremost (ready_entries core table) ≡ first
         → option_map (λ entry. record { part = number; proc = entry.0 }) first ≡ Some who → FoundReady core (item_at table who.proc)
@@ -337,14 +450,25 @@ choice_exists number core table who distinct chosen = by (foremost (ready_entrie
     by (Some entry) some chosen =
         let same : ◌≡◌ {A = Who} (record { part = number; proc = entry.0 }) who = cc in
         let is = foremost_is_chosen core table entry some in
-        let at : item_at table entry.0 ≡ Some entry.1 = All-contains (λ one. item_at table one.0 ≡ Some one.1) table entry (at_its_number table distinct) is.is_member in
+        let at : item_at table entry.0 ≡ Some entry.1 = found_entry table distinct entry is.is_member in
         record { process = entry.1; is_member = subst (λ number. item_at table number ≡ Some entry.1) (ap (λ one. one.proc) same) at; ready = is.ready }
+
+-- the choice of a partition is in its table and is ready
+pub choice_exists : (number core : ℕ) (owner : Option ℕ) (table : Table) (who : Who) → are_distinct table ≡ true → choice_under number core owner table ≡ Some who
+    → FoundReady core (item_at table who.proc)
+choice_exists number core None table who distinct chosen = first_exists number core table who distinct chosen
+choice_exists number core (Some owner) table who distinct chosen =
+    by_test (λ (choice : Option Who). choice ≡ Some who → FoundReady core (item_at table who.proc)) (is_one_ready core (item_at table owner))
+    (Some (record { part = number; proc = owner })) (choice_in number core table)
+    (λ passes is. (let same : ◌≡◌ {A = Who} (record { part = number; proc = owner }) who = one_item is in
+    subst (λ one. FoundReady core (item_at table one)) (ap (λ one. one.proc) same) (owner_is_ready core (item_at table owner) passes)))
+    (λ fails is. first_exists number core table who distinct is) chosen
 
 -- the choice of a core is in its partition's table and is ready
 pub chosen_exists : (window : Option ℕ) (partitions : ℕ → Partition) (core : ℕ) (who : Who) → are_distinct (partitions who.part).table ≡ true
     → choice_of window partitions core ≡ Some who → FoundReady core (item_at (partitions who.part).table who.proc)
 chosen_exists window partitions core who distinct chosen =
-    choice_exists who.part core (partitions who.part).table who distinct (choice_is window partitions core who chosen).choice
+    choice_exists who.part core (partitions who.part).lock.owner (partitions who.part).table who distinct (choice_is window partitions core who chosen).choice
 
 -- so it waits in no set
 pub ready_waits_not : (core : ℕ) (found : Option Process) (wanted : WaitingSet) → FoundReady core found → waits_at wanted found ≡ true → ⊥
@@ -352,3 +476,14 @@ ready_waits_not core found wanted ready waits =
     let here : waits_at wanted (Some ready.process) ≡ true = subst (λ one. waits_at wanted one ≡ true) ready.is_member waits in
     let wait : is_in wanted ready.process.wait ≡ true = (and_parts ready.process.alive _ here).1 in
     true≢false (sym wait ∙ in_no_set wanted ready.process.wait (ap waits_for_nothing ready.ready.waits))
+
+-- nor for the lock
+pub ready_waits_not_for_lock : (core : ℕ) (found : Option Process) → FoundReady core found → waits_for_lock found ≡ true → ⊥
+ready_waits_not_for_lock core found ready waits =
+    let here : waits_for_lock (Some ready.process) ≡ true = subst (λ one. waits_for_lock one ≡ true) ready.is_member waits in
+    let wait : is_for_lock ready.process.wait ≡ true = (and_parts ready.process.alive _ here).1 in
+    true≢false (sym wait ∙ not_for_lock ready.process.wait (ap waits_for_nothing ready.ready.waits))
+  where
+    not_for_lock : (one : Wait) → waits_for_nothing one ≡ true → is_for_lock one ≡ false
+    not_for_lock Wait.Nothing nothing = refl
+    not_for_lock _ nothing = impossible nothing

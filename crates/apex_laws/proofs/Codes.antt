@@ -50,6 +50,13 @@ of_error Condition.NoSuchProcess = refl
 of_error Condition.ProcessNotOwner = refl
 of_error Condition.LengthOutOfRange = refl
 of_error Condition.HandlerCreated = refl
+of_error Condition.NotNormal = refl
+of_error Condition.NotForInitialising = refl
+of_error Condition.LevelIsGreatest = refl
+of_error Condition.OwnsMutex = refl
+of_error Condition.NotLockOwner = refl
+of_error Condition.OwnsLock = refl
+of_error Condition.ProcessOwnsLock = refl
 
 of_errors : (conditions : List Condition) (one : Code) → IsCodeOf conditions one → is_done (Out.Answer one) ≡ false
 of_errors [] one is = absurd is

@@ -11,8 +11,8 @@ use Rattle.std.specs.Prelude.{◌≤ℤ◌, ◌<ℤ◌, Contains, T, IsTrue}
 use Rattle.std.specs.Str.{bytes_eq}
 use Rattle.apex_types.specs.declared.object_kind.NamedKind.TheVariants as named
 use Rattle.apex_types.specs.declared.object_kind.ObjectKind.TheVariants as kind
-use Rattle.apex_laws.proofs.Common.{Blackboard, Buffer, Configuration, Direction, Discipline, Event, GREATEST_PRIORITY, IsCalledByPeriodic, IsCoreOf, IsDirection, IsFrom, IsMultipleOf, IsObject, IsPeriodic, IsPriority, IsProcess}
-use Rattle.apex_laws.proofs.Common.{IsQueuingPort, IsSamplingPort, IsSuspended, KindIsFull, MayNotWait, Mode, Mutex, NamesNone, NamesNoProcess, ObjectKind, OneIsNamed, Owns, Partition, Process, SamplingPort, Semaphore}
+use Rattle.apex_laws.proofs.Common.{Configuration, Direction, Discipline, GREATEST_PRIORITY, IsCalledByPeriodic, IsCoreOf, IsDirection, IsFrom, IsMultipleOf, IsObject, IsPeriodic, IsPriority, IsProcess}
+use Rattle.apex_laws.proofs.Common.{IsQueuingPort, IsSamplingPort, IsSuspended, KindIsFull, MayNotWait, Mode, Mutex, NamesNone, NamesNoProcess, ObjectKind, OneIsNamed, Owns, Partition, Process, SamplingPort}
 use Rattle.apex_laws.proofs.Common.{Table, TellsDiscipline, Wait, Who, created, direction_number, discipline_number, given_object, has_core, is_between, is_cold_start, is_core, is_full, is_length, is_longer, is_mode, is_negative, is_normal}
 use Rattle.apex_laws.proofs.Common.{is_normal_mode, is_number, is_over, is_owner, is_period, is_periodic, is_priority, is_queuing_port, is_sampling_port, is_source, is_suspended, is_suspension, is_taken, is_time_out, is_warm_start_mode}
 use Rattle.apex_laws.proofs.Common.{item_at, limits_of, may_not_wait, name_in, number_named, number_of, object_limit, objects_of, of_caller, owns_another, owns_mutex, queuing_port, sampling_port, suits_maximum, suits_period, suits_refresh}
@@ -343,7 +343,7 @@ owns_tells partition number =
     )
 
 pub may_not_wait_tells : (who : Who) (partition : Partition) → Tells (may_not_wait who partition) (MayNotWait who partition)
-may_not_wait_tells who partition = tells_either (equal_tells who.proc 0) (owns_tells partition who.proc)
+may_not_wait_tells who partition = tells_either (equal_tells who.proc 0) (tells_either (owns_tells partition who.proc) (owner_tells partition.lock.owner who.proc))
 
 -- the owner of another mutex
 pub second_tells : (partition : Partition) (mutex : ℤ) (number : ℕ)

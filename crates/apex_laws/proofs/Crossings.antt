@@ -1,8 +1,8 @@
 -- What an arrival and a departure do to every process, channel and waiting set is what the sentences say.
-use Rattle.std.proofs.Common.{◌≡◌, ℕ, List, [], true, false, Some, cond, refl, sym, ap, subst, ◌∙◌, true≢false, nat_eq}
+use Rattle.std.proofs.Common.{◌≡◌, ℕ, List, [], true, Some, cond, refl, sym, ap, subst, ◌∙◌, true≢false, nat_eq}
 use Rattle.std.proofs.lemmas.Bool.{and_parts, eqb-true}
-use Rattle.apex_laws.proofs.Common.{Arrive, ArrivalIsTheSentence, AreTied, Channel, Configuration, Content, Crossing, Depart, DepartureIsTheSentence, End, Entry, IsCrossingOf, KeepsOnly, NamesExactly, Partition, Receivers, Senders}
-use Rattle.apex_laws.proofs.Common.{Process, SetsAreInOrder, State, WaitsForOther, Who, arrived, channel_set, departed, is_named, item_at, process_in, time_of, waits_at, without, woken_by, woken_if_named}
+use Rattle.apex_laws.proofs.Common.{Arrive, ArrivalIsTheSentence, Channel, Configuration, Content, Crossing, Depart, DepartureIsTheSentence, End, Entry, IsCrossingOf, KeepsOnly, NamesExactly, Partition, Receivers, Senders}
+use Rattle.apex_laws.proofs.Common.{Process, State, WaitsForOther, Who, arrived, channel_set, departed, is_named, item_at, process_in, time_of, waits_at, without, woken_by, woken_if_named}
 use Rattle.apex_laws.proofs.Booleans.{cannot_hold, is_itself}
 use Rattle.apex_laws.proofs.ChannelContents.{outside_queued}
 use Rattle.apex_laws.proofs.ObjectRules.{crossing_is_the_sentence}

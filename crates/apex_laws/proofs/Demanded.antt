@@ -5,7 +5,7 @@ use Rattle.apex_types.specs.declared.object_kind.ObjectKind.TheVariants as kind
 use Rattle.apex_laws.proofs.Common.{AllEntries, AllHold, AllWaitAt, Answer, AreTied, Ask, Body, Call, CallRecord, CanHave, Channel, ChannelConfigured, Claim, Code, Condition, Configuration, Content, Disp, Effect, EndsAreApart, Entry}
 use Rattle.apex_laws.proofs.Common.{HasOutcome, HasValues, IfDue, InNoWindow, InWindowOf, IsLawful, IsLawfulBody, IsLawfulCall, IsLawfulReturn, IsRunning, IsThrough, IsTied, Messages, Module, NamesExactly, OfChannel, OfPartition, Ordered}
 use Rattle.apex_laws.proofs.Common.{Out, Outcome, Partition, Piece, Queued, QueuingOperation, Read, Receive, Receivers, Request, Ret, Return, ReturnsValues, Sampled, SamplingOperation, Send, Senders, Stamped, State, Tick, WaitingSet}
-use Rattle.apex_laws.proofs.Common.{WakesHere, Who, WindowsAreConfigured, Write, answer_of, answering, appended, call_demands, capacity_of, channel_answer, channel_demands, channel_effect, channel_of, channel_set, choice_in, choice_of}
+use Rattle.apex_laws.proofs.Common.{WakesHere, Who, WindowsAreConfigured, Write, answer_of, answering, appended, call_demands, capacity_of, channel_answer, channel_demands, channel_effect, channel_of, channel_set, choice_of, partition_choice}
 use Rattle.apex_laws.proofs.Common.{conditions_of, demands, due_of, first_waiter, has_channel, has_entry_in, has_partition, is_channel, is_configured, is_named, is_over, is_receiver, is_sender, item_at, module_demands, names_one_of, not_yet}
 use Rattle.apex_laws.proofs.Common.{occupant_of, outcome_demands, outcome_returned, own_call_demands, part, partition_demands, reading_of, received, receiving_discipline, refresh_of, sending_discipline, sent, suits_use, time_of, touched_by}
 use Rattle.apex_laws.proofs.Common.{touches, unmet, use_of, used, used_demands, waiting, waits_at, window_now}
@@ -163,7 +163,7 @@ ChannelsAgree configuration state core body =
 choice_of_all : (configuration : Configuration) (state : State) (core : ℕ) (who : Option Who) → WindowsAreConfigured configuration
     → InNoWindow (window_now configuration state.cores core) (who ≡ None)
     → ((number : ℕ) → IsTrue (has_partition configuration number)
-    → InWindowOf number (window_now configuration state.cores core) (choice_in number core (state.partitions number).table ≡ who))
+    → InWindowOf number (window_now configuration state.cores core) (partition_choice number core (state.partitions number) ≡ who))
     → choice_of (window_now configuration state.cores core) state.partitions core ≡ who
 choice_of_all configuration state core who windows idle own =
     joined_choice (window_now configuration state.cores core) state.partitions core who idle (λ number is. own number (windows core _ number is))
@@ -444,7 +444,7 @@ call_demanded configuration state core call ends tied law number true is touched
     (eqb-true call.who.part number is) (own_call_demanded configuration state core call ends tied law)
 call_demanded configuration state core call ends tied law number false is touched = (
   foreign_window (window_now configuration state.cores core) state.partitions core call.who number
-      (IsRunning number state.cores (state.partitions number).table core call.who)
+      (IsRunning number state.cores (state.partitions number) core call.who)
       (choice_is (window_now configuration state.cores core) state.partitions core call.who law.choice) is,
   (
     foreign_wakes configuration state core call number tied is touched

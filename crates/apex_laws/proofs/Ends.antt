@@ -1,5 +1,5 @@
 -- A caller that sends or receives through a queuing port is at that end of its channel, and ports stay at their ends.
-use Rattle.std.proofs.Common.{◌≡◌, ℕ, List, [], ◌∷◌, ◌++◌, Bool, true, false, cond, not, nat_eq, ℤ, pos, negsuc, Option, Some, None, IsTrue, refl, sym, ap, subst, ◌∙◌, true≢false, ◌&&◌, ◌||◌}
+use Rattle.std.proofs.Common.{◌≡◌, ℕ, List, [], ◌∷◌, ◌++◌, Bool, true, false, cond, not, nat_eq, ℤ, pos, negsuc, Option, Some, None, IsTrue, refl, sym, ap, subst, ◌∙◌, true≢false, ◌&&◌}
 use Rattle.std.proofs.lemmas.Bool.{and_from, and_parts}
 use Rattle.std.specs.List.{list_any}
 use Rattle.std.specs.Prelude.{option_map}

@@ -2,29 +2,33 @@
 -- answer names.
 use Rattle.std.proofs.Common.{◌≡◌, ℕ, List, [], ◌∷◌, ◌++◌, true, false, cond, nat_eq, ℤ, Option, Some, None, is_some, refl, sym, ap, subst, ◌∙◌, true≢false, ◌&&◌, ◌||◌}
 use Rattle.apex_laws.proofs.Common.{AllHold, Answer, Call, Claim, Condition, LetsGoAsAnswered, OnlyDoneLetsGo, Out, Partition, RefusedLeavesObjects, Request, WaitingSet, Who, answer_of, channel_of, conditions_of, each_set, ends_wait, enters}
-use Rattle.apex_laws.proofs.Common.{entries_at, entry_of, is_done, is_named, is_no_error, is_target, is_the_set, is_waiting, names_one_of, objects_by, outcome_demands, set_after, set_of, stop_of, stops, time_of, without}
-use Rattle.apex_laws.proofs.Common.{CoreState}
+use Rattle.apex_laws.proofs.Common.{entries_at, entry_of, is_done, is_named, is_no_error, is_target, is_the_set, is_waiting, names_one_of, objects_by, outcome_demands, set_after, set_of, stop_of, stops, without}
+use Rattle.apex_laws.proofs.Common.{CoreState, IsSoundPart, item_at, waits_for_lock}
 use Rattle.apex_laws.proofs.Booleans.{cannot_hold, impossible, never_found, not_first, or_false}
 use Rattle.apex_laws.proofs.Codes.{no_error_is_done}
 use Rattle.apex_laws.proofs.Objects.{Leaves, sets_stay}
 use Rattle.apex_laws.proofs.PartObjects.{stops_nobody}
 use Rattle.apex_laws.proofs.Restarts.{done_goes_on, goes_on, not_done_goes_on, restarts_none}
-use Rattle.apex_laws.proofs.SoundParts.{demands_none, WaitsInSet}
-use Rattle.apex_laws.proofs.Waiters.{none_leaves, without_same}
+use Rattle.apex_laws.proofs.SoundParts.{demands_none, WaitsForLock, WaitsInSet}
+use Rattle.apex_laws.proofs.Waiters.{all_weaker, none_leaves, without_same}
 use Rattle.apex_laws.proofs.WaitersOf.{not_named}
-use Rattle.apex_laws.proofs.Wakes.{answer_quiet}
+use Rattle.apex_laws.proofs.Wakes.{answer_quiet, lock_waits_not}
 
 -- claims
 
--- a claim that is not NO_ERROR names no process of the caller's partition
-names_nobody : (number : ℕ) (cores : List CoreState) (core : ℕ) (partition : Partition) (caller : Who) (asked : Request) (claim : Claim) (conditions : List Condition) (channel : Option ℕ)
+-- a claim that is not NO_ERROR names no process of the caller's partition but one that waits for the lock
+names_awaiting : (number place : ℕ) (cores : List CoreState) (core : ℕ) (partition : Partition) (caller : Who) (asked : Request) (claim : Claim) → IsSoundPart number place partition
+    → (conditions : List Condition) (channel : Option ℕ)
     → AllHold (outcome_demands conditions channel number asked (answer_of cores core caller partition asked) claim) → is_no_error claim.out ≡ false
-    → (who : Who) → who.part ≡ number → is_named who claim.woken ≡ false
-names_nobody number cores core partition caller asked claim (condition ∷ conditions) channel hold not_done who here = ap (is_named who) hold.1.1.1.1.0
-names_nobody number cores core partition caller asked claim [] (Some channel) hold not_done who here =
-    not_named who claim.woken (subst (λ part. names_one_of part claim.woken ≡ false) (sym here) hold.1.1.0)
-names_nobody number cores core partition caller asked claim [] None hold not_done who here =
-    hold.1.1.1.1.0 who ∙ ap (is_named who) (answer_quiet cores core caller partition asked (ap is_no_error (sym hold.1.0) ∙ not_done))
+    → (who : Who) → who.part ≡ number → is_named who claim.woken ≡ true → waits_for_lock (item_at partition.table who.proc) ≡ true
+names_awaiting number place cores core partition caller asked claim sound (condition ∷ conditions) channel hold not_done who here named =
+    absurd (true≢false (sym named ∙ ap (is_named who) hold.1.1.1.1.0))
+names_awaiting number place cores core partition caller asked claim sound [] (Some channel) hold not_done who here named =
+    absurd (true≢false (sym named ∙ not_named who claim.woken (subst (λ part. names_one_of part claim.woken ≡ false) (sym here) hold.1.1.0)))
+names_awaiting number place cores core partition caller asked claim sound [] None hold not_done who here named =
+    answer_quiet (λ one. waits_for_lock (item_at partition.table one.proc) ≡ true) cores core caller partition asked
+    (all_weaker (WaitsForLock number partition) (λ entry. waits_for_lock (item_at partition.table entry.who.proc) ≡ true) (λ entry is_member. is_member.1) partition.lock.waiters sound.lock.is_member)
+    (ap is_no_error (sym hold.1.0) ∙ not_done) who (sym (hold.1.1.1.1.0 who) ∙ named)
 
 -- a claim of a call through no channel names the processes that the service's answer names
 names_as_answered : (number : ℕ) (asked : Request) (answer : Answer) (claim : Claim) (conditions : List Condition) (channel : Option ℕ) → conditions ≡ [] → channel ≡ None
@@ -40,8 +44,9 @@ only_done_lets_go configuration number place core cores partition call is not_do
     let stays : without (ends_wait call) (entries_at partition wanted) ≡ entries_at partition wanted =
     none_leaves (WaitsInSet number wanted partition) (ends_wait call)
     (λ entry is_member. goes_on call entry.who (restarts_none call entry.who.part no_restart)
-    (names_nobody number cores core partition call.who call.request call.claim (conditions_of configuration call.who partition call.request) (channel_of partition call.request)
-    is.demands.1.1.1.1.1 not_done entry.who is_member.0)
+    (cannot_hold (is_named entry.who call.claim.woken) (λ named. lock_waits_not wanted (item_at partition.table entry.who.proc)
+    (names_awaiting number place cores core partition call.who call.request call.claim is.sound (conditions_of configuration call.who partition call.request) (channel_of partition call.request)
+    is.demands.1.1.1.1.1 not_done entry.who is_member.0 named) is_member.1))
     (not_first (is_no_error call.claim.out) (nat_eq entry.who.part call.who.part && is_target (stop_of call.request) entry.who.proc) not_done))
     (entries_at partition wanted) (is.sound.is_member wanted) in
     λ i. cond (enters call wanted) (stays i ++ entry_of place call ∷ []) (stays i)
@@ -68,7 +73,7 @@ lets_go_as_answered configuration number place core cores partition call is no_e
 -- the objects
 
 -- what isn't done doesn't wait, and isn't NO_ERROR
-not_done_waits_not : (given : Out) → is_done given ≡ false → is_waiting given ≡ false
+pub not_done_waits_not : (given : Out) → is_done given ≡ false → is_waiting given ≡ false
 not_done_waits_not Out.Waits off = absurd (true≢false off)
 not_done_waits_not Out.Never off = refl
 not_done_waits_not (Out.Answer code) off = refl

@@ -5,13 +5,14 @@ use Rattle.std.proofs.lemmas.List.{append-nil}
 use Rattle.apex_types.specs.declared.object_kind.ObjectKind.TheVariants as kind
 use Rattle.apex_types.specs.declared.operation.ObjectOperation.TheVariants as on
 use Rattle.apex_laws.proofs.Common.{AllEntries, Answer, AreTied, Body, Call, CallerOperation, CallRecord, Claim, Condition, Configuration, CoreState, Disp, Entry, GREATEST_NUMBER, HasOutcome, HasValue, IsAnswered, IsLawfulBody, IsLawfulCall}
-use Rattle.apex_laws.proofs.Common.{Mutex, ObjectKind, Out, Partition, Process, ProcessOperation, Request, Ret, State, Table, Tick, Wait, WaitingSet, Who, adjusted, answer_of, are_distinct, by_mutex, called, caller_after, channel_of}
+use Rattle.apex_laws.proofs.Common.{Mutex, ObjectKind, Out, Partition, Process, ProcessOperation, Request, Ret, State, Table, Tick, WaitingSet, Who, adjusted, answer_of, are_distinct, by_mutex, called, caller_after, channel_of}
 use Rattle.apex_laws.proofs.Common.{conditions_of, created, created_by, due_of_call, each_item, each_set, ends_wait, enters, entries_at, entries_at_end, entries_in, entry_of, entry_wait, first_core, given_object, is_done, is_free, is_in}
 use Rattle.apex_laws.proofs.Common.{is_named, is_new, is_number, is_owner, is_the_set, is_waiting, item_at, new_process, numbered, objects_by, objects_called, objects_of, on_ownership, partition_by, partition_called, period_of, returned}
 use Rattle.apex_laws.proofs.Common.{set_after, set_by, set_in, set_of, start_conditions, started, ticked, time_of, time_out_of, wait_in, wait_of, waits_at, waits_for_normal, window_now, without, woken_if_named}
-use Rattle.apex_laws.proofs.Common.{Arrive, Depart, StartCondition, delay_kept, message_of}
+use Rattle.apex_laws.proofs.Common.{Arrive, Depart, Lock, StartCondition, delay_kept, Effect, LockOperation, enters_lock, first_for_lock, given_up, is_for_lock, is_of_lock, lock_by, lock_called, lock_effect, lock_left, lock_stopped, lock_waiters_after, locked_again, locked_from, natural_of, not_locked, passed_on, passed_to, unlocked_once, message_of, waits_for_lock}
+use Rattle.apex_laws.proofs.Awaited.{Awaited, awaits, begins, goes_in, is_for, lock_awaits, not_for_normal, ready_awaits_not, set_awaits}
 use Rattle.apex_laws.proofs.Booleans.{by_test, cannot_hold, either_way, impossible, is_itself, never_found}
-use Rattle.apex_laws.proofs.Choices.{chosen_exists, FoundReady, ready_waits_not}
+use Rattle.apex_laws.proofs.Choices.{chosen_exists, FoundReady}
 use Rattle.apex_laws.proofs.Codes.{done_is_lawful}
 use Rattle.apex_laws.proofs.Ends.{first_empty, no_condition}
 use Rattle.apex_laws.proofs.Objects.{each_set_has, objects_have}
@@ -26,28 +27,23 @@ use Rattle.apex_laws.proofs.Wakes.{found}
 -- a process that waits
 
 -- a process that waits in a set exists and is alive
-pub record FoundWaiting (wanted : WaitingSet) (found : Option Process) : Type 0 where
+pub record FoundWaiting (wanted : Awaited) (found : Option Process) : Type 0 where
   pub process : Process
   pub is_member : found ≡ Some process
   pub alive : process.alive ≡ true
-  pub waits : is_in wanted process.wait ≡ true
+  pub waits : is_for wanted process.wait ≡ true
 
-pub waits_exists : (wanted : WaitingSet) (found : Option Process) → waits_at wanted found ≡ true → FoundWaiting wanted found
+pub waits_exists : (wanted : Awaited) (found : Option Process) → awaits wanted found ≡ true → FoundWaiting wanted found
 waits_exists wanted None waits = impossible waits
 waits_exists wanted (Some process) waits =
-    let parts = and_parts process.alive (is_in wanted process.wait) waits in
+    let parts = and_parts process.alive (is_for wanted process.wait) waits in
     record { process = process; is_member = refl; alive = parts.0; waits = parts.1 }
 
 -- a process that is found goes on waiting if it stays alive and keeps its wait
-goes_on : (wanted : WaitingSet) (found : Option Process) (new : Process) → found ≡ Some new → new.alive ≡ true → is_in wanted new.wait ≡ true → waits_at wanted found ≡ true
-goes_on wanted found new is alive waits = subst (λ one. waits_at wanted one ≡ true) (sym is) (and_from _ _ alive waits)
+goes_on : (wanted : Awaited) (found : Option Process) (new : Process) → found ≡ Some new → new.alive ≡ true → is_for wanted new.wait ≡ true → awaits wanted found ≡ true
+goes_on wanted found new is alive waits = subst (λ one. awaits wanted one ≡ true) (sym is) (and_from _ _ alive waits)
 
 -- what a call sets in a process leaves it alive, and leaves its wait
-
--- a wait in a set isn't the wait for NORMAL
-not_for_normal : (wanted : WaitingSet) (one : Wait) → is_in wanted one ≡ true → waits_for_normal one ≡ false
-not_for_normal wanted (Wait.At set due) waits = refl
-not_for_normal wanted _ waits = impossible waits
 
 -- no start is asked for this process
 abbrev pub IsNotStarted : Request → ℕ → Type 0
@@ -152,13 +148,13 @@ calls_ready configuration state core _ tied law number = tt
 
 -- what such a call sets leaves a waiting process alive and waiting
 adjusted_waits : (configuration : Configuration) (cores : List CoreState) (partition : Partition) (place period core : ℕ) (call : CallRecord) → IsReadyCall configuration partition core call
-    → (number : ℕ) (x : Process) (wanted : WaitingSet) → item_at partition.table number ≡ Some x → x.alive ≡ true → is_in wanted x.wait ≡ true
-    → ((adjusted place period cores partition call number x).alive ≡ true) × (is_in wanted (adjusted place period cores partition call number x).wait ≡ true)
+    → (number : ℕ) (x : Process) (wanted : Awaited) → item_at partition.table number ≡ Some x → x.alive ≡ true → is_for wanted x.wait ≡ true
+    → ((adjusted place period cores partition call number x).alive ≡ true) × (is_for wanted (adjusted place period cores partition call number x).wait ≡ true)
 adjusted_waits configuration cores partition place period core call ready number x wanted at alive waits =
-    by_test (λ (y : Process). (y.alive ≡ true) × (is_in wanted y.wait ≡ true)) (is_done call.claim.out) (set_by place period cores partition call.who.proc call.request number x) x
+    by_test (λ (y : Process). (y.alive ≡ true) × (is_for wanted y.wait ≡ true)) (is_done call.claim.out) (set_by place period cores partition call.who.proc call.request number x) x
     (λ done. (let starts = not_started configuration call.who partition call.request number x at alive (ready.none done) in (
       set_by_alive place period cores partition call.who.proc call.request number x alive,
-      ap (is_in wanted) (set_by_wait place period cores partition call.who.proc call.request number x starts (not_for_normal wanted x.wait waits)) ∙ waits,
+      ap (is_for wanted) (set_by_wait place period cores partition call.who.proc call.request number x starts (not_for_normal wanted x.wait waits)) ∙ waits,
     ))) (λ not_done. (alive, waits))
 
 -- a process that is found in a table is found in a longer table too
@@ -184,18 +180,18 @@ leaves (Call call) one = ends_wait call one
 
 -- a process of the caller's partition that the call doesn't wake or stop, and that isn't the caller
 called_waits : (configuration : Configuration) (cores : List CoreState) (partition : Partition) (place now core : ℕ) (call : CallRecord) → IsReadyCall configuration partition core call
-    → (number : ℕ) (x : Process) (wanted : WaitingSet) → item_at partition.table number ≡ Some x → x.alive ≡ true → is_in wanted x.wait ≡ true
+    → (number : ℕ) (x : Process) (wanted : Awaited) → item_at partition.table number ≡ Some x → x.alive ≡ true → is_for wanted x.wait ≡ true
     → nat_eq number call.who.proc ≡ false → ends_wait call (record { part = call.who.part; proc = number }) ≡ false
     → let new = called place now (period_of configuration call.who.part) cores partition call number x in
-    (new.alive ≡ true) × (is_in wanted new.wait ≡ true)
+    (new.alive ≡ true) × (is_for wanted new.wait ≡ true)
 called_waits configuration cores partition place now core call ready number x wanted at alive waits other stays =
     let named = not_named call (record { part = call.who.part; proc = number }) stays in
     let stopped = not_stopped call (record { part = call.who.part; proc = number }) stays in
     rw (other, stopped, named) (adjusted_waits configuration cores partition place (period_of configuration call.who.part) core call ready number x wanted at alive waits)
 
 -- a process that a record of others doesn't name
-woken_waits : (place : ℕ) (message : List ℕ) (woken : List Who) (table : Table) (who : Who) (wanted : WaitingSet) → is_named who woken ≡ false
-    → waits_at wanted (item_at table who.proc) ≡ true → waits_at wanted (item_at (woken_table place who.part message woken table) who.proc) ≡ true
+woken_waits : (place : ℕ) (message : List ℕ) (woken : List Who) (table : Table) (who : Who) (wanted : Awaited) → is_named who woken ≡ false
+    → awaits wanted (item_at table who.proc) ≡ true → awaits wanted (item_at (woken_table place who.part message woken table) who.proc) ≡ true
 woken_waits place message woken table who wanted named waits =
     let old = waits_exists wanted (item_at table who.proc) waits in
     let change : ℕ → Process → Process = λ number process. woken_if_named place message woken (record { part = who.part; proc = number }) process in
@@ -203,30 +199,30 @@ woken_waits place message woken table who wanted named waits =
     (rw named old.alive) (rw named old.waits)
 
 -- a process goes on waiting at a record that doesn't end its wait
-pub keeps_waiting : (configuration : Configuration) (cores : List CoreState) (place core : ℕ) (body : Body) (partition : Partition) (who : Who) (wanted : WaitingSet)
-    → CallsReady configuration core who.part body partition → leaves body who ≡ false → waits_at wanted (item_at partition.table who.proc) ≡ true
-    → waits_at wanted (item_at (partition_by configuration cores place core who.part body partition).table who.proc) ≡ true
-keeps_waiting configuration cores place core (Disp one) partition who wanted ready stays waits = waits
-keeps_waiting configuration cores place core (Tick woken) partition who wanted ready stays waits =
+pub keeps_awaiting : (configuration : Configuration) (cores : List CoreState) (place core : ℕ) (body : Body) (partition : Partition) (who : Who) (wanted : Awaited)
+    → CallsReady configuration core who.part body partition → leaves body who ≡ false → awaits wanted (item_at partition.table who.proc) ≡ true
+    → awaits wanted (item_at (partition_by configuration cores place core who.part body partition).table who.proc) ≡ true
+keeps_awaiting configuration cores place core (Disp one) partition who wanted ready stays waits = waits
+keeps_awaiting configuration cores place core (Tick woken) partition who wanted ready stays waits =
     let old = waits_exists wanted (item_at partition.table who.proc) waits in
     let change = ticked place who.part woken in
     goes_on wanted (item_at (each_item change partition.table) who.proc) (change who.proc old.process) (turns_each change partition.table who.proc old.process old.is_member)
     (rw stays old.alive) (rw stays old.waits)
-keeps_waiting configuration cores place core (Ret ret) partition who wanted ready stays waits =
+keeps_awaiting configuration cores place core (Ret ret) partition who wanted ready stays waits =
     let old = waits_exists wanted (item_at partition.table who.proc) waits in
     let change = returned ret.who.proc in
-    let new = by_test (λ (y : Process). (y.alive ≡ true) × (is_in wanted y.wait ≡ true)) (nat_eq who.proc ret.who.proc) (record old.process { due = None }) old.process
+    let new = by_test (λ (y : Process). (y.alive ≡ true) × (is_for wanted y.wait ≡ true)) (nat_eq who.proc ret.who.proc) (record old.process { due = None }) old.process
     (λ own. (old.alive, old.waits)) (λ other. (old.alive, old.waits)) in
-    return_case (λ next. waits_at wanted (item_at next.table who.proc) ≡ true) configuration cores place core who.part ret partition
+    return_case (λ next. awaits wanted (item_at next.table who.proc) ≡ true) configuration cores place core who.part ret partition
     (goes_on wanted (item_at (each_item change partition.table) who.proc) (change who.proc old.process) (turns_each change partition.table who.proc old.process old.is_member) new.0 new.1) waits
-keeps_waiting configuration cores place core (Call call) partition who wanted ready stays waits =
+keeps_awaiting configuration cores place core (Call call) partition who wanted ready stays waits =
     let old = waits_exists wanted (item_at partition.table who.proc) waits in
     let table = partition.table in
     either_way (nat_eq call.who.part who.part)
     (λ own. (let here : call.who.part ≡ who.part = eqb-true call.who.part who.part own in
     let same : who ≡ record { part = call.who.part; proc = who.proc } = same_who who (record { part = call.who.part; proc = who.proc }) (sym here) refl in
-    let other : nat_eq who.proc call.who.proc ≡ false = cannot_hold (nat_eq who.proc call.who.proc) (λ caller_waits. ready_waits_not core (item_at table call.who.proc) wanted (ready own).ready
-    (subst (λ number. waits_at wanted (item_at table number) ≡ true) (eqb-true who.proc call.who.proc caller_waits) waits)) in
+    let other : nat_eq who.proc call.who.proc ≡ false = cannot_hold (nat_eq who.proc call.who.proc) (λ caller_waits. ready_awaits_not core (item_at table call.who.proc) wanted (ready own).ready
+    (subst (λ number. awaits wanted (item_at table number) ≡ true) (eqb-true who.proc call.who.proc caller_waits) waits)) in
     let new = called_waits configuration cores partition place (time_of cores core) core call (ready own) who.proc old.process wanted old.is_member old.alive old.waits other
     (subst (λ one. ends_wait call one ≡ false) same stays) in
     let change = called place (time_of cores core) (period_of configuration call.who.part) cores partition call in
@@ -234,9 +230,9 @@ keeps_waiting configuration cores place core (Call call) partition who wanted re
     rw (own, not_restarted call who (sym here) stays) (goes_on wanted (item_at (each_item change table ++ more) who.proc) (change who.proc old.process)
     (found_changed change table more who.proc old.process old.is_member) new.0 new.1)))
     (λ foreign. rw foreign (woken_waits place (message_of call.request) call.claim.woken table who wanted (not_named call who stays) waits))
-keeps_waiting configuration cores place core (Arrive crossing) partition who wanted ready stays waits =
+keeps_awaiting configuration cores place core (Arrive crossing) partition who wanted ready stays waits =
     woken_waits place crossing.message crossing.woken partition.table who wanted stays waits
-keeps_waiting configuration cores place core (Depart crossing) partition who wanted ready stays waits = woken_waits place [] crossing.woken partition.table who wanted stays waits
+keeps_awaiting configuration cores place core (Depart crossing) partition who wanted ready stays waits = woken_waits place [] crossing.woken partition.table who wanted stays waits
 
 -- a caller that waits
 
@@ -245,26 +241,44 @@ in_set : (wanted : WaitingSet) (set : Option WaitingSet) (due : Option ℕ) → 
 in_set wanted None due = refl
 in_set wanted (Some set) due = refl
 
-pub begun_in : (wanted : WaitingSet) (asked : Request) (chan : Option ℕ) (now : ℕ) (x : Process) → is_in wanted (wait_of asked chan now x) ≡ is_the_set wanted (set_of asked chan)
+begun_in : (wanted : WaitingSet) (asked : Request) (chan : Option ℕ) (now : ℕ) (x : Process) → is_in wanted (wait_of asked chan now x) ≡ is_the_set wanted (set_of asked chan)
 begun_in wanted (Request.Caller (CallerOperation.TimedWait (pos delay))) chan now x = refl
 begun_in wanted (Request.Caller (CallerOperation.TimedWait (negsuc n))) chan now x = refl
 begun_in wanted (Request.Caller CallerOperation.PeriodicWait) chan now x = refl
 begun_in wanted (Request.Caller (CallerOperation.SuspendSelf time_out)) chan now x = refl
+begun_in wanted (Request.Preemption operation) chan now x = refl
 begun_in wanted asked chan now x = in_set wanted (set_of asked chan) (due_of_call (time_out_of asked) now)
 
+-- and is for the lock exactly if the call is of the lock
+in_no_lock : (set : Option WaitingSet) (due : Option ℕ) → is_for_lock (wait_in set due) ≡ false
+in_no_lock None due = refl
+in_no_lock (Some set) due = refl
+
+begun_for_lock : (asked : Request) (chan : Option ℕ) (now : ℕ) (x : Process) → is_for_lock (wait_of asked chan now x) ≡ is_of_lock asked
+begun_for_lock (Request.Caller (CallerOperation.TimedWait (pos delay))) chan now x = refl
+begun_for_lock (Request.Caller (CallerOperation.TimedWait (negsuc n))) chan now x = refl
+begun_for_lock (Request.Caller CallerOperation.PeriodicWait) chan now x = refl
+begun_for_lock (Request.Caller (CallerOperation.SuspendSelf time_out)) chan now x = refl
+begun_for_lock (Request.Preemption operation) chan now x = refl
+begun_for_lock asked chan now x = in_no_lock (set_of asked chan) (due_of_call (time_out_of asked) now)
+
+pub begun_for : (wanted : Awaited) (asked : Request) (chan : Option ℕ) (now : ℕ) (x : Process) → is_for wanted (wait_of asked chan now x) ≡ begins wanted asked chan
+begun_for (Awaited.TheSet wanted) asked chan now x = begun_in wanted asked chan now x
+begun_for Awaited.TheLock asked chan now x = begun_for_lock asked chan now x
+
 -- the caller after a call that waits
-waiting_caller : (place now : ℕ) (call : CallRecord) (x : Process) (wanted : WaitingSet) (given : Out) → call.claim.out ≡ given → is_waiting given ≡ true → x.alive ≡ true
-    → is_the_set wanted (set_of call.request call.claim.chan) ≡ true
-    → ((caller_after place now call x).alive ≡ true) × (is_in wanted (caller_after place now call x).wait ≡ true)
-waiting_caller place now call x wanted Out.Waits given waits alive is = rw given (alive, begun_in wanted call.request call.claim.chan now x ∙ is)
+waiting_caller : (place now : ℕ) (call : CallRecord) (x : Process) (wanted : Awaited) (given : Out) → call.claim.out ≡ given → is_waiting given ≡ true → x.alive ≡ true
+    → begins wanted call.request call.claim.chan ≡ true
+    → ((caller_after place now call x).alive ≡ true) × (is_for wanted (caller_after place now call x).wait ≡ true)
+waiting_caller place now call x wanted Out.Waits given waits alive is = rw given (alive, begun_for wanted call.request call.claim.chan now x ∙ is)
 waiting_caller place now call x wanted _ given waits alive is = impossible waits
 
-pub entered_waits : (configuration : Configuration) (cores : List CoreState) (place core : ℕ) (call : CallRecord) (partition : Partition) → IsReadyCall configuration partition core call
-    → (wanted : WaitingSet) → enters call wanted ≡ true
-    → waits_at wanted (item_at (partition_by configuration cores place core call.who.part (Call call) partition).table call.who.proc) ≡ true
-entered_waits configuration cores place core call partition caller wanted enters =
+pub entered_awaits : (configuration : Configuration) (cores : List CoreState) (place core : ℕ) (call : CallRecord) (partition : Partition) → IsReadyCall configuration partition core call
+    → (wanted : Awaited) → goes_in wanted call ≡ true
+    → awaits wanted (item_at (partition_by configuration cores place core call.who.part (Call call) partition).table call.who.proc) ≡ true
+entered_awaits configuration cores place core call partition caller wanted enters =
     let ready = caller.ready in
-    let parts = and_parts (is_waiting call.claim.out) (is_the_set wanted (set_of call.request call.claim.chan)) enters in
+    let parts = and_parts (is_waiting call.claim.out) (begins wanted call.request call.claim.chan) enters in
     let period = period_of configuration call.who.part in
     let changed = adjusted place period cores partition call call.who.proc ready.process in
     let alive : changed.alive ≡ true = by_test (λ (y : Process). y.alive ≡ true) (is_done call.claim.out) (set_by place period cores partition call.who.proc call.request call.who.proc ready.process) ready.process
@@ -275,6 +289,38 @@ entered_waits configuration cores place core call partition caller wanted enters
     let caller : change call.who.proc ready.process ≡ caller_after place (time_of cores core) call changed = rw (is_itself call.who.proc) refl in
     rw (is_itself call.who.part, waiting_goes_on call parts.0) (goes_on wanted (item_at (each_item change partition.table ++ created_by (first_core configuration call.who.part) call call.request) call.who.proc)
     (caller_after place (time_of cores core) call changed) (is ∙ ap Some caller) new.0 new.1)
+
+-- so it is with the sets
+
+pub keeps_waiting : (configuration : Configuration) (cores : List CoreState) (place core : ℕ) (body : Body) (partition : Partition) (who : Who) (wanted : WaitingSet)
+    → CallsReady configuration core who.part body partition → leaves body who ≡ false → waits_at wanted (item_at partition.table who.proc) ≡ true
+    → waits_at wanted (item_at (partition_by configuration cores place core who.part body partition).table who.proc) ≡ true
+keeps_waiting configuration cores place core body partition who wanted ready stays waits =
+    sym (set_awaits wanted (item_at (partition_by configuration cores place core who.part body partition).table who.proc))
+    ∙ keeps_awaiting configuration cores place core body partition who (Awaited.TheSet wanted) ready stays (set_awaits wanted (item_at partition.table who.proc) ∙ waits)
+
+pub entered_waits : (configuration : Configuration) (cores : List CoreState) (place core : ℕ) (call : CallRecord) (partition : Partition) → IsReadyCall configuration partition core call
+    → (wanted : WaitingSet) → enters call wanted ≡ true
+    → waits_at wanted (item_at (partition_by configuration cores place core call.who.part (Call call) partition).table call.who.proc) ≡ true
+entered_waits configuration cores place core call partition caller wanted enters =
+    sym (set_awaits wanted (item_at (partition_by configuration cores place core call.who.part (Call call) partition).table call.who.proc))
+    ∙ entered_awaits configuration cores place core call partition caller (Awaited.TheSet wanted) enters
+
+-- and with the lock
+
+pub keeps_waiting_for_lock : (configuration : Configuration) (cores : List CoreState) (place core : ℕ) (body : Body) (partition : Partition) (who : Who)
+    → CallsReady configuration core who.part body partition → leaves body who ≡ false → waits_for_lock (item_at partition.table who.proc) ≡ true
+    → waits_for_lock (item_at (partition_by configuration cores place core who.part body partition).table who.proc) ≡ true
+keeps_waiting_for_lock configuration cores place core body partition who ready stays waits =
+    sym (lock_awaits (item_at (partition_by configuration cores place core who.part body partition).table who.proc))
+    ∙ keeps_awaiting configuration cores place core body partition who Awaited.TheLock ready stays (lock_awaits (item_at partition.table who.proc) ∙ waits)
+
+pub entered_waits_for_lock : (configuration : Configuration) (cores : List CoreState) (place core : ℕ) (call : CallRecord) (partition : Partition) → IsReadyCall configuration partition core call
+    → enters_lock call ≡ true
+    → waits_for_lock (item_at (partition_by configuration cores place core call.who.part (Call call) partition).table call.who.proc) ≡ true
+entered_waits_for_lock configuration cores place core call partition caller enters =
+    sym (lock_awaits (item_at (partition_by configuration cores place core call.who.part (Call call) partition).table call.who.proc))
+    ∙ entered_awaits configuration cores place core call partition caller Awaited.TheLock enters
 
 -- The waiting sets of a partition after a record: what holds of each set before it, and what then holds of each set.
 
@@ -305,6 +351,14 @@ pub same_sets : (partition : Partition) (table : Table) (wanted : WaitingSet) �
 same_sets partition table wanted = ap (λ objects. entries_in (entries_at_end wanted.kind wanted.end) (item_at objects wanted.number)) (same wanted.kind)
   where
     same : (one : ObjectKind) → objects_of (record partition { table = table }) one ≡ objects_of partition one
+    same kind.Buffer = refl
+    same _ = refl
+
+-- nor does its lock
+pub same_sets_with : (partition : Partition) (lock : Lock) (table : Table) (wanted : WaitingSet) → entries_at (record partition { lock = lock; table = table }) wanted ≡ entries_at partition wanted
+same_sets_with partition lock table wanted = ap (λ objects. entries_in (entries_at_end wanted.kind wanted.end) (item_at objects wanted.number)) (same wanted.kind)
+  where
+    same : (one : ObjectKind) → objects_of (record partition { lock = lock; table = table }) one ≡ objects_of partition one
     same kind.Buffer = refl
     same _ = refl
 
@@ -340,7 +394,7 @@ one_set_after Before After configuration cores place core number (Ret ret) parti
     return_case (λ next. After (entries_at next wanted)) configuration cores place core number ret partition
     (subst After (sym (same_sets partition (each_item (returned ret.who.proc) partition.table) wanted)) after) after
 one_set_after Before After configuration cores place core number (Tick woken) partition wanted nobody change foreign before =
-    subst After (sym (same_sets (each_set (set_after place (Tick woken)) partition) (each_item (ticked place number woken) partition.table) wanted))
+    subst After (sym (same_sets_with (each_set (set_after place (Tick woken)) partition) (lock_left place (Tick woken) partition.lock) (each_item (ticked place number woken) partition.table) wanted))
     (each_set_has After nobody (set_after place (Tick woken)) partition wanted (change (λ none. none) (entries_at partition wanted) before))
 one_set_after Before After configuration cores place core number (Call call) partition wanted nobody change foreign before =
     let objects : Partition = cond (is_done call.claim.out) (objects_by configuration call.who call.claim.val call.request partition) partition in
@@ -354,6 +408,60 @@ one_set_after Before After configuration cores place core number (Arrive crossin
     subst After (sym (same_sets partition (woken_table place number crossing.message crossing.woken partition.table) wanted)) (foreign tt before)
 one_set_after Before After configuration cores place core number (Depart crossing) partition wanted nobody change foreign before =
     subst After (sym (same_sets partition (woken_table place number [] crossing.woken partition.table) wanted)) (foreign tt before)
+
+-- the set of the lock after a record
+
+-- each entry of the set after a record of the partition: one that was in it and stays, or the caller's that enters
+abbrev pub EntersLockWith : ℕ → Body → (Entry → Type 0) → Type 0
+EntersLockWith place (Call call) Then = enters_lock call ≡ true → Then (entry_of place call)
+EntersLockWith place _ Then = Unit {0}
+
+-- no operation changes who waits: the record does
+passed_waiters : (first : Option Entry) (lock : Lock) → (passed_to first lock).waiters ≡ lock.waiters
+passed_waiters None lock = refl
+passed_waiters (Some waiter) lock = refl
+
+pub stopped_waiters : (number : ℕ) (lock : Lock) → (lock_stopped number lock).waiters ≡ lock.waiters
+stopped_waiters number lock =
+    by_test (λ (next : Lock). next.waiters ≡ lock.waiters) (is_owner lock.owner number) (passed_on lock) lock (λ owns. passed_waiters (first_for_lock lock) lock) (λ other. refl)
+
+locked_waiters : (caller : ℕ) (lock : Lock) (owner : Option ℕ) → (locked_from owner caller lock).next.waiters ≡ lock.waiters
+locked_waiters caller lock None = refl
+locked_waiters caller lock (Some owner) =
+    by_test (λ (effect : Effect Lock). effect.next.waiters ≡ lock.waiters) (nat_eq owner caller) (locked_again lock) (not_locked lock) (λ own. refl) (λ other. refl)
+
+effect_waiters : (caller : ℕ) (operation : LockOperation) (lock : Lock) → (lock_effect caller operation lock).next.waiters ≡ lock.waiters
+effect_waiters caller LockOperation.Lock lock = locked_waiters caller lock lock.owner
+effect_waiters caller LockOperation.Unlock lock =
+    by_test (λ (effect : Effect Lock). effect.next.waiters ≡ lock.waiters) (nat_lt 1 lock.level) (unlocked_once lock) (given_up lock)
+    (λ more. refl) (λ last. passed_waiters (first_for_lock lock) lock)
+
+pub lock_by_waiters : (caller : ℕ) (asked : Request) (lock : Lock) → (lock_by caller asked lock).waiters ≡ lock.waiters
+lock_by_waiters caller (Request.Preemption operation) lock = effect_waiters caller operation lock
+lock_by_waiters caller (Request.Process process ProcessOperation.Stop) lock = stopped_waiters (natural_of process) lock
+lock_by_waiters caller (Request.Caller CallerOperation.StopSelf) lock = stopped_waiters caller lock
+lock_by_waiters caller _ lock = refl
+
+pub called_waiters : (place : ℕ) (call : CallRecord) (lock : Lock) → (lock_called place call lock).waiters ≡ lock_waiters_after place (Call call) lock.waiters
+called_waiters place call lock =
+    ap (lock_waiters_after place (Call call)) (by_test (λ (next : Lock). next.waiters ≡ lock.waiters) (is_done call.claim.out) (lock_by call.who.proc call.request lock) lock
+    (λ done. lock_by_waiters call.who.proc call.request lock) (λ not_done. refl))
+
+-- the set of a partition's lock after a record, by the set before it
+pub lock_set_after : (Before After : List Entry → Type 0) (configuration : Configuration) (cores : List CoreState) (place core number : ℕ) (body : Body) (partition : Partition)
+    → After [] → ((IsElsewhere number body → ⊥) → Before partition.lock.waiters → After (lock_waiters_after place body partition.lock.waiters))
+    → (IsElsewhere number body → Before partition.lock.waiters → After partition.lock.waiters)
+    → Before partition.lock.waiters → After (partition_by configuration cores place core number body partition).lock.waiters
+lock_set_after Before After configuration cores place core number (Disp who) partition nobody change foreign before = change (λ none. none) before
+lock_set_after Before After configuration cores place core number (Ret ret) partition nobody change foreign before =
+    return_case (λ next. After next.lock.waiters) configuration cores place core number ret partition (change (λ none. none) before) (change (λ none. none) before)
+lock_set_after Before After configuration cores place core number (Tick woken) partition nobody change foreign before = change (λ none. none) before
+lock_set_after Before After configuration cores place core number (Call call) partition nobody change foreign before =
+    call_case (λ next. After next.lock.waiters) configuration cores place core number call partition
+    (λ own none. subst After (sym (called_waiters place call partition.lock)) (change (λ elsewhere. true≢false (sym own ∙ elsewhere)) before))
+    (λ own mode is. nobody) (λ elsewhere. foreign elsewhere before)
+lock_set_after Before After configuration cores place core number (Arrive crossing) partition nobody change foreign before = foreign tt before
+lock_set_after Before After configuration cores place core number (Depart crossing) partition nobody change foreign before = foreign tt before
 
 -- The numbers of each table stay distinct.
 

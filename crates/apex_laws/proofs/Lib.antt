@@ -2,6 +2,7 @@ pub mod Common
 pub mod Booleans
 pub mod SetNames
 pub mod Choices
+pub mod Awaited
 pub mod Tables
 pub mod WaitersOf
 pub mod Waiters
@@ -13,13 +14,17 @@ pub mod Demanded
 pub mod Codes
 pub mod Objects
 pub mod Keeps
+pub mod ForeignCalls
+pub mod LockTies
 pub mod Stays
 pub mod Runs
 pub mod Refusals
 pub mod Viewed
 pub mod ObjectRules
+pub mod LockRules
 pub mod ProcessRules
 pub mod Records
+pub mod LockCalls
 pub mod WholeCalls
 pub mod ChannelContents
 pub mod Crossings
@@ -36,5 +41,6 @@ pub mod PartObjects
 pub mod LeavingSets
 pub mod TickLeaves
 pub mod EnteringSets
+pub mod LockStays
 pub mod BoundedParts
 pub mod PartSets

@@ -7,14 +7,14 @@ use Rattle.apex_types.specs.declared.operation.ObjectOperation.TheVariants as on
 use Rattle.apex_laws.proofs.Common.{AllAreCreated, BlackboardOperation, BufferOperation, CallerOperation, Code, Condition, Configuration, Direction, EventOperation, GREATEST_MAXIMUM, HasCondition, HasTimeOut, IsCalledBy, IsCodeOf, IsObject}
 use Rattle.apex_laws.proofs.Common.{IsProcess, IsSetUp, LONGEST_MESSAGE, MayNotWait, Mode, MOST_MESSAGES, MutexOperation, NameIsTaken, NamesNone, NamesNoProcess, NamesNothing, NewObject, Partition, Port, Process, ProcessOperation}
 use Rattle.apex_laws.proofs.Common.{QueuingOperation, Request, SamplingOperation, SemaphoreOperation, WaitsFor, Who, code_of, conditions_for, conditions_of, created, created_count, creation_conditions, destination_conditions, given_object}
-use Rattle.apex_laws.proofs.Common.{is_longer, is_normal, item_at, kind_of, may_not_wait, message_conditions, name_in, object_conditions, objects_of, of_caller, parameter_conditions, period_of, process_limit, source_conditions}
+use Rattle.apex_laws.proofs.Common.{is_longer, is_normal, item_at, kind_of, message_conditions, name_in, object_conditions, objects_of, of_caller, parameter_conditions, period_of, process_limit, source_conditions}
 use Rattle.apex_laws.proofs.Common.{start_conditions, time_out_conditions, waiting_conditions, when}
-use Rattle.apex_laws.proofs.Common.{LONGEST_REPORT, conditions_if}
+use Rattle.apex_laws.proofs.Common.{GREATEST_LOCK_LEVEL, LockOperation, LONGEST_REPORT, conditions_if, natural_of}
 use Rattle.apex_laws.proofs.ConditionTests.{above_period_tells, reaches_tells, unowned_tells}
 use Rattle.apex_laws.proofs.Booleans.{impossible, member_first, member_later}
 use Rattle.apex_laws.proofs.ConditionTests.{at_most_tells, below_tells, between_tells, caller_tells, cold_start_tells, core_tells, created_by, created_is, destination_tells, equal_tells, fails_tells, full_tells, longer_tells}
 use Rattle.apex_laws.proofs.ConditionTests.{may_not_wait_tells, member_cases, member_nowhere, mode_tells, named_tells, negative_tells, no_length_tells, no_multiple_tells, no_object_by, no_object_is, no_period_tells, no_process_by, no_process_is}
-use Rattle.apex_laws.proofs.ConditionTests.{no_time_out_tells, none_tells, normal_mode_tells, normal_tells, number_tells, object_by, object_is, over_tells, owner_tells, periodic_caller_tells, periodic_tells, priority_tells}
+use Rattle.apex_laws.proofs.ConditionTests.{no_time_out_tells, none_tells, normal_mode_tells, normal_tells, number_tells, object_by, object_is, over_tells, owner_tells, owns_tells, periodic_caller_tells, periodic_tells, priority_tells}
 use Rattle.apex_laws.proofs.ConditionTests.{queuing_port_tells, sampling_port_tells, second_tells, source_tells, suspended_tells, Tells, tells_both, tells_itself, tells_not, unnamed_tells, value_tells, warm_start_mode_tells}
 
 -- each condition that is listed for a call holds
@@ -227,9 +227,10 @@ module _ (configuration : Configuration) (who : Who) (partition : Partition) whe
       (if_fact _ (number_tells process who.proc) HasCondition.stop_itself)
   says (Request.Caller CallerOperation.StopSelf) = none
   says (Request.Process process ProcessOperation.Suspend) =
-      both (process_says process _ (λ names. names) (λ found is. both
+      both (process_says process _ (λ names. names) (λ found is. both (both
       (both (if_fact _ (fails_tells found.alive) (HasCondition.suspend_dormant found is)) (if_fact _ (periodic_tells found) (HasCondition.suspend_periodic found is)))
-      (if_fact _ (suspended_tells found) (HasCondition.suspend_suspended found is))))
+      (if_fact _ (suspended_tells found) (HasCondition.suspend_suspended found is)))
+      (if_fact _ (owner_tells partition.lock.owner (natural_of process)) (λ owns. HasCondition.suspend_lock_owner found is (owns ∙ ap Some (ap natural_of is.is))))))
       (if_fact _ (number_tells process who.proc) HasCondition.suspend_itself)
   says (Request.Caller (CallerOperation.SuspendSelf time_out)) =
       both (both (time_out_says time_out refl) (if_fact _ (periodic_caller_tells who partition) HasCondition.suspend_self_periodic))
@@ -272,10 +273,11 @@ module _ (configuration : Configuration) (who : Who) (partition : Partition) whe
   says (Request.Object event (on.Event EventOperation.Reset)) = lone_says partition.events event (λ names. names)
   says (Request.Object event (on.Event (EventOperation.Wait time_out))) = use_says partition.events event time_out (λ names. names) refl refl
   says (Request.Object mutex (on.Mutex (MutexOperation.Acquire time_out))) =
-      both (both (both (object_says partition.mutexes mutex _ (λ names. names) (λ found is. if_fact _ (above_tells found.priority) (λ facts. HasCondition.acquire_above found facts.0 is facts.1 facts.2)))
+      both (both (both (both (object_says partition.mutexes mutex _ (λ names. names) (λ found is. if_fact _ (above_tells found.priority) (λ facts. HasCondition.acquire_above found facts.0 is facts.1 facts.2)))
       (time_out_says time_out refl))
       (if_fact _ (equal_tells who.proc 0) HasCondition.acquire_initialising))
-      (if_fact _ (second_tells partition mutex who.proc) (λ facts. HasCondition.acquire_second facts.0 facts.1 facts.2))
+      (if_fact _ (second_tells partition mutex who.proc) (λ facts. HasCondition.acquire_second facts.0 facts.1 facts.2)))
+      (if_fact _ (owner_tells partition.lock.owner who.proc) HasCondition.acquire_lock_owner)
   says (Request.Object mutex (on.Mutex MutexOperation.Release)) =
       object_says partition.mutexes mutex _ (λ names. names) (λ found is. unless_fact _ (owner_tells found.owner who.proc) (HasCondition.release_not_owner found is))
   says (Request.Object mutex (on.Mutex (MutexOperation.Reset process))) =
@@ -294,6 +296,13 @@ module _ (configuration : Configuration) (who : Who) (partition : Partition) whe
   says (Request.QueuingPort port QueuingOperation.Clear) = destination_says partition.queuing_ports port (λ names. names) HasCondition.clear_no_destination
   says (Request.GetId of name) = if_fact _ (unnamed_tells partition of name) HasCondition.get_id_unnamed
   says (Request.GetStatus of object) = lone_says (objects_of partition of) object (λ names. names)
+  says (Request.Preemption LockOperation.Lock) =
+      both (both (both (unless_fact _ (normal_tells partition.mode) HasCondition.lock_before_normal) (if_fact _ (equal_tells who.proc 0) HasCondition.lock_initialising))
+      (if_fact _ (tells_both (owner_tells partition.lock.owner who.proc) (at_most_tells GREATEST_LOCK_LEVEL partition.lock.level)) (λ facts. HasCondition.lock_greatest facts.0 facts.1)))
+      (if_fact _ (owns_tells partition who.proc) (λ owns. HasCondition.lock_mutex_owner owns.0 owns.1))
+  says (Request.Preemption LockOperation.Unlock) =
+      both (both (unless_fact _ (normal_tells partition.mode) HasCondition.unlock_before_normal) (if_fact _ (equal_tells who.proc 0) HasCondition.unlock_initialising))
+      (unless_fact _ (owner_tells partition.lock.owner who.proc) HasCondition.unlock_not_owner)
 
   -- each condition that holds is listed for the call
 
@@ -339,7 +348,7 @@ module _ (configuration : Configuration) (who : Who) (partition : Partition) whe
   nothing_met (Request.Object event (on.Event EventOperation.Set)) names = no_object partition.events event _ names
   nothing_met (Request.Object event (on.Event EventOperation.Reset)) names = no_object partition.events event _ names
   nothing_met (Request.Object event (on.Event (EventOperation.Wait time_out))) names = no_use partition.events event time_out names
-  nothing_met (Request.Object mutex (on.Mutex (MutexOperation.Acquire time_out))) names = in_first _ (in_first _ (in_first _ (no_object partition.mutexes mutex _ names)))
+  nothing_met (Request.Object mutex (on.Mutex (MutexOperation.Acquire time_out))) names = in_first _ (in_first _ (in_first _ (in_first _ (no_object partition.mutexes mutex _ names))))
   nothing_met (Request.Object mutex (on.Mutex MutexOperation.Release)) names = no_object partition.mutexes mutex _ names
   nothing_met (Request.Object mutex (on.Mutex (MutexOperation.Reset process))) names = in_first _ (in_first _ (no_object partition.mutexes mutex _ names))
   nothing_met (Request.SamplingPort port (SamplingOperation.Write length message)) names = in_first _ (no_object partition.sampling_ports port _ names)
@@ -357,7 +366,7 @@ module _ (configuration : Configuration) (who : Who) (partition : Partition) whe
 
   time_out_met : (asked : Request) (time_out : ℤ) → HasTimeOut asked time_out → time_out <ℤ negsuc 0 → Has asked Condition.TimeOutOutOfRange
   time_out_met (Request.Caller (CallerOperation.SuspendSelf given)) time_out same under = in_first _ (in_first _ (below_met given time_out same under))
-  time_out_met (Request.Object mutex (on.Mutex (MutexOperation.Acquire given))) time_out same under = in_first _ (in_first _ (in_later _ (below_met given time_out same under)))
+  time_out_met (Request.Object mutex (on.Mutex (MutexOperation.Acquire given))) time_out same under = in_first _ (in_first _ (in_first _ (in_later _ (below_met given time_out same under))))
   time_out_met (Request.Object buffer (on.Buffer (BufferOperation.Send length given message))) time_out same under = in_first _ (in_later _ (below_met given time_out same under))
   time_out_met (Request.Object buffer (on.Buffer (BufferOperation.Receive given))) time_out same under = in_first _ (in_later _ (below_met given time_out same under))
   time_out_met (Request.Object blackboard (on.Blackboard (BlackboardOperation.Read given))) time_out same under = in_first _ (in_later _ (below_met given time_out same under))
@@ -458,9 +467,11 @@ module _ (configuration : Configuration) (who : Who) (partition : Partition) whe
   met (HasCondition.stop_itself {process = process} same) = in_later _ (by_fact (number_tells process who.proc) same)
   met (HasCondition.stop_dormant {process = process} found is dormant) = in_first _ (process_met process _ found is (by_fact (fails_tells found.alive) dormant))
   met (HasCondition.suspend_itself {process = process} same) = in_later _ (by_fact (number_tells process who.proc) same)
-  met (HasCondition.suspend_dormant {process = process} found is dormant) = in_first _ (process_met process _ found is (in_first _ (in_first _ (by_fact (fails_tells found.alive) dormant))))
-  met (HasCondition.suspend_periodic {process = process} found is periodic) = in_first _ (process_met process _ found is (in_first _ (in_later _ (by_fact (periodic_tells found) periodic))))
-  met (HasCondition.suspend_suspended {process = process} found is suspended) = in_first _ (process_met process _ found is (in_later _ (by_fact (suspended_tells found) suspended)))
+  met (HasCondition.suspend_dormant {process = process} found is dormant) = in_first _ (process_met process _ found is (in_first _ (in_first _ (in_first _ (by_fact (fails_tells found.alive) dormant)))))
+  met (HasCondition.suspend_periodic {process = process} found is periodic) = in_first _ (process_met process _ found is (in_first _ (in_first _ (in_later _ (by_fact (periodic_tells found) periodic)))))
+  met (HasCondition.suspend_suspended {process = process} found is suspended) = in_first _ (process_met process _ found is (in_first _ (in_later _ (by_fact (suspended_tells found) suspended))))
+  met (HasCondition.suspend_lock_owner {process = process} found is owns) =
+      in_first _ (process_met process _ found is (in_later _ (by_fact (owner_tells partition.lock.owner (natural_of process)) (owns ∙ ap Some (sym (ap natural_of is.is))))))
   met (HasCondition.suspend_self_periodic periodic) = in_first _ (in_later _ (by_fact (periodic_caller_tells who partition) periodic))
   met (HasCondition.suspend_self_waits may_not) = in_later _ (by_fact (may_not_wait_tells who partition) may_not)
   met (HasCondition.resume_itself {process = process} same) = in_later _ (by_fact (number_tells process who.proc) same)
@@ -492,10 +503,11 @@ module _ (configuration : Configuration) (who : Who) (partition : Partition) whe
   met (HasCondition.create_semaphore_discipline {given = given} other) = in_later _ (in_later _ (by_no_fact (between_tells 0 1 given) other))
   met (HasCondition.create_mutex_priority {priority = priority} other) = in_later _ (in_first _ (by_no_fact (priority_tells priority) other))
   met (HasCondition.create_mutex_discipline {given = given} other) = in_later _ (in_later _ (by_no_fact (between_tells 0 1 given) other))
-  met (HasCondition.acquire_initialising none) = in_first _ (in_later _ (by_fact (equal_tells who.proc 0) none))
-  met (HasCondition.acquire_second {mutex = mutex} held owns other) = in_later _ (by_fact (second_tells partition mutex who.proc) (held, owns, other))
+  met (HasCondition.acquire_initialising none) = in_first _ (in_first _ (in_later _ (by_fact (equal_tells who.proc 0) none)))
+  met (HasCondition.acquire_second {mutex = mutex} held owns other) = in_first _ (in_later _ (by_fact (second_tells partition mutex who.proc) (held, owns, other)))
   met (HasCondition.acquire_above {mutex = mutex} found process is calls above) =
-      in_first _ (in_first _ (in_first _ (object_met partition.mutexes mutex _ found is (by_fact (above_tells found.priority) (process, calls, above)))))
+      in_first _ (in_first _ (in_first _ (in_first _ (object_met partition.mutexes mutex _ found is (by_fact (above_tells found.priority) (process, calls, above))))))
+  met (HasCondition.acquire_lock_owner owns) = in_later _ (by_fact (owner_tells partition.lock.owner who.proc) owns)
   met (HasCondition.release_not_owner {mutex = mutex} found is other) = object_met partition.mutexes mutex _ found is (by_no_fact (owner_tells found.owner who.proc) other)
   met (HasCondition.reset_no_process {process = process} names) = in_first _ (in_later _ (by_fact (none_tells (created partition.table process)) (no_process_by partition process names)))
   met (HasCondition.reset_not_owner {mutex = mutex} {process = process} found named is there other) =
@@ -516,6 +528,14 @@ module _ (configuration : Configuration) (who : Who) (partition : Partition) whe
   met (HasCondition.report_length {length = length} other) = by_no_fact (between_tells 0 LONGEST_REPORT length) other
   met (HasCondition.handler_created holds) = in_later _ (in_when partition.has_handler holds)
   met (HasCondition.get_id_unnamed {of = of} {name = name} other) = by_fact (unnamed_tells partition of name) other
+  met (HasCondition.lock_before_normal other) = in_first _ (in_first _ (in_first _ (by_no_fact (normal_tells partition.mode) other)))
+  met (HasCondition.lock_initialising none) = in_first _ (in_first _ (in_later _ (by_fact (equal_tells who.proc 0) none)))
+  met (HasCondition.lock_greatest owns greatest) =
+      in_first _ (in_later _ (by_fact (tells_both (owner_tells partition.lock.owner who.proc) (at_most_tells GREATEST_LOCK_LEVEL partition.lock.level)) (owns, greatest)))
+  met (HasCondition.lock_mutex_owner held owns) = in_later _ (by_fact (owns_tells partition who.proc) (held, owns))
+  met (HasCondition.unlock_before_normal other) = in_first _ (in_first _ (by_no_fact (normal_tells partition.mode) other))
+  met (HasCondition.unlock_initialising none) = in_first _ (in_later _ (by_fact (equal_tells who.proc 0) none))
+  met (HasCondition.unlock_not_owner other) = in_later _ (by_no_fact (owner_tells partition.lock.owner who.proc) other)
 
 -- so a condition is among those of a call exactly if it holds
 pub conditions_are_the_sentences : ConditionsAreTheSentences

@@ -10,6 +10,7 @@ use Rattle.apex_laws.proofs.Common.{buffer_received, buffer_sent, change_at, cle
 use Rattle.apex_laws.proofs.Common.{is_queuing_port, is_sampling_port, is_valid, item_at, message_conditions, mutex_released, natural_of, new_blackboard, new_buffer, new_event, new_mutex, new_queuing_port, new_sampling_port, new_semaphore}
 use Rattle.apex_laws.proofs.Common.{numbered, numbered_if, object_conditions, of_caller, owns_another, queuing_port, sampling_port, semaphore_waited, set_at, signalled, time_out_conditions, waiting_conditions, when}
 use Rattle.apex_laws.proofs.Common.{IsMutexReset, hand_on}
+use Rattle.apex_laws.proofs.Common.{owns_lock}
 use Rattle.apex_laws.proofs.Booleans.{cannot_hold, is_itself}
 use Rattle.apex_laws.proofs.Ends.{first_empty, is_created, second_empty}
 use Rattle.apex_laws.proofs.ObjectRules.{blackboard_is_the_sentence, event_is_the_sentence, mutex_is_the_sentence, queue_is_the_sentence, semaphore_is_the_sentence}
@@ -98,8 +99,10 @@ mutex_there who partition mutex time_out none =
     let found_conditions = conditions_for (given_object partition.mutexes mutex) conditions in
     let second = found_conditions ++ time_out_conditions time_out in
     let third = second ++ when (nat_eq who.proc 0) Condition.InitialisingCaller in
+    let fourth = third ++ when (owns_another partition.mutexes mutex who.proc) Condition.OwnsAnother in
     let is = is_created (given_object partition.mutexes mutex) conditions
-    (first_empty found_conditions (time_out_conditions time_out) (first_empty second (when (nat_eq who.proc 0) Condition.InitialisingCaller) (first_empty third (when (owns_another partition.mutexes mutex who.proc) Condition.OwnsAnother) none))) in
+    (first_empty found_conditions (time_out_conditions time_out) (first_empty second (when (nat_eq who.proc 0) Condition.InitialisingCaller)
+    (first_empty third (when (owns_another partition.mutexes mutex who.proc) Condition.OwnsAnother) (first_empty fourth (when (owns_lock partition who.proc) Condition.OwnsLock) none)))) in
     (is.0, is.1)
 
 -- a port that is configured

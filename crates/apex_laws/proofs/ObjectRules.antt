@@ -211,10 +211,10 @@ unmet_at : {Object : Type 0} (time_out : ℤ) (object other : Object) (effect : 
 unmet_at time_out object other effect same is = unmet_by time_out other effect (subst (λ one. IsUnmet time_out one effect) same is)
 
 -- an empty set has no first
-no_first : (which : Discipline) (entries : List Entry) → first_waiter which entries ≡ None → AreApart entries → entries ≡ []
+pub no_first : (which : Discipline) (entries : List Entry) → first_waiter which entries ≡ None → AreApart entries → entries ≡ []
 no_first which entries none apart = (first_is_the_sentence which entries apart).1.0 none
 
-first_by : (which : Discipline) (entries : List Entry) (entry : Entry) → AreApart entries → IsFirst which entries entry → first_waiter which entries ≡ Some entry
+pub first_by : (which : Discipline) (entries : List Entry) (entry : Entry) → AreApart entries → IsFirst which entries entry → first_waiter which entries ≡ Some entry
 first_by which entries entry apart first = ((first_is_the_sentence which entries apart).0 entry).1 first
 
 -- queues

@@ -5,17 +5,17 @@ use Rattle.apex_types.specs.declared.operation.ObjectOperation.TheVariants as on
 use Rattle.apex_laws.proofs.Common.{AllHold, BlackboardOperation, Call, CallRecord, Claim, Condition, Configuration, End, Entry, EventOperation, HasDistinctObjects, IsSoundPart, ObjectKind, ObjectOf, ObjectOperation, OneObjectChanges}
 use Rattle.apex_laws.proofs.Common.{OtherSetsStay, Partition, Port, Request, SamplingOperation, WaitingSet, WaitsIn, Who, answer_of, change_at, channel_of, conditions_of, each_item, each_set, enters, entries_at, entries_at_end, is_done}
 use Rattle.apex_laws.proofs.Common.{is_named, is_no_error, is_of_object, is_same_kind, is_set_used, is_target, is_valid, item_at, kind_of, kind_used, names_one_of, natural_of, new_object, numbered_if, object_effect, objects_by}
-use Rattle.apex_laws.proofs.Common.{objects_changed, objects_of, outcome_demands, restart_of, restarts, set_after, set_at, stop_of, stops, stops_some, time_of, waits_at, with_objects, with_sets}
+use Rattle.apex_laws.proofs.Common.{objects_changed, objects_of, outcome_demands, restart_of, restarts, set_after, set_at, stop_of, stops, stops_some, waits_at, with_objects, with_sets}
 use Rattle.apex_laws.proofs.Common.{CoreState}
 use Rattle.apex_laws.proofs.Booleans.{cannot_hold, differs_back, is_itself, neither_first, neither_later, not_first, not_second, same_if}
 use Rattle.apex_laws.proofs.Objects.{all_stay_with, each_itself, Leaves, new_has_none, object_stays, objects_stay, one_changes, OnSets, put_if, sets_stay}
 use Rattle.apex_laws.proofs.Restarts.{goes_on}
 use Rattle.apex_laws.proofs.SetNames.{ends_agree, ends_kept, one_set}
-use Rattle.apex_laws.proofs.SoundParts.{WaitsInSet}
+use Rattle.apex_laws.proofs.SoundParts.{WaitsForLock, WaitsInSet}
 use Rattle.apex_laws.proofs.Untouched.{set_stays}
 use Rattle.apex_laws.proofs.Waiters.{all_weaker}
 use Rattle.apex_laws.proofs.WaitersOf.{not_named}
-use Rattle.apex_laws.proofs.Wakes.{answer_wakes, entering_is_the_sentence, nobody, suspended_elsewhere}
+use Rattle.apex_laws.proofs.Wakes.{answer_wakes, entering_is_the_sentence, lock_waits_not, nobody, suspended_elsewhere}
 
 -- An own call leaves the waiting sets that its request doesn't use.
 
@@ -54,11 +54,13 @@ named_uses number place cores core partition caller asked claim sound (condition
 named_uses number place cores core partition caller asked claim sound [] (Some channel) hold wanted unused who here waits named =
     true≢false (sym named ∙ not_named who claim.woken (subst (λ part. names_one_of part claim.woken ≡ false) (sym here) hold.1.1.0))
 named_uses number place cores core partition caller asked claim sound [] None hold wanted unused who here waits named =
-    (answer_wakes (λ one. waits_at wanted (item_at partition.table one.proc) ≡ true → ⊥) cores core caller partition asked
+    answer_wakes (λ one. waits_at wanted (item_at partition.table one.proc) ≡ true → ⊥) cores core caller partition asked
     (λ other used. all_weaker (WaitsInSet number other partition) (λ entry. waits_at wanted (item_at partition.table entry.who.proc) ≡ true → ⊥)
     (λ entry is also. true≢false (sym used ∙ ap (is_set_used asked) (one_set other wanted (item_at partition.table entry.who.proc) is.1 also) ∙ unused))
     (entries_at partition other) (sound.is_member other))
-    (λ process target is suspends waits. suspended_elsewhere partition process target wanted is suspends waits)).has
+    (λ process target is suspends waits. suspended_elsewhere partition process target wanted is suspends waits)
+    (λ gives. all_weaker (WaitsForLock number partition) (λ entry. waits_at wanted (item_at partition.table entry.who.proc) ≡ true → ⊥)
+    (λ entry is also. lock_waits_not wanted (item_at partition.table entry.who.proc) is.1 also) partition.lock.waiters sound.lock.is_member)
     who (sym (hold.1.1.1.1.0 who) ∙ named) waits
 
 pub other_sets_stay : OtherSetsStay

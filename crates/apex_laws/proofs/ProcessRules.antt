@@ -1,18 +1,21 @@
 -- What the rules compute of a process, and answer to its services, is exactly what the sentences say.
-use Rattle.std.proofs.Common.{◌≡◌, ℕ, zero, suc, not, subst, ◌+◌, ◌*◌, ◌/◌, ◌%◌, ◌<◌, ◌≤◌, ℤ, pos, negsuc, List, [], Option, Some, None, Bool, true, false, cond, nat_eq, nat_le, IsTrue, refl, sym, ap, ◌∙◌, inl, inr, arith, true≢false, ◌&&◌, ◌∷◌}
+use Rattle.std.proofs.Common.{◌≡◌, ℕ, zero, suc, not, subst, ◌+◌, ◌*◌, ◌/◌, ◌%◌, ◌<◌, ◌≤◌, ℤ, pos, negsuc, List, [], Option, Some, None, option_map, Bool, true, false, cond, nat_eq, nat_le, IsTrue, refl, sym, ap, ◌∙◌, inl, inr, arith, true≢false, ◌&&◌, ◌∷◌}
+use Rattle.std.specs.Option.{option_to_list}
 use Rattle.std.proofs.Math.Nat.{mul-le-mul_right}
 use Rattle.std.proofs.lemmas.Bool.{and_from, and_parts, eqb-true, eq-eqb, leb-true, cases_lt}
 use Rattle.apex_laws.specs.ProcessLaws.{AnswerIsTheSentence, CallerIsTheSentence, CreationIsTheSentence, DueIsTheSentence, ReleaseIsTheSentence, SettingIsTheSentence, StoppingIsTheSentence, WakingIsTheSentence}
 use Rattle.apex_types.specs.declared.operation.ObjectOperation.TheVariants as on
+use Rattle.apex_machine.specs.Answer.{Number}
 use Rattle.apex_laws.proofs.Common.{Answer, CallerOperation, CallRecord, Code, HasDueTime, IsAtRelease, IsBegun, IsCaller, IsEntry, IsFirstRelease, IsMutexChange, IsNormalEntered, IsOverOrWaits, IsOwnerChange, IsReleased, IsResuming}
 use Rattle.apex_laws.proofs.Common.{IsStarted, IsWoken, Mode, Mutex, MutexOperation, OnTarget, Out, Process, ProcessOperation, Renews, Request, Wait, WaitingSet, WaitsForOther, Who, acquired, after_normal, by_mutex, caller_after}
 use Rattle.apex_laws.proofs.Common.{caller_with, code_when_due, created, done, due_by, due_of_call, entry_wait, first_release, first_waiter, given_object, is_normal, is_number, is_over, is_owner, is_released, is_suspension, is_waiting}
 use Rattle.apex_laws.proofs.Common.{item_at, mutex_released, natural_of, next_release, on_ownership, outcome_of, owed, peer, release_taken, released, renews, resuming, service_of_wait, set_of, started, stopped, taking, time_of, time_out_of}
 use Rattle.apex_laws.proofs.Common.{wait_ended, wait_in, wait_of, waiting, waits_for_normal, waking, woken_by}
 use Rattle.apex_laws.proofs.Common.{CoreState, IsModeNumber, IsPartitionStatus, IsProcessStatus, IsStartNumber, IsStateNumber, Partition, StartCondition, answer_by, delay_kept, delay_wait, handed_on, is_occupant, is_ready, mode_number, occupant_of, partition_status, process_status, reporting, start_number, state_number}
+use Rattle.apex_laws.proofs.Common.{Entry, IsMutexState, IsStop, Lock, done_with, first_for_lock, freed_by_stop, mutex_owned, mutex_state, never_waking, next_owner, value_when_woken}
 use Rattle.apex_laws.proofs.WaitersOf.{same_is, same_itself}
 use Rattle.apex_laws.proofs.Choices.{is_ready_by, ready_is}
-use Rattle.apex_laws.proofs.Booleans.{by_test, cannot_hold, impossible, never_found, same_if}
+use Rattle.apex_laws.proofs.Booleans.{by_test, cannot_hold, either_way, impossible, never_found, same_if}
 use Rattle.apex_laws.proofs.ConditionTests.{normal_tells, number_tells, over_tells, owner_tells, Tells}
 
 -- What the rules compute of a process is exactly what the sentences say.
@@ -223,14 +226,14 @@ due_is_the_sentence core now process = (
 
 -- the end of a wait, by what the wait is
 
-ended : (place : ℕ) (old : Process) (one : Wait) → old.wait ≡ one → released place old ≡ wait_ended place (owed (service_of_wait one) (code_when_due one) []) (record old { wait = one })
+ended : (place : ℕ) (old : Process) (one : Wait) → old.wait ≡ one → released place old ≡ wait_ended place (owed (service_of_wait one) (code_when_due one) None []) (record old { wait = one })
 ended place old one at =
-    ap (λ (waits : Wait). wait_ended place (owed (service_of_wait waits) (code_when_due waits) []) (record old { wait = waits })) at
+    ap (λ (waits : Wait). wait_ended place (owed (service_of_wait waits) (code_when_due waits) None []) (record old { wait = waits })) at
 
 woken_from : (place : ℕ) (message : List ℕ) (old : Process) (one : Wait) → old.wait ≡ one
-    → woken_by place message old ≡ wait_ended place (owed (service_of_wait one) Code.NoError message) (record old { wait = one })
+    → woken_by place message old ≡ wait_ended place (owed (service_of_wait one) Code.NoError (value_when_woken one) message) (record old { wait = one })
 woken_from place message old one at =
-    ap (λ (waits : Wait). wait_ended place (owed (service_of_wait waits) Code.NoError message) (record old { wait = waits })) at
+    ap (λ (waits : Wait). wait_ended place (owed (service_of_wait waits) Code.NoError (value_when_woken waits) message) (record old { wait = waits })) at
 
 -- a caller that waits in a set
 waits_in_set : (now : ℕ) (asked : Request) (chan : Option ℕ) (process : Process) (set : WaitingSet) → set_of asked chan ≡ Some set
@@ -239,6 +242,7 @@ waits_in_set now (Request.Caller (CallerOperation.TimedWait (pos delay))) chan p
 waits_in_set now (Request.Caller (CallerOperation.TimedWait (negsuc n))) chan process set at = never_found at
 waits_in_set now (Request.Caller CallerOperation.PeriodicWait) chan process set at = never_found at
 waits_in_set now (Request.Caller (CallerOperation.SuspendSelf time_out)) chan process set at = never_found at
+waits_in_set now (Request.Preemption operation) chan process set at = never_found at
 waits_in_set now asked chan process set at = ap (λ one. wait_in one (due_of_call (time_out_of asked) now)) at
 
 -- a caller that took a release
@@ -268,6 +272,7 @@ released_says place old new (Wait.PeriodicRelease due) time at has is = IsReleas
 released_says place old new (Wait.Suspended due) time at has is = IsReleased.suspension due at (is ∙ ended place old (Wait.Suspended due) at)
 released_says place old new (Wait.At set due) time at has is = IsReleased.object set due at (is ∙ ended place old (Wait.At set due) at)
 released_says place old new Wait.Nothing time at has is = absurd has
+released_says place old new Wait.ForLock time at has is = absurd has
 released_says place old new (Wait.NormalMode delay) time at has is = absurd has
 
 released_by : (place : ℕ) (old new : Process) → IsReleased place old new → new ≡ released place old
@@ -284,12 +289,14 @@ release_is_the_sentence place time old new has = (released_says place old new ol
 woken_says : (place : ℕ) (message : List ℕ) (old new : Process) (one : Wait) → old.wait ≡ one → WaitsForOther one → new ≡ woken_by place message old → IsWoken place message old new
 woken_says place message old new (Wait.Suspended due) at waits is = IsWoken.suspension due at (is ∙ woken_from place message old (Wait.Suspended due) at)
 woken_says place message old new (Wait.At set due) at waits is = IsWoken.object set due at (is ∙ woken_from place message old (Wait.At set due) at)
+woken_says place message old new Wait.ForLock at waits is = IsWoken.lock at (is ∙ woken_from place message old Wait.ForLock at)
 woken_says place message old new Wait.Nothing at waits is = absurd waits
 woken_says place message old new _ at waits is = absurd waits
 
 woken_back : (place : ℕ) (message : List ℕ) (old new : Process) → IsWoken place message old new → new ≡ woken_by place message old
 woken_back place message old new (IsWoken.suspension due at is) = is ∙ sym (woken_from place message old (Wait.Suspended due) at)
 woken_back place message old new (IsWoken.object set due at is) = is ∙ sym (woken_from place message old (Wait.At set due) at)
+woken_back place message old new (IsWoken.lock at is) = is ∙ sym (woken_from place message old Wait.ForLock at)
 
 pub waking_is_the_sentence : WakingIsTheSentence
 waking_is_the_sentence place message old new waits = (woken_says place message old new old.wait refl waits, woken_back place message old new)
@@ -321,6 +328,7 @@ begun_is : (now : ℕ) (asked : Request) (chan : Option ℕ) (process : Process)
 begun_is now asked chan process begun (IsBegun.delay ticks at is) = is ∙ sym (ap (λ one. wait_of one chan now process) at)
 begun_is now asked chan process begun (IsBegun.release at is) = is ∙ sym (ap (λ one. wait_of one chan now process) at)
 begun_is now asked chan process begun (IsBegun.suspension time_out at is) = is ∙ sym (ap (λ one. wait_of one chan now process) at)
+begun_is now asked chan process begun (IsBegun.lock operation at is) = is ∙ sym (ap (λ one. wait_of one chan now process) at)
 begun_is now asked chan process begun (IsBegun.object set at is) = is ∙ sym (waits_in_set now asked chan process set at)
 
 caller_says : (place now : ℕ) (call : CallRecord) (old new : Process) (given : Out) → call.claim.out ≡ given
@@ -446,7 +454,7 @@ partition_by : (partition : Partition) (answer : Answer) → IsPartitionStatus p
 partition_by partition answer is =
     let same_mode = mode_is partition.mode is.mode is.is_mode in
     let same_start = start_is partition.start is.start is.is_start in
-    is.reports ∙ (λ i. reporting (pos (same_mode i)) (Some (pos 0)) (Some (pos (same_start i))))
+    is.reports ∙ (λ i. reporting (pos (same_mode i)) (Some (pos partition.lock.level)) (Some (pos (same_start i))))
 
 -- the occupant of a core
 occupant_is : (who : Who) (found : Option Who) → is_occupant who found ≡ true → found ≡ Some who
@@ -493,6 +501,45 @@ process_by cores target found answer (IsProcessStatus.of_process process number 
     ∙ sym (ap (λ one. answer_by one (process_status cores target)) at)
 process_by cores target found answer (IsProcessStatus.nobody none gives) = gives ∙ sym (ap (λ one. answer_by one (process_status cores target)) none)
 
+-- the mutex state of a process
+mutex_state_says : (partition : Partition) (process : ℕ) (answer : Answer) → answer ≡ done_with (Number (mutex_state partition process)) → IsMutexState partition process answer
+mutex_state_says partition process answer gives =
+    by_test (λ (number : ℤ). answer ≡ done_with (Number number) → IsMutexState partition process answer) (is_owner partition.lock.owner process)
+    (negsuc 2) (mutex_owned partition.mutexes process) (λ owns gives. IsMutexState.owns_lock ((owner_tells partition.lock.owner process).0 owns) gives)
+    (λ owns_not gives. IsMutexState.other (λ owns. true≢false (sym ((owner_tells partition.lock.owner process).1 owns) ∙ owns_not)) gives) gives
+
+mutex_state_by : (partition : Partition) (process : ℕ) (answer : Answer) → IsMutexState partition process answer → answer ≡ done_with (Number (mutex_state partition process))
+mutex_state_by partition process answer (IsMutexState.owns_lock owns gives) = rw ((owner_tells partition.lock.owner process).1 owns) gives
+mutex_state_by partition process answer (IsMutexState.other owns_not gives) =
+    rw (cannot_hold (is_owner partition.lock.owner process) (λ owns. owns_not ((owner_tells partition.lock.owner process).0 owns))) gives
+
+-- STOP, STOP_SELF
+
+-- what a stop answers, by whether its target owns the lock, and by the first that waits for it
+abbrev freed_if : Lock → Bool → List Who
+freed_if lock owns = cond owns (next_owner lock) []
+
+abbrev to_wake : Option Entry → List Who
+to_wake first = option_to_list (option_map (λ entry. entry.who) first)
+
+stop_says : (process : ℕ) (lock : Lock) (Answers : List Who → Answer) (answer : Answer) → answer ≡ Answers (freed_by_stop process lock) → IsStop process lock Answers answer
+stop_says process lock Answers answer gives =
+    either_way (is_owner lock.owner process)
+    (λ owns. by (first_for_lock lock) refl ((owner_tells lock.owner process).0 owns) (gives ∙ ap (λ one. Answers (freed_if lock one)) owns))
+    (λ owns_not. IsStop.owns_nothing (λ owns. true≢false (sym ((owner_tells lock.owner process).1 owns) ∙ owns_not)) (gives ∙ ap (λ one. Answers (freed_if lock one)) owns_not))
+  where
+    by : (first : Option Entry) → first_for_lock lock ≡ first → lock.owner ≡ Some process → answer ≡ Answers (next_owner lock) → IsStop process lock Answers answer
+    by None none owns gives = IsStop.nobody_waits owns none (gives ∙ ap (λ one. Answers (to_wake one)) none)
+    by (Some waiter) first owns gives = IsStop.passes_on waiter owns first (gives ∙ ap (λ one. Answers (to_wake one)) first)
+
+stop_by : (process : ℕ) (lock : Lock) (Answers : List Who → Answer) (answer : Answer) → IsStop process lock Answers answer → answer ≡ Answers (freed_by_stop process lock)
+stop_by process lock Answers answer (IsStop.passes_on waiter owns first gives) =
+    gives ∙ sym (ap (λ one. Answers (freed_if lock one)) ((owner_tells lock.owner process).1 owns) ∙ ap (λ one. Answers (to_wake one)) first)
+stop_by process lock Answers answer (IsStop.nobody_waits owns none gives) =
+    gives ∙ sym (ap (λ one. Answers (freed_if lock one)) ((owner_tells lock.owner process).1 owns) ∙ ap (λ one. Answers (to_wake one)) none)
+stop_by process lock Answers answer (IsStop.owns_nothing owns_not gives) =
+    gives ∙ sym (ap (λ one. Answers (freed_if lock one)) (cannot_hold (is_owner lock.owner process) (λ owns. owns_not ((owner_tells lock.owner process).0 owns))))
+
 -- every service
 pub answer_is_the_sentence : AnswerIsTheSentence
 answer_is_the_sentence cores core who partition (Request.Caller (CallerOperation.SuspendSelf time_out)) answer = over_or_waits (time_out ≡ pos 0) (is_over time_out) answer (over_tells time_out).0 (λ is. ap is_over is)
@@ -505,6 +552,12 @@ answer_is_the_sentence cores core who partition (Request.Process process Process
 answer_is_the_sentence cores core who partition (Request.Process process ProcessOperation.GetStatus) answer =
     (process_says cores (peer who process) (created partition.table process) answer, process_by cores (peer who process) (created partition.table process) answer)
 answer_is_the_sentence cores core who partition (Request.Caller CallerOperation.GetPartitionStatus) answer = (partition_says partition answer, partition_by partition answer)
+answer_is_the_sentence cores core who partition (Request.Process process ProcessOperation.GetMutexState) answer =
+    (mutex_state_says partition (natural_of process) answer, mutex_state_by partition (natural_of process) answer)
+answer_is_the_sentence cores core who partition (Request.Process process ProcessOperation.Stop) answer =
+    (stop_says (natural_of process) partition.lock waking answer, stop_by (natural_of process) partition.lock waking answer)
+answer_is_the_sentence cores core who partition (Request.Caller CallerOperation.StopSelf) answer =
+    (stop_says who.proc partition.lock never_waking answer, stop_by who.proc partition.lock never_waking answer)
 answer_is_the_sentence cores core who partition _ answer = (λ gives. gives, λ gives. gives)
 
 pub creation_is_the_sentence : CreationIsTheSentence

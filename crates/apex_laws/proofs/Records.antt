@@ -10,10 +10,10 @@ use Rattle.apex_laws.proofs.Common.{channel_effect, channel_of, channel_set, con
 use Rattle.apex_laws.proofs.Common.{has_partition, initialising_process, is_channel, is_done, is_named, is_no_error, is_same, is_waiting, item_at, mode_by, never, objects_by, objects_called, objects_of, occupant_of, outcome_of}
 use Rattle.apex_laws.proofs.Common.{outcome_returned, own_partition, partition_by, partition_called, period_of, process_in, release_taken, released, renews, restart_by, restart_given, restart_of, returned, service_of, set_after}
 use Rattle.apex_laws.proofs.Common.{started_partition, stops, ticked, time_of, use_of, with_sets, without, woken_if_named}
-use Rattle.apex_laws.proofs.Common.{StartCondition, has_handler_by, message_of}
+use Rattle.apex_laws.proofs.Common.{Lock, StartCondition, has_handler_by, lock_by, lock_called, lock_left, lock_waiters_after, message_of, sets_left}
 use Rattle.apex_laws.proofs.Booleans.{by_test, cannot_hold, either_way, impossible, is_itself, never_found, not_first, one_item, other_holds}
 use Rattle.apex_laws.proofs.Codes.{no_error_is_done, not_done}
-use Rattle.apex_laws.proofs.Keeps.{same_sets}
+use Rattle.apex_laws.proofs.Keeps.{same_sets_with}
 use Rattle.apex_laws.proofs.Objects.{each_itself, each_set_each, each_set_holds, Leaves}
 use Rattle.apex_laws.proofs.ProcessRules.{due_is_the_sentence, release_is_the_sentence}
 use Rattle.apex_laws.proofs.Restarts.{goes_on, not_done_goes_on, restart_ends, restarts_none, restarts_other, return_case, woken_table}
@@ -61,7 +61,7 @@ next_cores configuration state ordered next body step is = ap (λ one. one.cores
 
 -- the objects without those who wait are as they were before the sets changed
 pub emptied_same : (change : WaitingSet → List Entry → List Entry) (partition : Partition) → emptied (each_set change partition) ≡ emptied partition
-emptied_same change partition = each_set_each change (λ wanted entries. []) (record partition { table = [] })
+emptied_same change partition = each_set_each change (λ wanted entries. []) (record partition { table = []; lock = record partition.lock { waiters = [] } })
 
 -- a change that leaves each set leaves the partition
 pub sets_same : (change : WaitingSet → List Entry → List Entry) (partition : Partition) → ((wanted : WaitingSet) (entries : List Entry) → change wanted entries ≡ entries)
@@ -200,10 +200,10 @@ sets_changed change partition none wanted =
 
 -- a set of a partition after a tick
 ticked_set : (place number : ℕ) (woken : List Who) (state : State) (wanted : WaitingSet)
-    → entries_at (record (each_set (set_after place (Tick woken)) (state.partitions number)) { table = each_item (ticked place number woken) (state.partitions number).table }) wanted
+    → entries_at (record (sets_left place (Tick woken) (state.partitions number)) { table = each_item (ticked place number woken) (state.partitions number).table }) wanted
     ≡ without (λ who. is_named who woken) (entries_at (state.partitions number) wanted)
 ticked_set place number woken state wanted =
-    same_sets (each_set (set_after place (Tick woken)) (state.partitions number)) (each_item (ticked place number woken) (state.partitions number).table) wanted
+    same_sets_with (each_set (set_after place (Tick woken)) (state.partitions number)) (lock_left place (Tick woken) (state.partitions number).lock) (each_item (ticked place number woken) (state.partitions number).table) wanted
     ∙ sets_changed (set_after place (Tick woken)) (state.partitions number) (λ one. refl) wanted
 
 pub tick_is_the_sentence : TickIsTheSentence
@@ -240,6 +240,7 @@ tick_is_the_sentence configuration state ordered woken next step is within =
       objects = λ number. ap emptied (partitions number) ∙ emptied_same (set_after place (Tick woken)) (state.partitions number);
       sets = λ number wanted. subst (λ one. KeepsOnly Falls (entries_at (state.partitions number) wanted) (entries_at one wanted)) (sym (partitions number))
           (subst (KeepsOnly Falls (entries_at (state.partitions number) wanted)) (sym (ticked_set place number woken state wanted)) (keeps_only Falls (λ who. is_named who woken) goes remains (entries_at (state.partitions number) wanted)));
+      locks = λ number. subst (λ (one : Partition). KeepsOnly Falls (state.partitions number).lock.waiters one.lock.waiters) (sym (partitions number)) (keeps_only Falls (λ who. is_named who woken) goes remains (state.partitions number).lock.waiters);
       contents = λ number. ap (λ one. one.content) (channels number);
       senders = λ number. subst (λ one. KeepsOnly Falls (state.channels number).senders one.senders) (sym (channels number)) (keeps_only Falls (λ who. is_named who woken) goes remains (state.channels number).senders);
       receivers = λ number. subst (λ one. KeepsOnly Falls (state.channels number).receivers one.receivers) (sym (channels number)) (keeps_only Falls (λ who. is_named who woken) goes remains (state.channels number).receivers);
@@ -282,16 +283,22 @@ nobody_leaves : (leaves : Who → Bool) → ((who : Who) → leaves who ≡ fals
 nobody_leaves leaves none [] = refl
 nobody_leaves leaves none (entry ∷ entries) = rw (none entry.who) (ap (λ rest. entry ∷ rest) (nobody_leaves leaves none entries))
 
--- a call that is not done and names no process leaves every waiting set unchanged
+-- a call that is not done and names no process ends no wait, and leaves every waiting set and the lock unchanged
+ends_none : (call : CallRecord) → is_done call.claim.out ≡ false → call.claim.woken ≡ [] → (who : Who) → ends_wait call who ≡ false
+ends_none call not_so nobody who =
+    goes_on call who (restarts_none call who.part (not_done_goes_on call not_so)) (ap (is_named who) nobody) (not_first (is_no_error call.claim.out) _ (not_no_error call.claim.out not_so))
+
 pub set_left : (place : ℕ) (call : CallRecord) → is_done call.claim.out ≡ false → call.claim.woken ≡ [] → (wanted : WaitingSet) (entries : List Entry)
     → set_after place (Call call) wanted entries ≡ entries
 set_left place call not_so nobody wanted entries =
-    let stays : (who : Who) → ends_wait call who ≡ false = λ who.
-    let named : is_named who call.claim.woken ≡ false = ap (is_named who) nobody in
-    let stopping : is_no_error call.claim.out ≡ false = not_no_error call.claim.out not_so in
-    goes_on call who (restarts_none call who.part (not_done_goes_on call not_so)) named (not_first (is_no_error call.claim.out) _ stopping) in
     let waits : is_waiting call.claim.out ≡ false = not_waiting call.claim.out not_so in
-    rw waits (nobody_leaves (ends_wait call) stays entries)
+    rw waits (nobody_leaves (ends_wait call) (ends_none call not_so nobody) entries)
+
+refused_lock : (place : ℕ) (call : CallRecord) → is_done call.claim.out ≡ false → call.claim.woken ≡ [] → (lock : Lock) → lock_called place call lock ≡ lock
+refused_lock place call not_so nobody lock =
+    let waits : is_waiting call.claim.out ≡ false = not_waiting call.claim.out not_so in
+    let set : lock_waiters_after place (Call call) lock.waiters ≡ lock.waiters = rw waits (nobody_leaves (ends_wait call) (ends_none call not_so nobody) lock.waiters) in
+    ap (λ test. lock_left place (Call call) (cond test (lock_by call.who.proc call.request lock) lock)) not_so ∙ (λ i. record lock { waiters = set i })
 
 -- no process is created
 none_created : (core : ℕ) (call : CallRecord) (asked : Request) → is_done call.claim.out ≡ false → created_by core call asked ≡ []
@@ -335,7 +342,7 @@ refused_rest configuration cores place core call partition not_so nobody =
     ∙ sets_same (set_after place (Call call)) partition (set_left place call not_so nobody) in
     let same_mode : cond (is_done call.claim.out) (mode_by call.request partition.mode) partition.mode ≡ partition.mode = rw not_so refl in
     let same_handler : cond (is_done call.claim.out) (has_handler_by call.request partition.has_handler) partition.has_handler ≡ partition.has_handler = rw not_so refl in
-    λ i. record (objects i) { mode = same_mode i; has_handler = same_handler i; table = (partition_called configuration cores place core call partition).table }
+    λ i. record (objects i) { mode = same_mode i; has_handler = same_handler i; lock = refused_lock place call not_so nobody partition.lock i; table = (partition_called configuration cores place core call partition).table }
 
 -- the caller among the processes of its partition
 caller_is : (place now period : ℕ) (cores : List CoreState) (partition : Partition) (call : CallRecord) (process : Process) → is_done call.claim.out ≡ false
@@ -441,7 +448,7 @@ restarts_in call entered (pos zero) asks never names = subst (Restarts call) (on
 restarts_in call entered (pos (suc zero)) asks never names = subst (Restarts call) (one_item names) (Restarts.to_cold_start asks never)
 restarts_in call entered (pos (suc (suc zero))) asks never names = subst (Restarts call) (one_item names) (Restarts.to_warm_start asks never)
 restarts_in call entered (pos (suc (suc (suc n)))) asks _ names = never_found names
-restarts_in call entered (negsuc n) asks never names = never_found names
+restarts_in call entered (negsuc n) asks _ names = never_found names
 
 says_restart : (call : CallRecord) (mode : Mode) → restart_of call ≡ Some mode → Restarts call mode
 says_restart call mode is =
@@ -525,6 +532,7 @@ says configuration state ordered call mode next step is restarted =
       mode = ap (λ (one : Partition). one.mode) own;
       start = ap (λ (one : Partition). one.start) own;
       handler = ap (λ (one : Partition). one.has_handler) own;
+      lock = ap (λ (one : Partition). one.lock) own;
       processes = subst (IsStart mode (first_core configuration part) place) (sym (ap (λ (one : Partition). one.table) own)) (starts mode (first_core configuration part) place);
       buffers = ap (λ (one : Partition). one.buffers) own;
       blackboards = ap (λ (one : Partition). one.blackboards) own;

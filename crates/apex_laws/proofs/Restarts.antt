@@ -1,11 +1,12 @@
 -- Calls that restart their caller's partition, and calls that don't.
 use Rattle.std.proofs.Common.{◌≡◌, ℕ, List, [], ◌∷◌, true, false, cond, nat_eq, Option, Some, None, is_some, refl, sym, ap, ◌∙◌, true≢false, ◌||◌}
-use Rattle.std.proofs.lemmas.Bool.{eq-eqb}
+use Rattle.std.proofs.lemmas.Bool.{and_parts, eq-eqb}
 use Rattle.apex_types.specs.declared.object_kind.ObjectKind.TheVariants as kind
 use Rattle.apex_laws.proofs.Common.{Call, CallRecord, Configuration, CoreState, Mode, ObjectKind, Out, Partition, Request, Ret, Return, Table, WaitingSet, Who, are_distinct, each_item, ends_wait, entries_at, entries_at_end, entries_in}
 use Rattle.apex_laws.proofs.Common.{first_processes, initialising_process, is_done, is_named, is_no_error, is_waiting, item_at, objects_by, objects_of, own_partition, partition_by, partition_called, restart_by, restart_of, restarts}
 use Rattle.apex_laws.proofs.Common.{returned, started_partition, stops, waits_at, woken_if_named}
-use Rattle.apex_laws.proofs.Common.{StartCondition}
+use Rattle.apex_laws.proofs.Common.{StartCondition, Wait}
+use Rattle.apex_laws.proofs.Awaited.{Awaited, awaits, for_none, is_for, set_awaits}
 use Rattle.apex_laws.proofs.Common.{message_of}
 use Rattle.apex_laws.proofs.Booleans.{by_test, neither, neither_first, neither_later, never_found, not_first, not_second}
 
@@ -133,13 +134,17 @@ start_set start mode configuration number place wanted = none_of wanted.kind
     none_of kind.Buffer = refl
     none_of _ = refl
 
--- no process waits in it
-first_waits_not : (core place process : ℕ) (wanted : WaitingSet) → waits_at wanted (item_at ((0, initialising_process core place) ∷ []) process) ≡ true → ⊥
-first_waits_not core place process wanted waits =
-    by_test (λ found. waits_at wanted found ≡ true → ⊥) (nat_eq process 0) (Some (initialising_process core place)) None
-    (λ first waits. true≢false (sym waits)) (λ other waits. true≢false (sym waits)) waits
+-- no process waits in it, or for its lock
+first_awaits_not : (core place process : ℕ) (wanted : Awaited) → awaits wanted (item_at ((0, initialising_process core place) ∷ []) process) ≡ true → ⊥
+first_awaits_not core place process wanted waits =
+    by_test (λ found. awaits wanted found ≡ true → ⊥) (nat_eq process 0) (Some (initialising_process core place)) None
+    (λ first waits. true≢false (sym (and_parts true (is_for wanted Wait.Nothing) waits).1 ∙ for_none wanted Wait.Nothing refl)) (λ other waits. true≢false (sym waits)) waits
+
+pub start_awaits_not : (mode : Mode) (core place process : ℕ) (wanted : Awaited) → awaits wanted (item_at (first_processes mode core place) process) ≡ true → ⊥
+start_awaits_not Mode.Idle core place process wanted waits = true≢false (sym waits)
+start_awaits_not Mode.ColdStart core place process wanted waits = first_awaits_not core place process wanted waits
+start_awaits_not _ core place process wanted waits = first_awaits_not core place process wanted waits
 
 pub start_waits_not : (mode : Mode) (core place process : ℕ) (wanted : WaitingSet) → waits_at wanted (item_at (first_processes mode core place) process) ≡ true → ⊥
-start_waits_not Mode.Idle core place process wanted waits = true≢false (sym waits)
-start_waits_not Mode.ColdStart core place process wanted waits = first_waits_not core place process wanted waits
-start_waits_not _ core place process wanted waits = first_waits_not core place process wanted waits
+start_waits_not mode core place process wanted waits =
+    start_awaits_not mode core place process (Awaited.TheSet wanted) (set_awaits wanted (item_at (first_processes mode core place) process) ∙ waits)

@@ -7,17 +7,20 @@ use Rattle.apex_laws.proofs.Common.{AllEntries, AllHold, AllWaitAt, Answer, Body
 use Rattle.apex_laws.proofs.Common.{PartStaysSound, QueuingOperation, Receivers, Request, Ret, RunningIsInNoSet, SamplingOperation, Senders, Table, Tick, WaitingSet, WakesHere, Who, answer_of, are_distinct, call_demands, channel_of}
 use Rattle.apex_laws.proofs.Common.{channel_set, cold_partition, conditions_of, each_item, each_set, ends_wait, entries_at, first_core, has_entry_in, is_done, is_free, is_named, is_new, is_of_channel, is_same, item_at, kind_of, kind_used}
 use Rattle.apex_laws.proofs.Common.{new_object, numbered_if, objects_by, objects_called, objects_of, outcome_demands, own_call_demands, partition_by, partition_called, partition_demands, returned, set_after, started_partition, ticked}
-use Rattle.apex_laws.proofs.Common.{time_of, waits_at}
-use Rattle.apex_laws.proofs.Common.{Arrive, Depart, StartCondition, message_of}
+use Rattle.apex_laws.proofs.Common.{waits_at}
+use Rattle.apex_laws.proofs.Common.{Arrive, Depart, IsSoundLock, Lock, StartCondition, first_processes, lock_left, message_of, waits_for_lock}
+use Rattle.apex_laws.proofs.Awaited.{Awaited, lock_awaits}
+use Rattle.apex_laws.proofs.LockTies.{each_lock_entry}
+use Rattle.apex_laws.proofs.Wakes.{lock_waits_not}
 use Rattle.apex_laws.proofs.Booleans.{cannot_hold, differs_back, either_way, holds_if, never_found, other_holds}
-use Rattle.apex_laws.proofs.Choices.{choice_exists, FoundReady, ready_waits_not}
+use Rattle.apex_laws.proofs.Choices.{choice_exists, FoundReady, ready_waits_not, ready_waits_not_for_lock}
 use Rattle.apex_laws.proofs.Codes.{not_done}
-use Rattle.apex_laws.proofs.Exact.{not_stopped, object_has_entry}
-use Rattle.apex_laws.proofs.Keeps.{CallsClaimValues, CallsReady, distinct_by, distinct_new, each_entry, entered_waits, EntersWith, IsElsewhere, IsReadyCall, keeps_waiting, leaves, one_set_after}
+use Rattle.apex_laws.proofs.Exact.{lock_has_entry, not_stopped, object_has_entry}
+use Rattle.apex_laws.proofs.Keeps.{CallsClaimValues, CallsReady, distinct_by, distinct_new, each_entry, entered_waits, entered_waits_for_lock, EntersLockWith, EntersWith, IsElsewhere, IsReadyCall, keeps_waiting, keeps_waiting_for_lock, leaves, lock_set_after, one_set_after}
 use Rattle.apex_laws.proofs.Objects.{of_objects}
-use Rattle.apex_laws.proofs.Restarts.{call_case, done_case, goes_on, restarts_other, return_case, start_set, start_waits_not, woken_table}
+use Rattle.apex_laws.proofs.Restarts.{call_case, done_case, goes_on, restarts_other, return_case, start_awaits_not, start_set, start_waits_not, woken_table}
 use Rattle.apex_laws.proofs.SetNames.{off_channel, put_holds}
-use Rattle.apex_laws.proofs.Stays.{EntersNew, none_in_order, set_stays_in_order}
+use Rattle.apex_laws.proofs.Stays.{EntersNew, lock_stays_in_order, none_in_order, set_stays_in_order}
 use Rattle.apex_laws.proofs.Tables.{distinct_each}
 use Rattle.apex_laws.proofs.Waiters.{all_weaker, member_not}
 use Rattle.apex_laws.proofs.WaitersOf.{same_is}
@@ -41,7 +44,7 @@ demands_value (condition ∷ conditions) channel number asked answer claim none 
 pub own_ready : (configuration : Configuration) (number core : ℕ) (cores : List CoreState) (partition : Partition) (call : CallRecord)
     → are_distinct partition.table ≡ true → AllHold (own_call_demands configuration number cores partition core call) → IsReadyCall configuration partition core call
 own_ready configuration number core cores partition call distinct hold = record {
-  ready = choice_exists number core partition.table call.who distinct hold.1.0.1;
+  ready = choice_exists number core partition.lock.owner partition.table call.who distinct hold.1.0.1;
   none = λ done. demands_none (conditions_of configuration call.who partition call.request) (channel_of partition call.request) number call.request
       (answer_of cores core call.who partition call.request) call.claim hold.1.1.1.1.1 done;
 }
@@ -92,26 +95,32 @@ named_across (Request.QueuingPort port QueuingOperation.Clear) (Some channel) nu
     (channel_set channel Senders, refl, named_wait (channel_set channel Senders) number table others wakes who here named)
 named_across _ chan number table others wakes who here named = absurd wakes
 
--- so a call of another partition ends none of their waits
-foreign_stays : (configuration : Configuration) (number core : ℕ) (cores : List CoreState) (partition : Partition) (call : CallRecord) → nat_eq call.who.part number ≡ false
-    → AllHold (partition_demands configuration number cores partition core (Call call)) → (wanted : WaitingSet) → is_of_channel wanted ≡ false
-    → (who : Who) → who.part ≡ number → waits_at wanted (item_at partition.table who.proc) ≡ true → ends_wait call who ≡ false
-foreign_stays configuration number core cores partition call elsewhere hold wanted off who here waits =
+-- so a call of another partition ends none of their waits, if they wait at no channel
+foreign_goes_on : (configuration : Configuration) (number core : ℕ) (cores : List CoreState) (partition : Partition) (call : CallRecord) → nat_eq call.who.part number ≡ false
+    → AllHold (partition_demands configuration number cores partition core (Call call)) → (who : Who) → who.part ≡ number
+    → ((other : WaitingSet) → is_of_channel other ≡ true → waits_at other (item_at partition.table who.proc) ≡ true → ⊥) → ends_wait call who ≡ false
+foreign_goes_on configuration number core cores partition call elsewhere hold who here apart =
     let foreign = subst (λ one. AllHold (call_demands one configuration number cores partition core call)) elsewhere hold in
     let there : nat_eq call.who.part who.part ≡ false = ap (nat_eq call.who.part) here ∙ elsewhere in
     goes_on call who (restarts_other call who.part (differs_back call.who.part who.part there))
     (cannot_hold (is_named who call.claim.woken) (λ named.
-    (let across = named_across call.request call.claim.chan number partition.table call.claim.woken foreign.1.0 who here named in
-    true≢false (sym across.1 ∙ off_channel wanted across.0 (item_at partition.table who.proc) off waits across.2))))
+    (let across = named_across call.request call.claim.chan number partition.table call.claim.woken foreign.1.0 who here named in apart across.0 across.1 across.2)))
     (not_stopped call who there)
+
+foreign_stays : (configuration : Configuration) (number core : ℕ) (cores : List CoreState) (partition : Partition) (call : CallRecord) → nat_eq call.who.part number ≡ false
+    → AllHold (partition_demands configuration number cores partition core (Call call)) → (wanted : WaitingSet) → is_of_channel wanted ≡ false
+    → (who : Who) → who.part ≡ number → waits_at wanted (item_at partition.table who.proc) ≡ true → ends_wait call who ≡ false
+foreign_stays configuration number core cores partition call elsewhere hold wanted off who here waits =
+    foreign_goes_on configuration number core cores partition call elsewhere hold who here
+    (λ other of_channel also. true≢false (sym of_channel ∙ off_channel wanted other (item_at partition.table who.proc) off waits also))
 
 -- numbers
 
--- a partition with other processes, another mode, or an error handler
-with_table : (partition : Partition) (mode : Mode) (handler : Bool) (table : Table) → HasDistinctObjects partition
-    → HasDistinctObjects (record partition { mode = mode; has_handler = handler; table = table })
-with_table partition mode handler table has kind.Buffer = has kind.Buffer
-with_table partition mode handler table has other = has other
+-- a partition with other processes, another mode, another lock, or an error handler
+pub with_table : (partition : Partition) (mode : Mode) (handler : Bool) (lock : Lock) (table : Table) → HasDistinctObjects partition
+    → HasDistinctObjects (record partition { mode = mode; has_handler = handler; lock = lock; table = table })
+with_table partition mode handler lock table has kind.Buffer = has kind.Buffer
+with_table partition mode handler lock table has other = has other
 
 -- what is created has a new number
 new_distinct : {Object : Type 0} (objects : List (ℕ × Object)) (claimed : Option ℤ) (made : Option Object) → are_distinct objects ≡ true → is_new (is_free objects) claimed ≡ true
@@ -149,21 +158,21 @@ objects_distinct : (configuration : Configuration) (cores : List CoreState) (pla
     → CallsClaimValues number cores core body partition → HasDistinctObjects partition → HasDistinctObjects (partition_by configuration cores place core number body partition)
 objects_distinct configuration cores place core number (Disp who) partition claims has = has
 objects_distinct configuration cores place core number (Tick woken) partition claims has =
-    with_table (each_set (set_after place (Tick woken)) partition) partition.mode partition.has_handler (each_item (ticked place number woken) partition.table) (sets_distinct (set_after place (Tick woken)) partition has)
+    with_table (each_set (set_after place (Tick woken)) partition) partition.mode partition.has_handler (lock_left place (Tick woken) partition.lock) (each_item (ticked place number woken) partition.table) (sets_distinct (set_after place (Tick woken)) partition has)
 objects_distinct configuration cores place core number (Ret ret) partition claims has =
-    return_case HasDistinctObjects configuration cores place core number ret partition (with_table partition partition.mode partition.has_handler (each_item (returned ret.who.proc) partition.table) has) has
+    return_case HasDistinctObjects configuration cores place core number ret partition (with_table partition partition.mode partition.has_handler partition.lock (each_item (returned ret.who.proc) partition.table) has) has
 objects_distinct configuration cores place core number (Call call) partition claims has =
     let after : Partition = partition_called configuration cores place core call partition in
     call_case HasDistinctObjects configuration cores place core number call partition
-    (λ own none. with_table (objects_called configuration place call partition) after.mode after.has_handler after.table (sets_distinct (set_after place (Call call))
+    (λ own none. with_table (objects_called configuration place call partition) after.mode after.has_handler after.lock after.table (sets_distinct (set_after place (Call call))
     (cond (is_done call.claim.out) (objects_by configuration call.who call.claim.val call.request partition) partition)
     (done_case HasDistinctObjects configuration call partition (λ done. used_distinct configuration cores core call.who call.claim.val call.request partition has (claims own done)) has)))
     (λ own mode is. start_has_distinct StartCondition.PartitionRestart mode configuration call.who.part place)
-    (λ elsewhere. with_table partition partition.mode partition.has_handler (woken_table place number (message_of call.request) call.claim.woken partition.table) has)
+    (λ elsewhere. with_table partition partition.mode partition.has_handler partition.lock (woken_table place number (message_of call.request) call.claim.woken partition.table) has)
 objects_distinct configuration cores place core number (Arrive crossing) partition claims has =
-    with_table partition partition.mode partition.has_handler (woken_table place number crossing.message crossing.woken partition.table) has
+    with_table partition partition.mode partition.has_handler partition.lock (woken_table place number crossing.message crossing.woken partition.table) has
 objects_distinct configuration cores place core number (Depart crossing) partition claims has =
-    with_table partition partition.mode partition.has_handler (woken_table place number [] crossing.woken partition.table) has
+    with_table partition partition.mode partition.has_handler partition.lock (woken_table place number [] crossing.woken partition.table) has
 
 -- the sets
 
@@ -238,6 +247,86 @@ own_caller_new configuration number place core (Call call) partition sound ready
     member_nowhere number place core partition call.who sound (ready (holds_if (nat_eq call.who.part number) own)).ready wanted
 own_caller_new configuration number place core _ partition sound ready wanted own = tt
 
+-- one place later
+next_place : (place : ℕ) → suc place ≡ place + 1
+next_place place = omega arith
+
+-- the lock
+
+-- which processes have an entry in the set of a partition's lock
+abbrev pub WaitsForLock : ℕ → Partition → Entry → Type 0
+WaitsForLock number partition entry = (entry.who.part ≡ number) × IsTrue (waits_for_lock (item_at partition.table entry.who.proc))
+
+-- an entry whose wait goes on
+stays_for_lock : (configuration : Configuration) (cores : List CoreState) (place core number : ℕ) (body : Body) (partition : Partition) → CallsReady configuration core number body partition
+    → (entry : Entry) → leaves body entry.who ≡ false → WaitsForLock number partition entry
+    → WaitsForLock number (partition_by configuration cores place core number body partition) entry
+stays_for_lock configuration cores place core number body partition ready entry stays is = (
+  is.0,
+  subst (λ part. waits_for_lock (item_at (partition_by configuration cores place core part body partition).table entry.who.proc) ≡ true) is.0
+      (keeps_waiting_for_lock configuration cores place core body partition entry.who (subst (λ part. CallsReady configuration core part body partition) (sym is.0) ready) stays is.1),
+)
+
+-- a caller that enters
+enters_for_lock : (configuration : Configuration) (cores : List CoreState) (place core number : ℕ) (body : Body) (partition : Partition) → CallsReady configuration core number body partition
+    → (IsElsewhere number body → ⊥) → EntersLockWith place body (WaitsForLock number (partition_by configuration cores place core number body partition))
+enters_for_lock configuration cores place core number (Call call) partition ready own =
+    let here = holds_if (nat_eq call.who.part number) own in
+    let same : call.who.part ≡ number = eqb-true call.who.part number here in
+    λ enters. (
+      same,
+      subst (λ part. waits_for_lock (item_at (partition_by configuration cores place core part (Call call) partition).table call.who.proc) ≡ true) same
+          (entered_waits_for_lock configuration cores place core call partition (ready here) enters),
+    )
+enters_for_lock configuration cores place core number _ partition ready own = tt
+
+-- an entry at a call of another partition, at an arrival or at a departure
+foreign_for_lock : (configuration : Configuration) (number core : ℕ) (cores : List CoreState) (body : Body) (partition : Partition)
+    → AllHold (partition_demands configuration number cores partition core body) → IsElsewhere number body → (entry : Entry) → WaitsForLock number partition entry → leaves body entry.who ≡ false
+foreign_for_lock configuration number core cores (Call call) partition hold elsewhere entry is =
+    foreign_goes_on configuration number core cores partition call elsewhere hold entry.who is.0
+    (λ other of_channel also. lock_waits_not other (item_at partition.table entry.who.proc) is.1 also)
+foreign_for_lock configuration number core cores (Arrive crossing) partition hold elsewhere entry is =
+    cannot_hold (is_named entry.who crossing.woken) (λ named. lock_waits_not (channel_set crossing.chan Receivers) (item_at partition.table entry.who.proc) is.1
+    (named_wait (channel_set crossing.chan Receivers) number partition.table crossing.woken hold.0 entry.who is.0 named))
+foreign_for_lock configuration number core cores (Depart crossing) partition hold elsewhere entry is =
+    cannot_hold (is_named entry.who crossing.woken) (λ named. lock_waits_not (channel_set crossing.chan Senders) (item_at partition.table entry.who.proc) is.1
+    (named_wait (channel_set crossing.chan Senders) number partition.table crossing.woken hold.0 entry.who is.0 named))
+foreign_for_lock configuration number core cores _ partition hold elsewhere entry is = absurd elsewhere
+
+-- a process that is ready has no entry in it
+pub not_in_lock : (number place core : ℕ) (partition : Partition) (who : Who) → IsSoundPart number place partition → FoundReady core (item_at partition.table who.proc)
+    → has_entry_in who partition.lock.waiters ≡ false
+not_in_lock number place core partition who sound ready =
+    member_not (λ one. (one.part ≡ number) × IsTrue (waits_for_lock (item_at partition.table one.proc))) who
+    (λ is. ready_waits_not_for_lock core (item_at partition.table who.proc) ready is.1) partition.lock.waiters sound.lock.is_member
+
+caller_not_in_lock : (configuration : Configuration) (number place core : ℕ) (body : Body) (partition : Partition) → IsSoundPart number place partition → CallsReady configuration core number body partition
+    → (IsElsewhere number body → ⊥) → EntersNew body partition.lock.waiters
+caller_not_in_lock configuration number place core (Call call) partition sound ready own =
+    not_in_lock number place core partition call.who sound (ready (holds_if (nat_eq call.who.part number) own)).ready
+caller_not_in_lock configuration number place core _ partition sound ready own = tt
+
+-- the lock after a record
+sound_lock_after : (configuration : Configuration) (number : ℕ) (cores : List CoreState) (partition : Partition) (place core : ℕ) (body : Body)
+    → IsSoundPart number place partition → CallsReady configuration core number body partition → AllHold (partition_demands configuration number cores partition core body)
+    → IsSoundLock number (place + 1) (partition_by configuration cores place core number body partition)
+sound_lock_after configuration number cores partition place core body sound ready hold =
+    let next = partition_by configuration cores place core number body partition in record {
+      is_member = lock_set_after (AllEntries (WaitsForLock number partition)) (AllEntries (WaitsForLock number next)) configuration cores place core number body partition tt
+          (λ own all. each_lock_entry (WaitsForLock number partition) (WaitsForLock number next) place number body own
+          (stays_for_lock configuration cores place core number body partition ready)
+          (enters_for_lock configuration cores place core number body partition ready own) partition.lock.waiters all)
+          (λ elsewhere all. all_weaker (WaitsForLock number partition) (WaitsForLock number next)
+          (λ entry is. stays_for_lock configuration cores place core number body partition ready entry (foreign_for_lock configuration number core cores body partition hold elsewhere entry is) is)
+          partition.lock.waiters all) sound.lock.is_member;
+      order = subst (λ count. IsInOrder count next.lock.waiters) (next_place place)
+          (lock_stays_in_order configuration cores place place core number body partition refl
+          (caller_not_in_lock configuration number place core body partition sound ready) sound.lock.order);
+      waiters = λ process waits. lock_has_entry configuration cores place core body partition (record { part = number; proc = process }) ready
+          (λ before. sound.lock.waiters process before) waits;
+    }
+
 -- the whole partition
 
 -- a record's own calls claim their values
@@ -246,10 +335,6 @@ calls_claim : (configuration : Configuration) (number core : ℕ) (cores : List 
 calls_claim configuration number core cores partition (Call call) hold =
     λ own done off. own_value configuration number core cores partition call (own_holds configuration number core cores partition call own hold) done off
 calls_claim configuration number core cores partition _ hold = tt
-
--- one place later
-next_place : (place : ℕ) → suc place ≡ place + 1
-next_place place = omega arith
 
 sound_after : (configuration : Configuration) (number : ℕ) (cores : List CoreState) (partition : Partition) (place core : ℕ) (body : Body)
     → IsSoundPart number place partition → AllHold (partition_demands configuration number cores partition core body)
@@ -270,6 +355,7 @@ sound_after configuration number cores partition place core body sound hold =
           (own_caller_new configuration number place core body partition sound ready wanted) (sound.order wanted));
       waiters = λ wanted process off waits. object_has_entry configuration cores place core body partition (record { part = number; proc = process }) wanted ready off
           (λ before. sound.waiters wanted process off before) waits;
+      lock = sound_lock_after configuration number cores partition place core body sound ready hold;
     }
 
 -- the places of a set are below every later place too
@@ -286,6 +372,11 @@ sound_later number place later partition most sound = record {
   is_member = sound.is_member;
   order = λ wanted. order_before place later (entries_at partition wanted) most (sound.order wanted);
   waiters = sound.waiters;
+  lock = record {
+    is_member = sound.lock.is_member;
+    order = order_before place later partition.lock.waiters most sound.lock.order;
+    waiters = sound.lock.waiters;
+  };
 }
 
 cold_sound : (configuration : Configuration) (number place : ℕ) → IsSoundPart number place (cold_partition configuration number)
@@ -296,6 +387,12 @@ cold_sound configuration number place =
       is_member = λ wanted. subst (AllEntries (WaitsInSet number wanted (cold_partition configuration number))) (sym (empty wanted)) tt;
       order = λ wanted. subst (IsInOrder place) (sym (empty wanted)) (none_in_order place);
       waiters = λ wanted process off waits. absurd (start_waits_not Mode.ColdStart (first_core configuration number) 0 process wanted waits);
+      lock = record {
+        is_member = tt;
+        order = none_in_order place;
+        waiters = λ process waits. absurd (start_awaits_not Mode.ColdStart (first_core configuration number) 0 process Awaited.TheLock
+            (lock_awaits (item_at (first_processes Mode.ColdStart (first_core configuration number) 0) process) ∙ waits));
+      };
     }
 
 pub part_stays_sound : PartStaysSound
@@ -308,7 +405,8 @@ part_stays_sound = (
 -- who runs
 
 pub running_is_in_no_set : RunningIsInNoSet
-running_is_in_no_set number place core cores partition who sound running wanted = (
-  member_nowhere number place core partition who sound (choice_exists number core partition.table who sound.distinct running.1) wanted,
-  (sound.order wanted).below,
-)
+running_is_in_no_set number place core cores partition who sound running =
+    let ready = choice_exists number core partition.lock.owner partition.table who sound.distinct running.1 in (
+      λ wanted. (member_nowhere number place core partition who sound ready wanted, (sound.order wanted).below),
+      (not_in_lock number place core partition who sound ready, sound.lock.order.below),
+    )

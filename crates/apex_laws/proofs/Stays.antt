@@ -1,23 +1,25 @@
 -- A run's states stay tied, and their waiting sets in order.
-use Rattle.std.proofs.Common.{◌≡◌, ℕ, List, [], ◌∷◌, true, false, nat_eq, Option, Some, None, IsTrue, refl, sym, ap, subst, ◌∙◌, true≢false, ◌&&◌, suc, ◌<◌, ◌++◌, Bool, arith}
-use Rattle.std.proofs.lemmas.Bool.{eqb-true, eq-eqb}
+use Rattle.std.proofs.Common.{◌≡◌, ℕ, List, [], ◌∷◌, true, false, nat_eq, Option, Some, None, IsTrue, refl, sym, ap, subst, ◌∙◌, true≢false, suc, ◌<◌, ◌++◌, Bool, arith}
+use Rattle.std.proofs.lemmas.Bool.{eqb-true}
 use Rattle.apex_types.specs.declared.object_kind.ObjectKind.TheVariants as kind
 use Rattle.apex_laws.proofs.Common.{AllEntries, AllPairs, AllPorts, AreApart, AreTied, Body, Call, CallRecord, Condition, Configuration, CoreState, Disp, End, Entry, IsAtEnd, IsEarlier, IsInOrder, IsLawfulBody, IsLawfulCall, IsTied, Mode}
-use Rattle.apex_laws.proofs.Common.{ObjectKind, Ordered, OrderIsApart, Partition, QueuingOperation, Receivers, Request, Ret, Run, Senders, SetsAreInOrder, State, StaysInOrder, StaysTied, Step, Tick, WaitingSet, WaitsIn, Who, channel_of}
-use Rattle.apex_laws.proofs.Common.{channel_set, cold_state, conditions_of, ends_wait, enters, entries_at, entry_of, has_entry_in, is_named, is_no_error, is_of_channel, is_receiver, is_same, is_sender, is_target, objects_by, partition_by}
-use Rattle.apex_laws.proofs.Common.{partition_called, set_after, stop_of, time_of, waits_at, without}
-use Rattle.apex_laws.proofs.Common.{Arrive, Depart, End, StartCondition}
+use Rattle.apex_laws.proofs.Common.{ObjectKind, Ordered, OrderIsApart, Partition, Receivers, Request, Ret, Run, Senders, SetsAreInOrder, State, StaysInOrder, StaysTied, Step, Tick, WaitingSet, WaitsIn, Who, channel_of}
+use Rattle.apex_laws.proofs.Common.{channel_set, cold_state, conditions_of, ends_wait, enters, entries_at, entry_of, has_entry_in, is_named, is_of_channel, is_receiver, is_same, is_sender, objects_by, partition_by}
+use Rattle.apex_laws.proofs.Common.{partition_called, set_after, without}
+use Rattle.apex_laws.proofs.Common.{Arrive, Depart, End, StartCondition, enters_lock, lock_waiters_after}
 use Rattle.apex_laws.proofs.Wakes.{WaitsThere, arrival_wakes, departure_wakes, waits_nowhere_else}
-use Rattle.apex_laws.proofs.Booleans.{by_test, cannot_hold, holds_if, neither_first, neither_later, never_found, not_first, not_second}
-use Rattle.apex_laws.proofs.Demanded.{across, caller_in_no_set, WaitsAcross}
+use Rattle.apex_laws.proofs.Booleans.{by_test, cannot_hold, holds_if, neither_first, neither_later, never_found}
+use Rattle.apex_laws.proofs.Demanded.{caller_in_no_set}
+use Rattle.apex_laws.proofs.ForeignCalls.{goes_on_here}
+use Rattle.apex_laws.proofs.LockTies.{caller_in_no_lock, lock_tied}
 use Rattle.apex_laws.proofs.Ends.{port_is_at_end, ports_after, WaitsAtEnd}
-use Rattle.apex_laws.proofs.Keeps.{calls_ready, distinct_by, each_entry, entered_waits, EntersWith, IsElsewhere, keeps_waiting, lawful_values, leaves, one_set_after, ready_call}
+use Rattle.apex_laws.proofs.Keeps.{calls_ready, distinct_by, each_entry, entered_waits, EntersWith, IsElsewhere, keeps_waiting, lawful_values, leaves, lock_set_after, one_set_after, ready_call}
 use Rattle.apex_laws.proofs.Objects.{of_objects}
-use Rattle.apex_laws.proofs.Restarts.{call_case, done_case, goes_on, restarts_other, return_case, start_set}
+use Rattle.apex_laws.proofs.Restarts.{call_case, done_case, return_case, start_set}
 use Rattle.apex_laws.proofs.SetNames.{off_channel}
 use Rattle.apex_laws.proofs.Waiters.{all_push, all_weaker, all_without}
 use Rattle.apex_laws.proofs.WaitersOf.{same_is, same_itself}
-use Rattle.apex_laws.proofs.Wakes.{ClaimsOutcome, entering_is_the_sentence, found, nobody, woken}
+use Rattle.apex_laws.proofs.Wakes.{ClaimsOutcome, entering_is_the_sentence, found, woken}
 
 -- A step keeps a state tied, and so does a run.
 
@@ -61,44 +63,14 @@ set_tied configuration state place core body tied law Home wanted home entries a
 
 -- a call of another partition ends no wait in a set of this one
 
--- who is woken through a channel waits in a set of it
-not_across : (asked : Request) (partitions : ℕ → Partition) (configuration : Configuration) (channel : ℕ) (wanted : WaitingSet) (who : Who) → is_of_channel wanted ≡ false
-    → waits_at wanted (found partitions who) ≡ true → WaitsAcross asked partitions configuration channel who → ⊥
-not_across (Request.QueuingPort port (QueuingOperation.Send length time_out message)) partitions configuration channel wanted who off waits across =
-    true≢false (off_channel wanted (channel_set channel Receivers) (found partitions who) off waits across.1)
-not_across (Request.QueuingPort port (QueuingOperation.Receive time_out)) partitions configuration channel wanted who off waits across =
-    true≢false (off_channel wanted (channel_set channel Senders) (found partitions who) off waits across.1)
-not_across (Request.QueuingPort port QueuingOperation.Clear) partitions configuration channel wanted who off waits across =
-    true≢false (off_channel wanted (channel_set channel Senders) (found partitions who) off waits across.1)
-not_across _ partitions configuration channel wanted who off waits across = across
-
--- so who waits in a set of this partition isn't named
-not_named_here : (configuration : Configuration) (state : State) (core : ℕ) (call : CallRecord) (number : ℕ) → AreTied configuration state → nat_eq call.who.part number ≡ false
-    → (conditions : List Condition) (channel : Option ℕ) → ClaimsOutcome configuration state core call.who call.request call.claim conditions channel
-    → (wanted : WaitingSet) → is_of_channel wanted ≡ false → (who : Who) → who.part ≡ number → waits_at wanted (found state.partitions who) ≡ true → is_named who call.claim.woken ≡ true → ⊥
-not_named_here configuration state core call number tied elsewhere (condition ∷ conditions) channel has wanted off who here waits named = nobody who call.claim.woken has.woken named
-not_named_here configuration state core call number tied elsewhere [] None has wanted off who here waits named =
-    let by = woken configuration state core call.who call.request call.claim tied [] None has who named in
-    true≢false (sym (eq-eqb call.who.part number (sym (by.own has.chan) ∙ here)) ∙ elsewhere)
-not_named_here configuration state core call number tied elsewhere [] (Some channel) has wanted off who here waits named =
-    not_across call.request state.partitions configuration channel wanted who off waits
-    (across configuration state (time_of state.cores core) channel call.who.part call.request tied has.kind who (sym (has.woken who) ∙ named))
-
 -- an entry of a set of this partition stays
 stays_here : (configuration : Configuration) (state : State) (core : ℕ) (call : CallRecord) → AreTied configuration state
     → IsLawfulCall configuration state core call → (number : ℕ) → nat_eq call.who.part number ≡ false
     → (wanted : WaitingSet) → is_of_channel wanted ≡ false
     → (entry : Entry) → IsTied (λ home. home ≡ number) wanted state.partitions entry → ends_wait call entry.who ≡ false
 stays_here configuration state core call tied law number elsewhere wanted off entry is =
-    let there : nat_eq entry.who.part call.who.part ≡ false = cannot_hold (nat_eq entry.who.part call.who.part) (λ same.
-    true≢false (sym (eq-eqb call.who.part number (sym (eqb-true entry.who.part call.who.part same) ∙ is.0)) ∙ elsewhere)) in
-    goes_on call entry.who (restarts_other call entry.who.part there)
-    (cannot_hold (is_named entry.who call.claim.woken) (λ named.
-    not_named_here configuration state core call number tied elsewhere
-    (conditions_of configuration call.who (state.partitions call.who.part) call.request) (channel_of (state.partitions call.who.part) call.request) law.outcome
-    wanted off entry.who is.0 is.1 named))
-    (not_second (is_no_error call.claim.out) (nat_eq entry.who.part call.who.part && is_target (stop_of call.request) entry.who.proc)
-    (not_first (nat_eq entry.who.part call.who.part) (is_target (stop_of call.request) entry.who.proc) there))
+    goes_on_here configuration state core call tied law number elsewhere entry.who is.0
+    (λ other of_channel also. true≢false (sym of_channel ∙ off_channel wanted other (found state.partitions entry.who) off is.1 also))
 
 -- a record that ends waits at a channel alone ends none in a set of a partition
 crossed_set : (configuration : Configuration) (state : State) (place core : ℕ) (body : Body) → AreTied configuration state
@@ -222,6 +194,7 @@ step_tied configuration state ordered next tied step =
     subst (AreTied configuration) (sym step.1) (record {
       distinct = λ number. distinct_by configuration state.cores place core number body (state.partitions number) (lawful_values configuration state core body law number) (tied.distinct number);
       objects = λ number wanted. own_set configuration state place core body tied law number wanted;
+      locks = λ number. lock_tied configuration state place core body tied law number;
       senders = λ number. set_tied configuration state place core body tied law (λ home. IsTrue (is_sender configuration number home)) (channel_set number Senders)
           (enters_at_end configuration state core body tied law (channel_set number Senders)) (state.channels number).senders (tied.senders number);
       receivers = λ number. set_tied configuration state place core body tied law (λ home. IsTrue (is_receiver configuration number home)) (channel_set number Receivers)
@@ -253,6 +226,7 @@ pub cold_tied : (configuration : Configuration) → AreTied configuration (cold_
 cold_tied configuration = record {
   distinct = λ number. refl;
   objects = λ number wanted. cold_sets configuration number wanted _;
+  locks = λ number. tt;
   senders = λ number. tt;
   receivers = λ number. tt;
   ports = λ number. tt;
@@ -341,6 +315,22 @@ set_in_order count place (Call call) wanted entries at new order =
     (all_without (λ other. is_same other.who call.who ≡ false) (λ other. is_same other.who call.who ≡ false) (ends_wait call) (λ other stays fact. fact) entries (others call.who entries new)))
     (λ elsewhere. order_later count (without (ends_wait call) entries) rest)
 
+-- the set of a lock after a record
+lock_in_order : (count place : ℕ) (body : Body) (entries : List Entry) → place ≡ count → EntersNew body entries → IsInOrder count entries
+    → IsInOrder (suc count) (lock_waiters_after place body entries)
+lock_in_order count place (Disp who) entries at new order = order_later count entries order
+lock_in_order count place (Ret ret) entries at new order = order_later count entries order
+lock_in_order count place (Arrive crossing) entries at new order = order_later count entries order
+lock_in_order count place (Depart crossing) entries at new order = order_later count entries order
+lock_in_order count place (Tick woken) entries at new order =
+    order_later count (without (λ who. is_named who woken) entries) (order_without count (λ who. is_named who woken) entries order)
+lock_in_order count place (Call call) entries at new order =
+    let rest = order_without count (ends_wait call) entries order in
+    by_test (IsInOrder (suc count)) (enters_lock call) (without (ends_wait call) entries ++ entry_of place call ∷ []) (without (ends_wait call) entries)
+    (λ here. order_push count (entry_of place call) (without (ends_wait call) entries) at rest
+    (all_without (λ other. is_same other.who call.who ≡ false) (λ other. is_same other.who call.who ≡ false) (ends_wait call) (λ other stays fact. fact) entries (others call.who entries new)))
+    (λ elsewhere. order_later count (without (ends_wait call) entries) rest)
+
 -- the empty set
 pub none_in_order : (count : ℕ) → IsInOrder count []
 none_in_order count = record { pairs = tt; below = tt }
@@ -365,6 +355,22 @@ set_stays_in_order configuration cores count place core number body partition wa
     (λ own entries before. set_in_order count place body wanted entries at (before.1 own) before.0)
     (λ elsewhere before. order_later count (entries_at partition wanted) before.0) (order, new)
 
+-- so it is with the set of its lock
+pub lock_stays_in_order : (configuration : Configuration) (cores : List CoreState) (count place core number : ℕ) (body : Body) (partition : Partition) → place ≡ count
+    → ((IsElsewhere number body → ⊥) → EntersNew body partition.lock.waiters) → IsInOrder count partition.lock.waiters
+    → IsInOrder (suc count) (partition_by configuration cores place core number body partition).lock.waiters
+lock_stays_in_order configuration cores count place core number body partition at new order =
+    lock_set_after (λ entries. IsInOrder count entries) (IsInOrder (suc count))
+    configuration cores place core number body partition (none_in_order (suc count))
+    (λ own before. lock_in_order count place body partition.lock.waiters at (new own) before)
+    (λ elsewhere before. order_later count partition.lock.waiters before) order
+
+new_in_lock : (configuration : Configuration) (state : State) (core : ℕ) (body : Body) → AreTied configuration state
+    → IsLawfulBody configuration state core body → (number : ℕ) → EntersNew body (state.partitions number).lock.waiters
+new_in_lock configuration state core (Call call) tied law number = caller_in_no_lock configuration state core call tied law number
+new_in_lock configuration state core (Disp who) tied law number = tt
+new_in_lock configuration state core _ tied law number = tt
+
 -- the whole state
 
 pub step_in_order : (configuration : Configuration) (state : State) (ordered : Ordered) (next : State)
@@ -379,6 +385,8 @@ step_in_order configuration state ordered next tied order step =
       objects = λ number wanted. set_stays_in_order configuration state.cores state.count place core number body (state.partitions number) wanted at
           (λ own. new_here configuration state core body tied law (λ home. home ≡ number) wanted (entries_at (state.partitions number) wanted) (tied.objects number wanted))
           (order.objects number wanted);
+      locks = λ number. lock_stays_in_order configuration state.cores state.count place core number body (state.partitions number) at
+          (λ own. new_in_lock configuration state core body tied law number) (order.locks number);
       senders = λ number. set_in_order state.count place body (channel_set number Senders) (state.channels number).senders at
           (new_here configuration state core body tied law (λ home. IsTrue (is_sender configuration number home)) (channel_set number Senders) (state.channels number).senders (tied.senders number))
           (order.senders number);
@@ -392,7 +400,7 @@ cold_in_order configuration number wanted = subst (IsInOrder 0) (sym (start_set 
 
 pub stays_in_order : StaysInOrder
 stays_in_order = (
-  λ configuration. record { objects = cold_in_order configuration; senders = λ number. none_in_order 0; receivers = λ number. none_in_order 0 },
+  λ configuration. record { objects = cold_in_order configuration; locks = λ number. none_in_order 0; senders = λ number. none_in_order 0; receivers = λ number. none_in_order 0 },
   step_in_order,
   run_keeps SetsAreInOrder step_in_order,
 )

@@ -1,5 +1,5 @@
 -- The entries of a waiting set: a fact about each of them, and the one that goes on first.
-use Rattle.std.proofs.Common.{◌≡◌, ℕ, zero, suc, List, [], ◌∷◌, ◌++◌, Bool, true, false, cond, Option, Some, None, refl, sym, ap, subst, ◌∙◌, true≢false}
+use Rattle.std.proofs.Common.{◌≡◌, ℕ, zero, suc, List, [], ◌∷◌, ◌++◌, Bool, true, false, cond, Option, Some, None, refl, sym, ap, subst, ◌∙◌, true≢false, ◌||◌}
 use Rattle.apex_laws.proofs.Common.{AllEntries, Discipline, Entry, Who, first_waiter, has_entry_in, is_named, is_same, precedes, sooner_entry, waiters_of, without}
 use Rattle.apex_laws.proofs.Common.{after_first, first_waiters, followed_by, is_same}
 use Rattle.apex_laws.proofs.Booleans.{by_test, either_way, other_holds}
@@ -83,3 +83,22 @@ member_not Fact who lacks [] all = refl
 member_not Fact who lacks (entry ∷ entries) all =
     either_way (is_same who entry.who) (λ same. absurd (lacks (subst Fact (sym (same_is who entry.who same)) all.0)))
     (λ differs. rw differs (member_not Fact who lacks entries all.1))
+
+-- those who leave first, and those who leave then
+pub without_without : (first second : Who → Bool) (entries : List Entry) → without second (without first entries) ≡ without (λ who. first who || second who) entries
+without_without first second [] = refl
+without_without first second (entry ∷ entries) =
+    elim (first entry.who) as (λ passed. without second (cond passed (without first entries) (entry ∷ without first entries))
+    ≡ cond (passed || second entry.who) (without (λ who. first who || second who) entries) (entry ∷ without (λ who. first who || second who) entries)) [
+      | true ↦ without_without first second entries
+      | false ↦ ap (λ others. cond (second entry.who) others (entry ∷ others)) (without_without first second entries)
+    ]
+
+-- if each entry leaves or stays alike
+pub without_alike : (Fact : Entry → Type 0) (leaves other : Who → Bool) → ((entry : Entry) → Fact entry → leaves entry.who ≡ other entry.who) → (entries : List Entry) → AllEntries Fact entries
+    → without leaves entries ≡ without other entries
+without_alike Fact leaves other alike [] all = refl
+without_alike Fact leaves other alike (entry ∷ entries) all =
+    let here = alike entry all.0 in
+    let rest = without_alike Fact leaves other alike entries all.1 in
+    λ i. cond (here i) (rest i) (entry ∷ rest i)

@@ -1,16 +1,18 @@
 -- Where a caller waits, and which processes a call wakes.
-use Rattle.std.proofs.Common.{◌≡◌, ℕ, zero, suc, List, [], ◌∷◌, length, Bool, true, false, cond, nat_eq, nat_lt, ℤ, pos, negsuc, Option, Some, None, refl, sym, ap, subst, ◌∙◌, true≢false, IsTrue, ◌+◌, ◌&&◌}
+use Rattle.std.proofs.Common.{◌≡◌, ℕ, zero, suc, List, [], ◌∷◌, length, Bool, true, false, cond, nat_eq, nat_lt, ℤ, pos, negsuc, Option, Some, None, refl, sym, ap, subst, ◌∙◌, true≢false, IsTrue, ◌+◌, ◌&&◌, ◌||◌, option_map}
 use Rattle.std.proofs.lemmas.Bool.{and_parts}
+use Rattle.std.specs.Option.{option_to_list}
 use Rattle.apex_types.specs.declared.operation.ObjectOperation.TheVariants as on
-use Rattle.apex_laws.proofs.Common.{AllEntries, Answer, AreTied, Ask, Blackboard, BlackboardOperation, Buffer, BufferOperation, CallerOperation, CallRecord, Channel, Claim, Code, Condition, Configuration, Content, Effect, End}
-use Rattle.apex_laws.proofs.Common.{EnteringIsTheSentence, Entry, Event, EventOperation, HasOutcome, HasTimeOut, IsTied, Messages, Mutex, MutexOperation, ObjectOf, ObjectOperation, Out, Outcome, Partition, Process, ProcessOperation, Queued}
-use Rattle.apex_laws.proofs.Common.{QueuingOperation, Read, Receive, Receivers, Request, Sampled, Semaphore, SemaphoreOperation, Send, Senders, Stamped, State, Table, TimeOutIsTheSentence, Use, Wait, WaitingSet, WaitsIn, Who, Write}
+use Rattle.apex_laws.proofs.Common.{AllEntries, Answer, AreTied, Ask, BlackboardOperation, BufferOperation, CallerOperation, CallRecord, Channel, Claim, Code, Condition, Configuration, Content, Effect, End}
+use Rattle.apex_laws.proofs.Common.{EnteringIsTheSentence, Entry, EventOperation, HasOutcome, HasTimeOut, IsTied, Messages, Mutex, MutexOperation, ObjectOf, ObjectOperation, Out, Outcome, Partition, Process, ProcessOperation, Queued}
+use Rattle.apex_laws.proofs.Common.{QueuingOperation, Read, Receive, Receivers, Request, Sampled, SemaphoreOperation, Send, Senders, Stamped, State, Table, TimeOutIsTheSentence, Use, Wait, WaitingSet, WaitsIn, Who, Write}
 use Rattle.apex_laws.proofs.Common.{acquired_again, acquired_from, answer_by, answer_of, answering, appended, at_maximum, board_read, caller_after, caller_with, capacity_of, channel_answer, channel_effect, channel_set, code_when_due}
 use Rattle.apex_laws.proofs.Common.{created, done, due_by, due_of_call, due_time, entries_at, entries_at_end, entries_in, entries_of, event_waited, falls_due, first_waiter, given_object, handed_on, is_in, is_named, is_no_error, is_over}
 use Rattle.apex_laws.proofs.Common.{is_receiver, is_released, is_sender, is_set_used, is_suspension, is_the_set, is_waiting, item_at, kind_used, mutex_released, natural_of, not_acquired, not_yet, object_effect, objects_of, owed, peer}
 use Rattle.apex_laws.proofs.Common.{raised, reading_of, received, receiving_discipline, refresh_of, released_once, resuming, semaphore_waited, sending_discipline, sent, service_at, service_of, service_of_wait, set_at, set_of, signalled}
 use Rattle.apex_laws.proofs.Common.{suits_use, time_out_of, unmet, use_of, used, wait_of, waiting, waits_at, waking}
 use Rattle.apex_laws.proofs.Common.{Clear, CoreState, Crossing, Discipline, IsLawfulArrival, IsLawfulDeparture, arrival_use, emptied_queue, first_waiters, process_status, time_of}
+use Rattle.apex_laws.proofs.Common.{EnteringLockIsTheSentence, IsTiedToLock, Lock, LockIsAwaitedForever, LockOperation, first_for_lock, freed_by_stop, given_up, is_done, is_for_lock, is_of_lock, is_owner, lock_effect, locked_again, locked_from, next_owner, not_locked, stops_one, unlocked_once, waits_for_lock}
 use Rattle.apex_laws.proofs.Waiters.{firsts_have}
 use Rattle.apex_laws.proofs.Booleans.{by_test, impossible, is_itself, never_found, not_second, one_item}
 use Rattle.apex_laws.proofs.ConditionTests.{at_most_tells, equal_tells, Tells, tells_both}
@@ -146,33 +148,102 @@ operation_wakes Fact caller number (on.Mutex (MutexOperation.Reset process)) fou
     hand_on_wakes Fact (first_waiter found.discipline found.waiters) found
     (λ entry. first_has (λ entry. Fact entry.who) found.discipline found.waiters entry (all Receivers (is_itself (natural_of number))))
 
--- a service that uses no channel wakes processes in a waiting set that it uses, or processes that suspended themselves
-pub answer_wakes : (Fact : Who → Type 0) (cores : List CoreState) (core : ℕ) (who : Who) (partition : Partition) (asked : Request)
+-- the lock
+
+-- who gives the lock up wakes the first that waits for it
+next_wakes : (Fact : Who → Type 0) (lock : Lock) → AllEntries (λ entry. Fact entry.who) lock.waiters → (one : Who) → is_named one (next_owner lock) ≡ true → Fact one
+next_wakes Fact lock all one named = by (first_for_lock lock) refl named
+  where
+    by : (first : Option Entry) → first_for_lock lock ≡ first → is_named one (option_to_list (option_map (λ entry. entry.who) first)) ≡ true → Fact one
+    by None none named = nobody one [] refl named
+    by (Some entry) first named = only_named Fact entry.who one (first_has (λ entry. Fact entry.who) Discipline.Priority lock.waiters entry all first) named
+
+-- so does a stop of the owner
+pub freed_wakes : (Fact : Who → Type 0) (process : ℕ) (lock : Lock) → AllEntries (λ entry. Fact entry.who) lock.waiters
+    → (one : Who) → is_named one (freed_by_stop process lock) ≡ true → Fact one
+freed_wakes Fact process lock all one =
+    by_test (λ woken. is_named one woken ≡ true → Fact one) (is_owner lock.owner process) (next_owner lock) []
+    (λ owns named. next_wakes Fact lock all one named) (λ owns_not named. nobody one [] refl named)
+
+locked_wakes : (caller : ℕ) (lock : Lock) (owner : Option ℕ) → (locked_from owner caller lock).answer.woken ≡ []
+locked_wakes caller lock None = refl
+locked_wakes caller lock (Some owner) =
+    by_test (λ (effect : Effect Lock). effect.answer.woken ≡ []) (nat_eq owner caller) (locked_again lock) (not_locked lock) (λ own. refl) (λ other. refl)
+
+lock_wakes : (Fact : Who → Type 0) (caller : ℕ) (operation : LockOperation) (lock : Lock) → AllEntries (λ entry. Fact entry.who) lock.waiters
+    → Wakes Fact (lock_effect caller operation lock).answer
+lock_wakes Fact caller LockOperation.Lock lock all = wakes_none (locked_wakes caller lock lock.owner)
+lock_wakes Fact caller LockOperation.Unlock lock all =
+    by_test (λ (effect : Effect Lock). Wakes Fact effect.answer) (nat_lt 1 lock.level) (unlocked_once lock) (given_up lock)
+    (λ more. wakes_none refl) (λ last. wakes_some refl (next_wakes Fact lock all))
+
+-- services
+
+-- whether a service can give up the lock
+abbrev pub gives_lock_up : Request → Bool
+gives_lock_up asked = is_of_lock asked || stops_one asked
+
+-- any service but STOP_SELF, whose answer alone names a process and is not NO_ERROR
+abbrev NoStopSelf : Request → Type 0
+NoStopSelf (Request.Caller CallerOperation.StopSelf) = ⊥
+NoStopSelf _ = Unit {0}
+
+-- a service that uses no channel wakes processes in a waiting set that it uses, processes that suspended themselves, or one that waits for
+-- the lock
+service_wakes : (Fact : Who → Type 0) (cores : List CoreState) (core : ℕ) (who : Who) (partition : Partition) (asked : Request)
     → ((wanted : WaitingSet) → is_set_used asked wanted ≡ true → AllEntries (λ entry. Fact entry.who) (entries_at partition wanted))
     → ((process : ℤ) (target : Process) → created partition.table process ≡ Some target → is_suspension target.wait ≡ true → Fact (peer who process))
+    → (gives_lock_up asked ≡ true → AllEntries (λ entry. Fact entry.who) partition.lock.waiters) → NoStopSelf asked
     → Wakes Fact (answer_of cores core who partition asked)
-answer_wakes Fact cores core who partition (Request.Object number operation) all suspended =
+service_wakes Fact cores core who partition (Request.Object number operation) all suspended lock other =
     let objects = objects_of partition (kind_used operation) in
     by_object Fact (given_object objects number) (λ found. (object_effect who.proc operation found).answer)
     (λ found is. operation_wakes Fact who.proc number operation found (λ end used. given_entries (AllEntries (λ entry. Fact entry.who)) (entries_at_end (kind_used operation) end) objects number found is
     (all (set_at (kind_used operation) (natural_of number) end) used)))
-answer_wakes Fact cores core who partition (Request.Process process ProcessOperation.Resume) all suspended =
+service_wakes Fact cores core who partition (Request.Process process ProcessOperation.Resume) all suspended lock other =
     resume_wakes Fact (peer who process) (created partition.table process) (suspended process)
-answer_wakes Fact cores core who partition (Request.Process process ProcessOperation.GetStatus) all suspended =
+service_wakes Fact cores core who partition (Request.Process process ProcessOperation.GetStatus) all suspended lock other =
     by_object Fact (created partition.table process) (process_status cores (peer who process)) (λ target is. wakes_none refl)
-answer_wakes Fact cores core who partition (Request.Caller (CallerOperation.SuspendSelf time_out)) all suspended = wakes_none (done_or_waiting (is_over time_out))
-answer_wakes Fact cores core who partition (Request.Caller (CallerOperation.TimedWait delay)) all suspended = wakes_none (done_or_waiting (is_over delay))
-answer_wakes Fact cores core who partition (Request.Caller CallerOperation.PeriodicWait) all suspended = wakes_none (done_or_waiting (is_released (time_of cores core) (item_at partition.table who.proc)))
-answer_wakes Fact cores core who partition _ all suspended = wakes_none refl
+service_wakes Fact cores core who partition (Request.Caller (CallerOperation.SuspendSelf time_out)) all suspended lock other = wakes_none (done_or_waiting (is_over time_out))
+service_wakes Fact cores core who partition (Request.Caller (CallerOperation.TimedWait delay)) all suspended lock other = wakes_none (done_or_waiting (is_over delay))
+service_wakes Fact cores core who partition (Request.Caller CallerOperation.PeriodicWait) all suspended lock other = wakes_none (done_or_waiting (is_released (time_of cores core) (item_at partition.table who.proc)))
+service_wakes Fact cores core who partition (Request.Process process ProcessOperation.Stop) all suspended lock other =
+    wakes_some refl (freed_wakes Fact (natural_of process) partition.lock (lock refl))
+service_wakes Fact cores core who partition (Request.Preemption operation) all suspended lock other = lock_wakes Fact who.proc operation partition.lock (lock refl)
+service_wakes Fact cores core who partition (Request.Caller CallerOperation.StopSelf) all suspended lock other = absurd other
+service_wakes Fact cores core who partition _ all suspended lock other = wakes_none refl
 
--- so an answer that is not NO_ERROR names no process
-pub answer_quiet : (cores : List CoreState) (core : ℕ) (who : Who) (partition : Partition) (asked : Request) → is_no_error (answer_of cores core who partition asked).out ≡ false
-    → (answer_of cores core who partition asked).woken ≡ []
-answer_quiet cores core who partition asked = (answer_wakes (λ one. Unit {0}) cores core who partition asked (λ wanted used. any (entries_at partition wanted)) (λ process target is suspends. tt)).quiet
+pub answer_wakes : (Fact : Who → Type 0) (cores : List CoreState) (core : ℕ) (who : Who) (partition : Partition) (asked : Request)
+    → ((wanted : WaitingSet) → is_set_used asked wanted ≡ true → AllEntries (λ entry. Fact entry.who) (entries_at partition wanted))
+    → ((process : ℤ) (target : Process) → created partition.table process ≡ Some target → is_suspension target.wait ≡ true → Fact (peer who process))
+    → (gives_lock_up asked ≡ true → AllEntries (λ entry. Fact entry.who) partition.lock.waiters)
+    → (one : Who) → is_named one (answer_of cores core who partition asked).woken ≡ true → Fact one
+answer_wakes Fact cores core who partition (Request.Caller CallerOperation.StopSelf) all suspended lock = freed_wakes Fact who.proc partition.lock (lock refl)
+answer_wakes Fact cores core who partition (Request.Caller operation) all suspended lock =
+    (service_wakes Fact cores core who partition (Request.Caller operation) all suspended lock tt).has
+answer_wakes Fact cores core who partition asked all suspended lock = (service_wakes Fact cores core who partition asked all suspended lock tt).has
+
+-- so an answer that is not NO_ERROR names no process but one that waits for the lock, and that only if it does not return
+service_quiet : (cores : List CoreState) (core : ℕ) (who : Who) (partition : Partition) (asked : Request) → NoStopSelf asked
+    → is_no_error (answer_of cores core who partition asked).out ≡ false → (answer_of cores core who partition asked).woken ≡ []
+service_quiet cores core who partition asked other =
+    (service_wakes (λ one. Unit {0}) cores core who partition asked (λ wanted used. any (entries_at partition wanted)) (λ process target is suspends. tt) (λ gives. any partition.lock.waiters) other).quiet
   where
     any : (entries : List Entry) → AllEntries (λ entry. Unit {0}) entries
     any [] = tt
     any (entry ∷ entries) = (tt, any entries)
+
+pub answer_quiet : (Fact : Who → Type 0) (cores : List CoreState) (core : ℕ) (who : Who) (partition : Partition) (asked : Request) → AllEntries (λ entry. Fact entry.who) partition.lock.waiters
+    → is_no_error (answer_of cores core who partition asked).out ≡ false → (one : Who) → is_named one (answer_of cores core who partition asked).woken ≡ true → Fact one
+answer_quiet Fact cores core who partition (Request.Caller CallerOperation.StopSelf) lock off one named = freed_wakes Fact who.proc partition.lock lock one named
+answer_quiet Fact cores core who partition (Request.Caller operation) lock off one named = nobody one _ (service_quiet cores core who partition (Request.Caller operation) tt off) named
+answer_quiet Fact cores core who partition asked lock off one named = nobody one _ (service_quiet cores core who partition asked tt off) named
+
+pub answer_silent : (cores : List CoreState) (core : ℕ) (who : Who) (partition : Partition) (asked : Request) → is_no_error (answer_of cores core who partition asked).out ≡ false
+    → is_done (answer_of cores core who partition asked).out ≡ false → (answer_of cores core who partition asked).woken ≡ []
+answer_silent cores core who partition (Request.Caller CallerOperation.StopSelf) off not_done = absurd (true≢false not_done)
+answer_silent cores core who partition (Request.Caller operation) off not_done = service_quiet cores core who partition (Request.Caller operation) tt off
+answer_silent cores core who partition asked off not_done = service_quiet cores core who partition asked tt off
 
 -- channels
 
@@ -243,6 +314,29 @@ own_waiter partitions number wanted chan all =
       sending = λ channel also. absurd (true≢false (off_channel wanted (channel_set channel Senders) (found partitions entry.who) off tied.1 also));
       receiving = λ channel also. absurd (true≢false (off_channel wanted (channel_set channel Receivers) (found partitions entry.who) off tied.1 also));
     }) (entries_at (partitions number) wanted) all)
+
+-- who waits for the lock waits in no set
+pub lock_waits_not : (wanted : WaitingSet) (found : Option Process) → waits_for_lock found ≡ true → waits_at wanted found ≡ true → ⊥
+lock_waits_not wanted None waits also = true≢false (sym waits)
+lock_waits_not wanted (Some process) waits also = by process.wait (and_parts process.alive (is_for_lock process.wait) waits).1 (and_parts process.alive (is_in wanted process.wait) also).1
+  where
+    by : (one : Wait) → is_for_lock one ≡ true → is_in wanted one ≡ true → ⊥
+    by Wait.ForLock for_lock in_set = true≢false (sym in_set)
+    by _ for_lock in_set = true≢false (sym for_lock)
+
+-- a process with an entry in the set of a lock waits for it
+pub lock_awaited : (partitions : ℕ → Partition) (number : ℕ) (entry : Entry) → IsTiedToLock number partitions entry → waits_for_lock (found partitions entry.who) ≡ true
+lock_awaited partitions number entry tied = subst (λ part. waits_for_lock (item_at (partitions part).table entry.who.proc) ≡ true) (sym tied.0) tied.1
+
+-- so it waits at no channel
+lock_waiter : (partitions : ℕ → Partition) (number : ℕ) (chan : Option ℕ) → AllEntries (IsTiedToLock number partitions) (partitions number).lock.waiters
+    → AllEntries (λ entry. IsWokenBy partitions number chan entry.who) (partitions number).lock.waiters
+lock_waiter partitions number chan all =
+    all_weaker (IsTiedToLock number partitions) (λ entry. IsWokenBy partitions number chan entry.who) (λ entry tied. record {
+      own = λ none. tied.0;
+      sending = λ channel also. absurd (lock_waits_not (channel_set channel Senders) (found partitions entry.who) (lock_awaited partitions number entry tied) also);
+      receiving = λ channel also. absurd (lock_waits_not (channel_set channel Receivers) (found partitions entry.who) (lock_awaited partitions number entry tied) also);
+    }) (partitions number).lock.waiters all
 
 -- a created process is found under its number
 pub created_is : (table : Table) (process : ℤ) (target : Process) → created table process ≡ Some target → (number : ℕ) × (process ≡ pos number) × (item_at table number ≡ Some target)
@@ -337,7 +431,8 @@ woken configuration state core who asked claim tied (condition ∷ conditions) c
 woken configuration state core who asked claim tied [] None has one named =
     (answer_wakes (IsWokenBy state.partitions who.part claim.chan) state.cores core who (state.partitions who.part) asked
     (λ wanted used. own_waiter state.partitions who.part wanted claim.chan (tied.objects who.part wanted))
-    (λ process target is suspends. suspended_peer state.partitions who claim.chan process target is suspends)).has
+    (λ process target is suspends. suspended_peer state.partitions who claim.chan process target is suspends)
+    (λ gives. lock_waiter state.partitions who.part claim.chan (tied.locks who.part)))
     one (sym (has.woken one) ∙ named)
 woken configuration state core who asked claim tied [] (Some channel) has one named =
     channel_wakes (IsWokenBy state.partitions who.part claim.chan) configuration (time_of state.cores core) channel who.part (use_of asked) (state.channels channel)
@@ -379,6 +474,17 @@ set_tells asked chan wanted = (λ holds. set_is asked chan wanted (found_set wan
 pub entering_is_the_sentence : EnteringIsTheSentence
 entering_is_the_sentence call wanted = tells_both (waiting_tells call.claim.out) (set_tells call.request call.claim.chan wanted)
 
+-- the set of the lock
+of_lock_tells : (asked : Request) → Tells (is_of_lock asked) ((operation : LockOperation) × (asked ≡ Request.Preemption operation))
+of_lock_tells (Request.Preemption operation) = (λ holds. (operation, refl), λ fact. refl)
+of_lock_tells _ = (impossible, λ fact. ap is_of_lock fact.1)
+
+pub entering_lock_is_the_sentence : EnteringLockIsTheSentence
+entering_lock_is_the_sentence call = tells_both (waiting_tells call.claim.out) (of_lock_tells call.request)
+
+pub lock_is_awaited_forever : LockIsAwaitedForever
+lock_is_awaited_forever core time process is = ap (λ one. nat_eq process.affinity core && due_by time one) is ∙ not_second (nat_eq process.affinity core) false refl
+
 -- the wait of a caller
 
 wait_by : {asked : Request} {chan : Option ℕ} {wanted : WaitingSet} → (now : ℕ) (old : Process) → WaitsIn asked chan wanted
@@ -415,7 +521,7 @@ time_out_is_the_sentence place now call wanted old waits in_set =
           (λ falls. due.0 (sym (until (pos ticks) core time has) ∙ falls), λ facts. until (pos ticks) core time has ∙ due.1 facts),
       λ has core time. until (negsuc 0) core time has ∙ not_second (nat_eq old.affinity core) false refl,
       λ later.
-          let outcome : Wait → Option Outcome = λ one. owed (service_of_wait one) (code_when_due one) [] in
+          let outcome : Wait → Option Outcome = λ one. owed (service_of_wait one) (code_when_due one) None [] in
           ap (λ one. outcome (caller_with place now call one old).wait) waits ∙ ap outcome (wait_by now old in_set)
-          ∙ ap (λ one. owed one Code.TimedOut []) (service_by in_set),
+          ∙ ap (λ one. owed one Code.TimedOut None []) (service_by in_set),
     )

@@ -17,13 +17,15 @@ use Rattle.apex_laws.proofs.Demanded.{channel_can, goes_to, through_claimed}
 use Rattle.apex_laws.proofs.Keeps.{found_changed, IsNotStarted, set_by_wait}
 use Rattle.apex_laws.proofs.ObjectRules.{channel_is_the_sentence}
 use Rattle.apex_laws.proofs.ProcessRules.{caller_is_the_sentence, creation_is_the_sentence, setting_is_the_sentence, waking_is_the_sentence}
+use Rattle.apex_laws.proofs.LockCalls.{lock_says}
 use Rattle.apex_laws.proofs.Records.{emptied_same, foreign_rest, lawful_body, next_channel, next_cores, next_partition, set_says}
 use Rattle.apex_laws.proofs.Restarts.{woken_table}
 use Rattle.apex_laws.proofs.Stays.{order_is_apart}
 use Rattle.apex_laws.proofs.Tables.{at_each, stays_each, turns_each}
 use Rattle.apex_laws.proofs.Waiters.{all_weaker}
 use Rattle.apex_laws.proofs.WaitersOf.{free_exists, same_who}
-use Rattle.apex_laws.proofs.Wakes.{answer_wakes, channel_wakes, ClaimsOutcome, created_is, found, nobody, waiting_tells}
+use Rattle.apex_laws.proofs.Wakes.{answer_wakes, channel_wakes, ClaimsOutcome, created_is, found, lock_awaited, nobody, waiting_tells}
+use Rattle.apex_laws.proofs.Common.{IsTiedToLock, Lock, LockOperation, given_up, is_for_lock, unlocked_once, waits_for_lock}
 
 -- a caller that waits has something to wait for
 
@@ -78,6 +80,10 @@ own_begun configuration cores core who partition (Request.Caller (CallerOperatio
 own_begun configuration cores core who partition (Request.Object number operation) process none waits =
     let there = object_waits (given_object (objects_of partition (kind_used operation)) number) (λ found. (object_effect who.proc operation found).answer) waits in
     operation_begun (time_of cores core) who.proc number operation process there.0 there.1
+own_begun configuration cores core who partition (Request.Preemption LockOperation.Lock) process none waits = IsBegun.lock LockOperation.Lock refl refl
+own_begun configuration cores core who partition (Request.Preemption LockOperation.Unlock) process none waits =
+    absurd (by_test (λ (effect : Effect Lock). effect.answer.out ≡ Out.Waits → ⊥) (nat_lt 1 partition.lock.level) (unlocked_once partition.lock) (given_up partition.lock)
+    (λ more waits. no_wait waits) (λ last waits. no_wait waits) waits)
 own_begun configuration cores core who partition (Request.Process number ProcessOperation.Resume) process none waits = absurd (resume_no_wait (peer who number) (created partition.table number) waits)
 own_begun configuration cores core who partition (Request.Process number ProcessOperation.GetStatus) process none waits =
     let there = object_waits (created partition.table number) (process_status cores (peer who number)) waits in no_wait there.1
@@ -126,6 +132,10 @@ pub in_waits : (wanted : WaitingSet) (one : Wait) → is_in wanted one ≡ true 
 in_waits wanted (Wait.At set due) is = tt
 in_waits wanted _ is = impossible is
 
+lock_waits : (one : Wait) → is_for_lock one ≡ true → WaitsForOther one
+lock_waits Wait.ForLock is = tt
+lock_waits _ is = impossible is
+
 suspension_waits : (one : Wait) → is_suspension one ≡ true → WaitsForOther one
 suspension_waits (Wait.Suspended due) is = tt
 suspension_waits _ is = impossible is
@@ -138,6 +148,12 @@ tied_waits : (Home : ℕ → Type 0) (wanted : WaitingSet) (partitions : ℕ →
 tied_waits Home wanted partitions entries all =
     all_weaker (IsTied Home wanted partitions) (λ entry. OtherAwaited partitions entry.who)
     (λ entry tied old at. in_waits wanted old.wait (and_parts old.alive _ (subst (λ one. waits_at wanted one ≡ true) at tied.1)).1) entries all
+
+tied_to_lock : (partitions : ℕ → Partition) (number : ℕ) → AllEntries (IsTiedToLock number partitions) (partitions number).lock.waiters
+    → AllEntries (λ entry. OtherAwaited partitions entry.who) (partitions number).lock.waiters
+tied_to_lock partitions number all =
+    all_weaker (IsTiedToLock number partitions) (λ entry. OtherAwaited partitions entry.who)
+    (λ entry tied old at. lock_waits old.wait (and_parts old.alive _ (subst (λ one. waits_for_lock one ≡ true) at (lock_awaited partitions number entry tied))).1) (partitions number).lock.waiters all
 
 peer_waits : (partitions : ℕ → Partition) (who : Who) (process : ℤ) (target : Process) → created (partitions who.part).table process ≡ Some target → is_suspension target.wait ≡ true
     → OtherAwaited partitions (peer who process)
@@ -152,7 +168,7 @@ named_waits configuration state core who asked claim tied (condition ∷ conditi
 named_waits configuration state core who asked claim tied [] None has one named =
     (answer_wakes (OtherAwaited state.partitions) state.cores core who (state.partitions who.part) asked
     (λ wanted used. tied_waits (λ home. home ≡ who.part) wanted state.partitions (entries_at (state.partitions who.part) wanted) (tied.objects who.part wanted))
-    (peer_waits state.partitions who)).has
+    (peer_waits state.partitions who) (λ gives. tied_to_lock state.partitions who.part (tied.locks who.part)))
     one (sym (has.woken one) ∙ named)
 named_waits configuration state core who asked claim tied [] (Some channel) has one named =
     channel_wakes (OtherAwaited state.partitions) configuration (time_of state.cores core) channel who.part (use_of asked) (state.channels channel)
@@ -175,6 +191,7 @@ set_first configuration state place call number old above =
 not_for_normal : (one : Wait) → WaitsForOther one → waits_for_normal one ≡ false
 not_for_normal (Wait.Suspended due) waits = refl
 not_for_normal (Wait.At set due) waits = refl
+not_for_normal Wait.ForLock waits = refl
 not_for_normal Wait.Nothing waits = absurd waits
 not_for_normal _ waits = absurd waits
 
@@ -210,7 +227,7 @@ objects_are : (configuration : Configuration) (cores : List CoreState) (place co
     → ObjectsAre (partition_called configuration cores place core call partition) objects
 objects_are configuration cores place core call partition objects is =
     let same : objects_called configuration place call partition ≡ each_set (set_after place (Call call)) objects = ap (each_set (set_after place (Call call))) is in
-    ap (λ (one : Partition). emptied (record one { mode = objects.mode; has_handler = objects.has_handler })) same ∙ emptied_same (set_after place (Call call)) objects
+    ap (λ (one : Partition). emptied (record one { mode = objects.mode; has_handler = objects.has_handler; lock = objects.lock })) same ∙ emptied_same (set_after place (Call call)) objects
 
 -- what a call adds
 
@@ -371,6 +388,7 @@ call_is_the_sentence configuration state ordered call next above tied order step
           ∙ stays_each (wake_named who.part) (state.partitions who.part).table who.proc (λ one at. ap (λ test. cond test (woken_by place (message_of call.request) one) one) not_named);
       mode = ap (λ (one : Partition). one.mode) own;
       handler = ap (λ (one : Partition). one.has_handler) own;
+      lock = lock_says place call partition.lock (next.partitions part).lock (order_is_apart state.count partition.lock.waiters (order.locks part)) (ap (λ (one : Partition). one.lock) own);
       objects = (
         λ done. subst (λ one. ObjectsAre one (objects_by configuration call.who call.claim.val call.request partition)) (sym own)
             (objects_are configuration state.cores place core call partition (objects_by configuration call.who call.claim.val call.request partition) (rw done refl)),

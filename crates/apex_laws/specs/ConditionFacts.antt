@@ -3,7 +3,7 @@ use Rattle.std.specs.Prelude.{◌≡◌, ℕ, List, [], ◌∷◌, true, false, 
 use Rattle.apex_types.specs.declared.discipline.Discipline.TheVariants as discipline
 use Rattle.apex_types.specs.declared.object_kind.NamedKind.TheVariants as named
 use Rattle.apex_types.specs.declared.record.Who.{Who}
-use Rattle.apex_types.specs.declared.operation.{BlackboardOperation.BlackboardOperation, BufferOperation.BufferOperation, CallerOperation.CallerOperation, EventOperation.EventOperation, MutexOperation.MutexOperation, NewObject.NewObject, ProcessOperation.ProcessOperation, QueuingOperation.QueuingOperation, SamplingOperation.SamplingOperation, SemaphoreOperation.SemaphoreOperation}
+use Rattle.apex_types.specs.declared.operation.{BlackboardOperation.BlackboardOperation, BufferOperation.BufferOperation, CallerOperation.CallerOperation, EventOperation.EventOperation, LockOperation.LockOperation, MutexOperation.MutexOperation, NewObject.NewObject, ProcessOperation.ProcessOperation, QueuingOperation.QueuingOperation, SamplingOperation.SamplingOperation, SemaphoreOperation.SemaphoreOperation}
 use Rattle.apex_types.specs.declared.request.Request.{Request}
 use Rattle.apex_types.specs.declared.operation.ObjectOperation.TheVariants as on
 use Rattle.apex_types.specs.declared.request.Request.TheVariants as request
@@ -40,6 +40,10 @@ at_work = play one_partition furnished (start 0 (pos 1) ∷ start 0 (pos 2) ∷ 
 -- process 1 owns the mutex
 abbrev pub owning : State
 owning = play one_partition at_work (does one (request.Object (pos 1) (on.Mutex (MutexOperation.Acquire (pos 0)))) ∷ [])
+
+-- process 1 owns the lock
+abbrev pub locking : State
+locking = play one_partition at_work (does one (request.Preemption LockOperation.Lock) ∷ [])
 
 -- process 1 suspended itself
 abbrev pub asleep : State
@@ -160,6 +164,17 @@ pub record ConditionFacts : Type 0 where
   pub resets_no_owner : conditions_told owning one (request.Object (pos 1) (on.Mutex (MutexOperation.Reset (pos 2)))) ≡ condition.ProcessNotOwner ∷ []
   pub resets_nobody : conditions_told owning one (request.Object (pos 1) (on.Mutex (MutexOperation.Reset (pos 4)))) ≡ condition.NoSuchProcess ∷ []
   pub resets_nothing : conditions_told owning one (request.Object (pos 2) (on.Mutex (MutexOperation.Reset (pos 0)))) ≡ condition.NotCreated ∷ condition.NoSuchProcess ∷ []
+  -- the lock
+  pub may_lock : conditions_told at_work one (request.Preemption LockOperation.Lock) ≡ []
+  pub may_lock_again : conditions_told locking one (request.Preemption LockOperation.Lock) ≡ []
+  pub may_wait_to_lock : conditions_told locking two (request.Preemption LockOperation.Lock) ≡ []
+  pub no_lock_before_normal : conditions_told furnished initialiser (request.Preemption LockOperation.Lock) ≡ condition.NotNormal ∷ condition.NotForInitialising ∷ []
+  pub mutex_owner_may_not_lock : conditions_told owning one (request.Preemption LockOperation.Lock) ≡ condition.OwnsMutex ∷ []
+  pub may_unlock : conditions_told locking one (request.Preemption LockOperation.Unlock) ≡ []
+  pub not_the_lock_owner : conditions_told locking two (request.Preemption LockOperation.Unlock) ≡ condition.NotLockOwner ∷ []
+  pub lock_owner_goes_on : conditions_told locking one (request.Caller (CallerOperation.TimedWait (pos 1))) ≡ condition.MayNotWait ∷ []
+  pub lock_owner_acquires_none : conditions_told locking one (request.Object (pos 1) (on.Mutex (MutexOperation.Acquire (pos 0)))) ≡ condition.OwnsLock ∷ []
+  pub lock_owner_is_not_suspended : conditions_told locking two (request.Process (pos 1) ProcessOperation.Suspend) ≡ condition.ProcessOwnsLock ∷ []
   -- names, reports and the error handler
   pub no_such_process : conditions_told at_work one (request.GetId named.Process (codes "D")) ≡ condition.NoSuchName ∷ []
   pub may_report_nothing : conditions_told at_work one (request.ReportMessage (pos 0) []) ≡ []

@@ -1,7 +1,7 @@
 -- The error conditions of the services, in sentences: one case for each condition of each service, with what holds in the caller's
 -- partition. Services that share a condition share its case.
 use Rattle.std.specs.Prelude.{◌≡◌, ◌⊎◌, ℕ, ◌*◌, ◌-◌, ◌<◌, ◌≤◌, ℤ, pos, negsuc, ◌<ℤ◌, ◌≤ℤ◌, List, length, Option, Some, IsTrue, IsFalse, Contains}
-use Rattle.apex_types.specs.declared.limits.TheConstants.{GREATEST_MAXIMUM, GREATEST_PRIORITY, LONGEST_MESSAGE, LONGEST_REPORT, MOST_MESSAGES}
+use Rattle.apex_types.specs.declared.limits.TheConstants.{GREATEST_LOCK_LEVEL, GREATEST_MAXIMUM, GREATEST_PRIORITY, LONGEST_MESSAGE, LONGEST_REPORT, MOST_MESSAGES}
 use Rattle.apex_types.specs.declared.discipline.Discipline.{Discipline}
 use Rattle.apex_types.specs.declared.discipline.Discipline.TheVariants as discipline
 use Rattle.apex_types.specs.declared.object_kind.NamedKind.{NamedKind}
@@ -9,7 +9,7 @@ use Rattle.apex_types.specs.declared.object_kind.NamedKind.TheVariants as named
 use Rattle.apex_types.specs.declared.object_kind.ObjectKind.{ObjectKind}
 use Rattle.apex_types.specs.declared.object_kind.ObjectKind.TheVariants as kind
 use Rattle.apex_types.specs.declared.record.Who.{Who}
-use Rattle.apex_types.specs.declared.operation.{BlackboardOperation.BlackboardOperation, BufferOperation.BufferOperation, CallerOperation.CallerOperation, EventOperation.EventOperation, MutexOperation.MutexOperation, NewObject.NewObject, ProcessOperation.ProcessOperation, QueuingOperation.QueuingOperation, SamplingOperation.SamplingOperation, SemaphoreOperation.SemaphoreOperation}
+use Rattle.apex_types.specs.declared.operation.{BlackboardOperation.BlackboardOperation, BufferOperation.BufferOperation, CallerOperation.CallerOperation, EventOperation.EventOperation, LockOperation.LockOperation, MutexOperation.MutexOperation, NewObject.NewObject, ProcessOperation.ProcessOperation, QueuingOperation.QueuingOperation, SamplingOperation.SamplingOperation, SemaphoreOperation.SemaphoreOperation}
 use Rattle.apex_types.specs.declared.request.Request.{Request}
 use Rattle.apex_types.specs.declared.operation.ObjectOperation.TheVariants as on
 use Rattle.apex_types.specs.declared.request.Request.TheVariants as request
@@ -84,9 +84,13 @@ pub record Owns (partition : Partition) (process held : ℕ) : Type 0 where
   pub is_member : Contains partition.mutexes (held, mutex)
   pub owner : mutex.owner ≡ Some process
 
--- the caller may not wait: it is the initialising process, or it owns a mutex
+-- a process owns the lock of its partition
+abbrev pub OwnsLock : Partition → ℕ → Type 0
+OwnsLock partition process = partition.lock.owner ≡ Some process
+
+-- the caller may not wait: it is the initialising process, or it owns a mutex or the lock
 abbrev pub MayNotWait : Who → Partition → Type 0
-MayNotWait who partition = (who.proc ≡ 0) ⊎ ((held : ℕ) × Owns partition who.proc held)
+MayNotWait who partition = (who.proc ≡ 0) ⊎ ((held : ℕ) × Owns partition who.proc held) ⊎ OwnsLock partition who.proc
 
 -- the caller is a process of its partition
 abbrev pub IsCalledBy : Who → Partition → Process → Type 0
@@ -249,11 +253,12 @@ module _ (configuration : Configuration) (who : Who) (partition : Partition) whe
     -- STOP: the caller's own number; a dormant process
     stop_itself : {process : ℤ} → process ≡ pos who.proc → HasCondition (request.Process process ProcessOperation.Stop) condition.NamesItself
     stop_dormant : {process : ℤ} (found : Process) → IsProcess partition process found → IsFalse found.alive → HasCondition (request.Process process ProcessOperation.Stop) condition.AlreadyDormant
-    -- SUSPEND: the caller's own number; a dormant process; a periodic one; one that is suspended
+    -- SUSPEND: the caller's own number; a dormant process; a periodic one; one that is suspended; one that owns the lock
     suspend_itself : {process : ℤ} → process ≡ pos who.proc → HasCondition (request.Process process ProcessOperation.Suspend) condition.NamesItself
     suspend_dormant : {process : ℤ} (found : Process) → IsProcess partition process found → IsFalse found.alive → HasCondition (request.Process process ProcessOperation.Suspend) condition.Dormant
     suspend_periodic : {process : ℤ} (found : Process) → IsProcess partition process found → IsPeriodic found → HasCondition (request.Process process ProcessOperation.Suspend) condition.Periodic
     suspend_suspended : {process : ℤ} (found : Process) → IsProcess partition process found → IsSuspended found → HasCondition (request.Process process ProcessOperation.Suspend) condition.AlreadySuspended
+    suspend_lock_owner : {process : ℤ} (found : Process) (is : IsProcess partition process found) → OwnsLock partition is.number → HasCondition (request.Process process ProcessOperation.Suspend) condition.ProcessOwnsLock
     -- SUSPEND_SELF: a periodic process; one that may not wait
     suspend_self_periodic : {time_out : ℤ} → IsCalledByPeriodic who partition → HasCondition (request.Caller (CallerOperation.SuspendSelf time_out)) condition.PeriodicCaller
     suspend_self_waits : {time_out : ℤ} → MayNotWait who partition → HasCondition (request.Caller (CallerOperation.SuspendSelf time_out)) condition.MayNotWait
@@ -303,11 +308,13 @@ module _ (configuration : Configuration) (who : Who) (partition : Partition) whe
     -- CREATE_MUTEX: a priority out of range; a discipline out of range
     create_mutex_priority : {name : List ℕ} {priority given : ℤ} → ¬ IsPriority priority → HasCondition (request.Create name (NewObject.Mutex priority given)) condition.PriorityOutOfRange
     create_mutex_discipline : {name : List ℕ} {priority given : ℤ} → ¬ IsDiscipline given → HasCondition (request.Create name (NewObject.Mutex priority given)) condition.DisciplineOutOfRange
-    -- ACQUIRE_MUTEX: the initialising process; the owner of another mutex; a process whose current priority is above the mutex's
+    -- ACQUIRE_MUTEX: the initialising process; the owner of another mutex; a process whose current priority is above the mutex's; the owner of
+    -- the lock
     acquire_initialising : {mutex time_out : ℤ} → who.proc ≡ 0 → HasCondition (request.Object mutex (on.Mutex (MutexOperation.Acquire time_out))) condition.InitialisingCaller
     acquire_second : {mutex time_out : ℤ} (held : ℕ) → Owns partition who.proc held → ¬ (mutex ≡ pos held) → HasCondition (request.Object mutex (on.Mutex (MutexOperation.Acquire time_out))) condition.OwnsAnother
     acquire_above : {mutex time_out : ℤ} (found : Mutex) (process : Process) → IsObject partition.mutexes mutex found → IsCalledBy who partition process
         → found.priority < process.current_priority → HasCondition (request.Object mutex (on.Mutex (MutexOperation.Acquire time_out))) condition.AboveCeiling
+    acquire_lock_owner : {mutex time_out : ℤ} → OwnsLock partition who.proc → HasCondition (request.Object mutex (on.Mutex (MutexOperation.Acquire time_out))) condition.OwnsLock
     -- RELEASE_MUTEX: a caller that is not the owner
     release_not_owner : {mutex : ℤ} (found : Mutex) → IsObject partition.mutexes mutex found → ¬ (found.owner ≡ Some who.proc) → HasCondition (request.Object mutex (on.Mutex MutexOperation.Release)) condition.NotOwner
     -- RESET_MUTEX: a number that names no created process; a created process that does not own the mutex
@@ -346,3 +353,12 @@ module _ (configuration : Configuration) (who : Who) (partition : Partition) whe
     report_length : {length : ℤ} {message : List ℕ} → ¬ IsFrom (pos 0) (pos LONGEST_REPORT) length → HasCondition (request.ReportMessage length message) condition.LengthOutOfRange
     -- CREATE_ERROR_HANDLER: a handler that is created already
     handler_created : IsTrue partition.has_handler → HasCondition request.CreateErrorHandler condition.HandlerCreated
+    -- LOCK_PREEMPTION: a mode other than NORMAL; the initialising process; the owner of the lock at level 16; the owner of a mutex
+    lock_before_normal : ¬ (partition.mode ≡ mode.Normal) → HasCondition (request.Preemption LockOperation.Lock) condition.NotNormal
+    lock_initialising : who.proc ≡ 0 → HasCondition (request.Preemption LockOperation.Lock) condition.NotForInitialising
+    lock_greatest : OwnsLock partition who.proc → GREATEST_LOCK_LEVEL ≤ partition.lock.level → HasCondition (request.Preemption LockOperation.Lock) condition.LevelIsGreatest
+    lock_mutex_owner : (held : ℕ) → Owns partition who.proc held → HasCondition (request.Preemption LockOperation.Lock) condition.OwnsMutex
+    -- UNLOCK_PREEMPTION: a mode other than NORMAL; the initialising process; a caller that does not own the lock
+    unlock_before_normal : ¬ (partition.mode ≡ mode.Normal) → HasCondition (request.Preemption LockOperation.Unlock) condition.NotNormal
+    unlock_initialising : who.proc ≡ 0 → HasCondition (request.Preemption LockOperation.Unlock) condition.NotForInitialising
+    unlock_not_owner : ¬ OwnsLock partition who.proc → HasCondition (request.Preemption LockOperation.Unlock) condition.NotLockOwner

@@ -11,7 +11,7 @@ use Rattle.apex_machine.specs.declared.state.Process.{Process}
 use Rattle.apex_machine.specs.declared.state.WaitingSet.{WaitingSet}
 pub use Rattle.apex_machine.specs.Channels.{EndsAreApart}
 use Rattle.apex_machine.specs.Channels.{is_receiver, is_sender, queuing_of}
-use Rattle.apex_machine.specs.Choice.{IsChosen, IsReady, foremost, ready_entries}
+use Rattle.apex_machine.specs.Choice.{IsChosen, IsChosenUnder, IsReady, choice_under, foremost, ready_entries}
 use Rattle.apex_machine.specs.Configuration.{Configuration}
 pub use Rattle.apex_machine.specs.Configuration.{WindowsAreConfigured}
 use Rattle.apex_machine.specs.Demands.{LocalStep, has_entry_in}
@@ -20,6 +20,7 @@ use Rattle.apex_machine.specs.Runs.{ArePlaced, Finds, PieceRun, Refusal}
 use Rattle.apex_machine.specs.State.{Channel, Content, Queued, Sampled, Partition, Port, State, Table, channel_set, cold_state, entries_at_end, is_of_channel, is_same, item_at, objects_of}
 use Rattle.apex_machine.specs.Step.{Run, Step}
 use Rattle.apex_machine.specs.Views.{judge, view_in, view_of}
+use Rattle.apex_machine.specs.DueTimes.{waits_for_lock}
 use Rattle.apex_machine.specs.Waiting.{waits_at}
 
 -- the tie of the states that a run reaches
@@ -62,11 +63,17 @@ abbrev pub AllPorts : (Port → Type 0) → List (ℕ × Port) → Type 0
 AllPorts Fact [] = Unit {0}
 AllPorts Fact (entry ∷ entries) = Fact entry.1 × AllPorts Fact entries
 
+-- the process of an entry is of this partition, and waits for its lock
+abbrev pub IsTiedToLock : ℕ → (ℕ → Partition) → Entry → Type 0
+IsTiedToLock number partitions entry = (entry.who.part ≡ number) × IsTrue (waits_for_lock (item_at (partitions number).table entry.who.proc))
+
 -- the tie: numbers are distinct; a process with an entry in a waiting set of a partition is of that partition, a process with an entry in a
--- channel's set is of the partition at that end, and each of them waits in the set; each queuing port is at its end of its channel
+-- channel's set is of the partition at that end, and each of them waits in the set; a process with an entry in the set of a lock is of the
+-- lock's partition, and waits for the lock; each queuing port is at its end of its channel
 pub record AreTied (configuration : Configuration) (state : State) : Type 0 where
   pub distinct : AreDistinct state
   pub objects : (number : ℕ) (wanted : WaitingSet) → AllEntries (IsTied (λ home. home ≡ number) wanted state.partitions) (entries_at (state.partitions number) wanted)
+  pub locks : (number : ℕ) → AllEntries (IsTiedToLock number state.partitions) (state.partitions number).lock.waiters
   pub senders : (number : ℕ) → AllEntries (IsTied (λ home. IsTrue (is_sender configuration number home)) (channel_set number Senders) state.partitions) (state.channels number).senders
   pub receivers : (number : ℕ) → AllEntries (IsTied (λ home. IsTrue (is_receiver configuration number home)) (channel_set number Receivers) state.partitions) (state.channels number).receivers
   pub ports : (number : ℕ) → AllPorts (λ port. IsAtEnd configuration number port.direction port.channel) (state.partitions number).queuing_ports
@@ -100,6 +107,7 @@ pub record IsInOrder (count : ℕ) (entries : List Entry) : Type 0 where
 -- every waiting set is in order
 pub record SetsAreInOrder (state : State) : Type 0 where
   pub objects : (number : ℕ) (wanted : WaitingSet) → IsInOrder state.count (entries_at (state.partitions number) wanted)
+  pub locks : (number : ℕ) → IsInOrder state.count (state.partitions number).lock.waiters
   pub senders : (number : ℕ) → IsInOrder state.count (state.channels number).senders
   pub receivers : (number : ℕ) → IsInOrder state.count (state.channels number).receivers
 
@@ -128,9 +136,11 @@ abbrev pub entries_of : State → ℕ → WaitingSet → List Entry
 entries_of state number wanted =
     if is_of_channel wanted then entries_at_channel wanted.end (state.channels wanted.number) else entries_at (state.partitions number) wanted
 
--- the other side of the tie: every process that waits in a set has an entry in it
+-- the other side of the tie: every process that waits in a set has an entry in it, and so has every process that waits for a lock
 abbrev pub WaitersHaveEntries : State → Type 0
-WaitersHaveEntries state = (who : Who) (wanted : WaitingSet) → IsTrue (waits_at wanted (item_at (state.partitions who.part).table who.proc)) → IsTrue (has_entry_in who (entries_of state who.part wanted))
+WaitersHaveEntries state =
+    ((who : Who) (wanted : WaitingSet) → IsTrue (waits_at wanted (item_at (state.partitions who.part).table who.proc)) → IsTrue (has_entry_in who (entries_of state who.part wanted)))
+    × ((who : Who) → IsTrue (waits_for_lock (item_at (state.partitions who.part).table who.proc)) → IsTrue (has_entry_in who (state.partitions who.part).lock.waiters))
 
 -- the cold state has this, a step from a tied state keeps it, and so does a run
 abbrev pub WhoWaitsHasEntry : Type 0
@@ -219,9 +229,13 @@ ViewIsOfTheRun =
 
 -- the choice
 
--- the choice is the ready process that no other goes before, or none if no process is ready
+-- the choice among all is the ready process that no other goes before, or none if no process is ready; with an owner of the lock, it is the
+-- owner if that one is ready, else the choice among all
 abbrev pub ChoiceIsTheSentence : Type 0
 ChoiceIsTheSentence =
     (core : ℕ) (table : Table) → IsTrue (are_distinct table)
     → ((entry : ℕ × Process) → (foremost (ready_entries core table) ≡ Some entry) ↔ IsChosen core table entry)
     × ((foremost (ready_entries core table) ≡ None) ↔ ((entry : ℕ × Process) → Contains table entry → ¬ IsReady core entry.1))
+    × ((number : ℕ) (owner : Option ℕ) (entry : ℕ × Process) → Contains table entry
+    → (choice_under number core owner table ≡ Some (record { part = number; proc = entry.0 })) ↔ IsChosenUnder core owner table entry)
+    × ((number : ℕ) (owner : Option ℕ) → (choice_under number core owner table ≡ None) ↔ ((entry : ℕ × Process) → Contains table entry → ¬ IsReady core entry.1))

@@ -12,14 +12,15 @@ use Rattle.apex_machine.specs.Configuration.{Configuration}
 use Rattle.apex_machine.specs.Objects.{acquired, board_read, cleared, displayed, event_reset, event_set, event_waited, handed_on, mutex_released, semaphore_waited, signalled}
 use Rattle.apex_machine.specs.Ports.{Use, arrived, departed, sampled, suits, used, written}
 use Rattle.apex_machine.specs.Queue.{Messages, emptied, received, sent}
-use Rattle.apex_machine.specs.State.{Channel, Content, Mutex, Partition, Queued, Stamped}
+use Rattle.apex_machine.specs.Locks.{freed_by_stop, lock_stopped, locked, unlocked}
+use Rattle.apex_machine.specs.State.{Channel, Content, Lock, Mutex, Partition, Queued, Stamped}
 use Rattle.apex_machine.specs.Step.{IsTaken}
 use Rattle.apex_machine.specs.Waiting.{IsFirst, first_waiter, first_waiters}
 use Rattle.apex_machine.specs.ServiceConditions.{conditions_of}
 use Rattle.apex_machine.specs.Services.{answer_of}
 use Rattle.apex_laws.specs.CallSentences.{IsObjectCall}
 use Rattle.apex_laws.specs.Laws.{AllEntries, IsInOrder, entries_at}
-use Rattle.apex_laws.specs.ObjectSentences.{AreFirst, IsAcquiring, IsArriving, IsClearing, IsDeparting, IsDisplay, IsEmptying, IsEventWait, IsMutexReset, IsReading, IsReceiving, IsReleasing, IsResetting, IsSampling, IsSemaphoreWait, IsSending, IsSetting, IsSignal, IsUse, IsWriting}
+use Rattle.apex_laws.specs.ObjectSentences.{AreFirst, IsAcquiring, IsArriving, IsClearing, IsDeparting, IsDisplay, IsEmptying, IsEventWait, IsLocking, IsMutexReset, IsReading, IsReceiving, IsReleasing, IsResetting, IsSampling, IsSemaphoreWait, IsSending, IsSetting, IsSignal, IsStoppedOwner, IsUnlocking, IsUse, IsWriting}
 
 -- each entry of a waiting set has a place of its own
 abbrev pub AreApart : List Entry → Type 0
@@ -78,6 +79,14 @@ MutexIsTheSentence =
     → (effect ≡ mutex_released (first_waiter mutex.discipline mutex.waiters) mutex) ↔ IsReleasing mutex effect)
     × ((mutex : Mutex) (effect : Effect Mutex) → AreApart mutex.waiters
     → (effect ≡ handed_on (first_waiter mutex.discipline mutex.waiters) mutex) ↔ IsMutexReset mutex effect)
+
+-- the lock: its operations, and what a stop makes of it
+abbrev pub LockIsTheSentence : Type 0
+LockIsTheSentence =
+    ((caller : ℕ) (lock : Lock) (effect : Effect Lock) → (effect ≡ locked caller lock) ↔ IsLocking caller lock effect)
+    × ((lock : Lock) (effect : Effect Lock) → AreApart lock.waiters → (effect ≡ unlocked lock) ↔ IsUnlocking lock effect)
+    × ((process : ℕ) (lock next : Lock) (woken : List Who) → AreApart lock.waiters
+    → ((woken ≡ freed_by_stop process lock) × (next ≡ lock_stopped process lock)) ↔ IsStoppedOwner process lock woken next)
 
 -- sampling channels
 abbrev pub SamplingIsTheSentence : Type 0

@@ -2,6 +2,7 @@
 use Rattle.std.specs.Prelude.{◌≡◌, ◌⊎◌, ℕ, suc, ◌+◌, ◌-◌, ◌<◌, ◌≤◌, ℤ, pos, List, [], ◌∷◌, ◌++◌, length, Option, Some, None, Bool, true, false, IsFalse, IsTrue}
 use Rattle.apex_types.specs.declared.code.Code.TheVariants as code
 use Rattle.apex_types.specs.declared.discipline.Discipline.{Discipline}
+use Rattle.apex_types.specs.declared.discipline.Discipline.TheVariants.{Priority}
 use Rattle.apex_types.specs.declared.record.Out.{Out}
 use Rattle.apex_types.specs.declared.record.Out.TheVariants as out
 use Rattle.apex_types.specs.declared.record.Who.{Who}
@@ -11,7 +12,7 @@ use Rattle.apex_machine.specs.Channels.{capacity_of, is_at_destination, is_at_so
 use Rattle.apex_machine.specs.Configuration.{Configuration}
 use Rattle.apex_machine.specs.Ports.{Ask, Clear, Receive, Read, Send, Use, Write}
 use Rattle.apex_machine.specs.Queue.{Messages, messages_sent}
-use Rattle.apex_machine.specs.State.{Channel, Content, Mutex, Queued, Sampled, Stamped, is_same}
+use Rattle.apex_machine.specs.State.{Channel, Content, Lock, Mutex, Queued, Sampled, Stamped, is_same}
 use Rattle.apex_machine.specs.Waiting.{IsFirst, without}
 
 -- an outcome with its message and the processes whose waits end, and the object after it
@@ -122,6 +123,35 @@ pub data IsMutexReset (mutex : Mutex) (effect : Effect Mutex) : Type 0 where
   handed_on : (waiter : Entry) → IsFirst mutex.discipline mutex.waiters waiter
       → effect ≡ gives no_error [] (waiter.who ∷ []) (record mutex { owner = Some waiter.who.proc; count = 1 }) → IsMutexReset mutex effect
   freed : mutex.waiters ≡ [] → effect ≡ gives no_error [] [] (record mutex { owner = None; count = 0 }) → IsMutexReset mutex effect
+
+-- the lock
+
+-- NO_ERROR at once, with this level and the processes whose waits end, and the lock after it
+abbrev pub gives_level : ℕ → List Who → Lock → Effect Lock
+gives_level level woken next = record { answer = record { out = no_error; val = Number (pos level); val2 = None; val3 = None; bytes = []; woken = woken }; next = next }
+
+-- the owner of the lock gives it up: the first waiter becomes its owner, with level 1, and wakes; with no waiter the lock becomes free
+pub data IsPassedOn (lock : Lock) (woken : List Who) (next : Lock) : Type 0 where
+  to_first : (waiter : Entry) → IsFirst Priority lock.waiters waiter → woken ≡ waiter.who ∷ []
+      → next ≡ record lock { owner = Some waiter.who.proc; level = 1 } → IsPassedOn lock woken next
+  freed : lock.waiters ≡ [] → woken ≡ [] → next ≡ record lock { owner = None; level = 0 } → IsPassedOn lock woken next
+
+-- LOCK_PREEMPTION: a free lock becomes the caller's, with level 1; if the caller owns it, the level rises by one; if another process owns
+-- it, the caller waits
+pub data IsLocking (caller : ℕ) (lock : Lock) (effect : Effect Lock) : Type 0 where
+  was_free : lock.owner ≡ None → effect ≡ gives_level 1 [] (record lock { owner = Some caller; level = 1 }) → IsLocking caller lock effect
+  once_more : lock.owner ≡ Some caller → effect ≡ gives_level (lock.level + 1) [] (record lock { level = lock.level + 1 }) → IsLocking caller lock effect
+  of_another : (owner : ℕ) → lock.owner ≡ Some owner → ¬ (owner ≡ caller) → effect ≡ gives out.Waits [] [] lock → IsLocking caller lock effect
+
+-- UNLOCK_PREEMPTION: the level falls by one; at 0 the owner gives the lock up
+pub data IsUnlocking (lock : Lock) (effect : Effect Lock) : Type 0 where
+  not_last : 1 < lock.level → effect ≡ gives_level (lock.level - 1) [] (record lock { level = lock.level - 1 }) → IsUnlocking lock effect
+  at_last : (woken : List Who) (next : Lock) → lock.level ≤ 1 → IsPassedOn lock woken next → effect ≡ gives_level 0 woken next → IsUnlocking lock effect
+
+-- a stop of this process: if it owns the lock, it gives the lock up, whatever the level is; else the lock stays
+pub data IsStoppedOwner (process : ℕ) (lock : Lock) (woken : List Who) (next : Lock) : Type 0 where
+  owner : lock.owner ≡ Some process → IsPassedOn lock woken next → IsStoppedOwner process lock woken next
+  another : ¬ (lock.owner ≡ Some process) → woken ≡ [] → next ≡ lock → IsStoppedOwner process lock woken next
 
 -- WRITE_SAMPLING_MESSAGE: the message replaces the last one and is stamped with the writer's time
 abbrev pub IsWriting : ℕ → List ℕ → Effect (Option Stamped) → Type 0

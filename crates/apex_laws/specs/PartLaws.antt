@@ -1,6 +1,6 @@
 -- The laws on one partition alone, for the piece that holds it: they follow from its own demands, whatever the other pieces do. Each is the
 -- contract of a function in `src/lib.rt`.
-use Rattle.std.specs.Prelude.{◌≡◌, ◌≤◌, ◌<◌, ℕ, ◌+◌, List, [], ◌∷◌, ◌++◌, Option, None, if◌then◌else◌, Bool, false, IsTrue, IsFalse}
+use Rattle.std.specs.Prelude.{◌≡◌, ◌≤◌, ◌<◌, ℕ, ◌+◌, List, [], ◌∷◌, ◌++◌, Option, None, if◌then◌else◌, Bool, true, false, IsTrue, IsFalse}
 use Rattle.apex_types.specs.declared.object_kind.ObjectKind.{ObjectKind}
 use Rattle.apex_types.specs.declared.record.Body.TheVariants.{Arrive, Call, Depart, Disp, Ret, Tick}
 use Rattle.apex_types.specs.declared.record.Call.{Call as CallRecord}
@@ -8,21 +8,23 @@ use Rattle.apex_types.specs.declared.record.Crossing.{Crossing}
 use Rattle.apex_types.specs.declared.record.Ordered.{Ordered}
 use Rattle.apex_types.specs.declared.record.Return.{Return}
 use Rattle.apex_types.specs.declared.record.Who.{Who}
-use Rattle.apex_types.specs.declared.operation.{BlackboardOperation.BlackboardOperation, EventOperation.EventOperation}
+use Rattle.apex_types.specs.declared.operation.{BlackboardOperation.BlackboardOperation, CallerOperation.CallerOperation, EventOperation.EventOperation, ProcessOperation.ProcessOperation}
 use Rattle.apex_types.specs.declared.request.Request.{Request}
 use Rattle.apex_types.specs.declared.operation.ObjectOperation.TheVariants as on
 use Rattle.apex_types.specs.declared.request.Request.TheVariants as request
 use Rattle.apex_types.specs.Shapes.{kind_used}
 use Rattle.apex_machine.specs.declared.state.CoreState.{CoreState}
 use Rattle.apex_machine.specs.declared.state.WaitingSet.{WaitingSet}
-use Rattle.apex_machine.specs.After.{partition_after, partition_by}
+use Rattle.apex_machine.specs.After.{is_done, lock_called, partition_after, partition_by}
 use Rattle.apex_machine.specs.Arguments.{natural_of}
 use Rattle.apex_machine.specs.Configuration.{Configuration}
 use Rattle.apex_machine.specs.Demands.{AllHold, IsRunning, own_call_demands, partition_demands, has_entry_in}
+use Rattle.apex_machine.specs.DueTimes.{waits_for_lock}
+use Rattle.apex_machine.specs.Locks.{is_of_lock}
 use Rattle.apex_machine.specs.Pieces.{stops_some}
 use Rattle.apex_machine.specs.Ports.{channel_of}
 use Rattle.apex_machine.specs.Services.{answer_of}
-use Rattle.apex_machine.specs.State.{Partition, cold_partition, is_named, is_of_channel, is_of_object, item_at, objects_of, time_of}
+use Rattle.apex_machine.specs.State.{Partition, cold_partition, is_named, is_of_channel, is_of_object, item_at, objects_of}
 use Rattle.apex_machine.specs.Waiting.{enters, entry_of, is_no_error, restart_of, set_after, stop_of, waits_at, without}
 use Rattle.apex_laws.specs.Laws.{AllEntries, IsInOrder, are_distinct, entries_at}
 
@@ -32,9 +34,17 @@ use Rattle.apex_laws.specs.Laws.{AllEntries, IsInOrder, are_distinct, entries_at
 abbrev pub HasDistinctObjects : Partition → Type 0
 HasDistinctObjects partition = (kind : ObjectKind) → IsTrue (are_distinct (objects_of partition kind))
 
+-- the waiting set of a partition's lock is sound before this place: each process with an entry in it is of this partition and waits for the
+-- lock; it is in order; and each process that waits for the lock has an entry in it
+pub record IsSoundLock (number place : ℕ) (partition : Partition) : Type 0 where
+  pub is_member : AllEntries (λ entry. (entry.who.part ≡ number) × IsTrue (waits_for_lock (item_at partition.table entry.who.proc))) partition.lock.waiters
+  pub order : IsInOrder place partition.lock.waiters
+  pub waiters : (process : ℕ) → IsTrue (waits_for_lock (item_at partition.table process))
+      → IsTrue (has_entry_in (record { part = number; proc = process }) partition.lock.waiters)
+
 -- a partition's waiting sets are sound before this place: numbers are distinct; each process with an entry in one of the sets is of this
--- partition and waits in the set; every set is in order; and each process that waits in a set of one of the partition's objects has an
--- entry in it
+-- partition and waits in the set; every set is in order; each process that waits in a set of one of the partition's objects has an entry in
+-- it; and the set of the lock is sound
 pub record IsSoundPart (number place : ℕ) (partition : Partition) : Type 0 where
   pub distinct : IsTrue (are_distinct partition.table)
   pub objects : HasDistinctObjects partition
@@ -43,6 +53,7 @@ pub record IsSoundPart (number place : ℕ) (partition : Partition) : Type 0 whe
   pub order : (wanted : WaitingSet) → IsInOrder place (entries_at partition wanted)
   pub waiters : (wanted : WaitingSet) (process : ℕ) → IsFalse (is_of_channel wanted) → IsTrue (waits_at wanted (item_at partition.table process))
       → IsTrue (has_entry_in (record { part = number; proc = process }) (entries_at partition wanted))
+  pub lock : IsSoundLock number place partition
 
 -- the cold partition is sound; a record whose demands hold keeps a partition sound; and a sound partition is sound before every
 -- later place
@@ -56,19 +67,26 @@ PartStaysSound =
 
 -- own calls
 
--- a process that runs on a core of a sound partition has no entry in any of the partition's waiting sets, and all places in them are below
--- this one
+-- a process that runs on a core of a sound partition has no entry in any of the partition's waiting sets, nor in that of the lock, and all
+-- places in them are below this one
 abbrev pub RunningIsInNoSet : Type 0
 RunningIsInNoSet =
     (number place core : ℕ) (cores : List CoreState) (partition : Partition) (who : Who)
-    → IsSoundPart number place partition → IsRunning number cores partition.table core who
-    → (wanted : WaitingSet) → IsFalse (has_entry_in who (entries_at partition wanted)) × AllEntries (λ entry. entry.place < place) (entries_at partition wanted)
+    → IsSoundPart number place partition → IsRunning number cores partition core who
+    → ((wanted : WaitingSet) → IsFalse (has_entry_in who (entries_at partition wanted)) × AllEntries (λ entry. entry.place < place) (entries_at partition wanted))
+    × (IsFalse (has_entry_in who partition.lock.waiters) × AllEntries (λ entry. entry.place < place) partition.lock.waiters)
 
 -- a call of one of a sound partition's own processes, all of whose demands hold
 pub record IsOwnCall (configuration : Configuration) (number place core : ℕ) (cores : List CoreState) (partition : Partition) (call : CallRecord) : Type 0 where
   pub sound : IsSoundPart number place partition
   pub own : call.who.part ≡ number
   pub demands : AllHold (own_call_demands configuration number cores partition core call)
+
+-- whether a request stops a process: STOP, or STOP_SELF
+abbrev pub stops_one : Request → Bool
+stops_one (request.Process process ProcessOperation.Stop) = true
+stops_one (request.Caller CallerOperation.StopSelf) = true
+stops_one _ = false
 
 -- whether a request uses a waiting set of the object that it names; CLEAR_BLACKBOARD and RESET_EVENT use none, and the services of queuing
 -- ports use sets of channels, which no partition holds
@@ -104,6 +122,21 @@ LetsGoAsAnswered =
     → channel_of partition call.request ≡ None
     → (wanted : WaitingSet) → set_after place (Call call) wanted (entries_at partition wanted)
     ≡ without (λ who. is_named who (answer_of cores core call.who partition call.request).woken) (entries_at partition wanted)
+
+-- the lock
+
+-- an own call leaves the lock unchanged, unless it is one of the lock, a stop or a restart
+abbrev pub OtherCallsLeaveLock : Type 0
+OtherCallsLeaveLock =
+    (configuration : Configuration) (number place core : ℕ) (cores : List CoreState) (partition : Partition) (call : CallRecord)
+    → IsOwnCall configuration number place core cores partition call → IsFalse (is_of_lock call.request) → IsFalse (stops_one call.request) → restart_of call ≡ None
+    → lock_called place call partition.lock ≡ partition.lock
+
+-- an own call that is not done leaves the lock unchanged
+abbrev pub RefusedLeavesLock : Type 0
+RefusedLeavesLock =
+    (configuration : Configuration) (number place core : ℕ) (cores : List CoreState) (partition : Partition) (call : CallRecord)
+    → IsOwnCall configuration number place core cores partition call → IsFalse (is_done call.claim.out) → lock_called place call partition.lock ≡ partition.lock
 
 -- ticks
 

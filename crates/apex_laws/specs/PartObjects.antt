@@ -17,13 +17,14 @@ use Rattle.apex_machine.specs.declared.state.Process.{Process}
 use Rattle.apex_machine.specs.declared.state.Wait.{Wait}
 use Rattle.apex_machine.specs.declared.state.Wait.TheVariants as wait
 use Rattle.apex_machine.specs.declared.state.WaitingSet.{WaitingSet}
-use Rattle.apex_machine.specs.After.{each_set, is_done, is_valid, new_object, numbered_if, objects_called, with_sets}
+use Rattle.apex_machine.specs.After.{is_done, is_valid, lock_called, new_object, numbered_if, objects_called, sets_left, with_sets}
 use Rattle.apex_machine.specs.Arguments.{natural_of}
 use Rattle.apex_machine.specs.Configuration.{Configuration}
+use Rattle.apex_machine.specs.Locks.{lock_stopped}
 use Rattle.apex_machine.specs.Objects.{object_effect}
 use Rattle.apex_machine.specs.Pieces.{stops_some}
 use Rattle.apex_machine.specs.Services.{peer}
-use Rattle.apex_machine.specs.State.{ObjectOf, Partition, Port, Table, change_at, created, is_named, is_same, is_same_end, objects_of, with_ends, with_objects}
+use Rattle.apex_machine.specs.State.{Lock, ObjectOf, Partition, Port, Table, change_at, created, is_named, is_same, is_same_end, objects_of, with_ends, with_objects}
 use Rattle.apex_machine.specs.Waiting.{is_in, is_no_error, set_after, without}
 use Rattle.apex_laws.specs.Laws.{entries_at}
 use Rattle.apex_laws.specs.PartLaws.{IsOwnCall, IsSoundPart}
@@ -83,10 +84,15 @@ without_one who entries = without (λ other. is_same other who) entries
 -- the partition after this process leaves the waiting set that its wait names, if it names one
 abbrev pub left_by : Who → Wait → Partition → Partition
 left_by who (wait.At wanted due) partition = with_set wanted (without_one who) partition
+left_by who wait.ForLock partition = record partition { lock = record partition.lock { waiters = without_one who partition.lock.waiters } }
 left_by who _ partition = partition
 
--- a STOP that is done takes its target out of the one waiting set that its wait names: no other process leaves or enters, and all other
--- sets, objects and ports stay
+-- the lock after a stop of this process that ends the waits of these: an owner gives it up
+abbrev pub stopped_lock : ℕ → List Who → Lock → Lock
+stopped_lock number woken lock = record (lock_stopped number lock) { waiters = without (λ who. is_named who woken) lock.waiters }
+
+-- a STOP that is done takes its target out of the one waiting set that its wait names: no other process leaves or enters the set of an
+-- object, and all other objects and ports stay. If the target owns the lock, it gives the lock up
 abbrev pub StoppedLeaves : Type 0
 StoppedLeaves =
     (configuration : Configuration) (number place core : ℕ) (cores : List CoreState) (partition : Partition) (call : CallRecord)
@@ -94,7 +100,8 @@ StoppedLeaves =
     → (target : Process) → created partition.table process ≡ Some target
     → ((wanted : WaitingSet) → set_after place (Call call) wanted (entries_at partition wanted) ≡ without_one (peer call.who process) (entries_at partition wanted))
     × ((wanted : WaitingSet) → IsFalse (is_in wanted target.wait) → set_after place (Call call) wanted (entries_at partition wanted) ≡ entries_at partition wanted)
-    × (objects_called configuration place call partition ≡ left_by (peer call.who process) target.wait partition)
+    × (record (objects_called configuration place call partition) { lock = lock_called place call partition.lock }
+    ≡ left_by (peer call.who process) target.wait (record partition { lock = stopped_lock (natural_of process) call.claim.woken partition.lock }))
 
 -- ticks
 
@@ -109,4 +116,4 @@ all_left number woken (entry ∷ entries) partition =
 abbrev pub EachLeavesItsSet : Type 0
 EachLeavesItsSet =
     (number place : ℕ) (partition : Partition) (woken : List Who) → IsSoundPart number place partition
-    → each_set (set_after place (Tick woken)) partition ≡ all_left number woken partition.table partition
+    → sets_left place (Tick woken) partition ≡ all_left number woken partition.table partition

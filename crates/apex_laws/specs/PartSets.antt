@@ -7,7 +7,7 @@ use Rattle.apex_types.specs.declared.record.Who.{Who}
 use Rattle.apex_machine.specs.declared.state.Entry.{Entry}
 use Rattle.apex_machine.specs.declared.state.Process.{Process}
 use Rattle.apex_machine.specs.declared.state.WaitingSet.{WaitingSet}
-use Rattle.apex_machine.specs.After.{each_set}
+use Rattle.apex_machine.specs.After.{each_set, sets_left}
 use Rattle.apex_machine.specs.State.{Partition, Table, is_named, item_at}
 use Rattle.apex_machine.specs.Waiting.{enters, entry_of, restart_of, set_after, stop_of, without}
 use Rattle.apex_laws.specs.Laws.{entries_at}
@@ -27,14 +27,15 @@ NamedLeave =
 
 -- one process
 
--- a process of a sound partition has an entry in no waiting set but the one that its wait names: once it leaves that set, it has left all
--- sets
+-- a process of a sound partition has an entry in no waiting set but the one that its wait names, which may be that of the lock: once it leaves
+-- that set, it has left all sets
 abbrev pub LeavesEverySet : Type 0
 LeavesEverySet =
     (number place : ℕ) (partition : Partition) (who : Who) (process : Process) → IsSoundPart number place partition
     → item_at partition.table who.proc ≡ Some process
     → ((wanted : WaitingSet) → entries_at (left_by who process.wait partition) wanted ≡ without_one who (entries_at partition wanted))
-    × (left_by who process.wait partition ≡ each_set (λ wanted entries. without_one who entries) partition)
+    × ((left_by who process.wait partition).lock.waiters ≡ without_one who partition.lock.waiters)
+    × (left_by who process.wait partition ≡ each_set (λ wanted entries. without_one who entries) (record partition { lock = (left_by who process.wait partition).lock }))
 
 -- ticks
 
@@ -54,4 +55,4 @@ named_left number table (who ∷ others) partition =
 abbrev pub EachNamedLeaves : Type 0
 EachNamedLeaves =
     (number place : ℕ) (partition : Partition) (woken : List Who) → IsSoundPart number place partition
-    → named_left number partition.table woken partition ≡ each_set (set_after place (Tick woken)) partition
+    → named_left number partition.table woken partition ≡ sets_left place (Tick woken) partition

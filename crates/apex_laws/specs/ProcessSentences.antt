@@ -5,7 +5,7 @@ use Rattle.apex_types.specs.declared.code.Code.TheVariants as code
 use Rattle.apex_types.specs.declared.record.Call.{Call as CallRecord}
 use Rattle.apex_types.specs.declared.record.Out.TheVariants as out
 use Rattle.apex_types.specs.declared.record.Who.{Who}
-use Rattle.apex_types.specs.declared.operation.{CallerOperation.CallerOperation, MutexOperation.MutexOperation, ProcessOperation.ProcessOperation}
+use Rattle.apex_types.specs.declared.operation.{CallerOperation.CallerOperation, LockOperation.LockOperation, MutexOperation.MutexOperation, ProcessOperation.ProcessOperation}
 use Rattle.apex_types.specs.declared.request.Request.{Request}
 use Rattle.apex_types.specs.declared.operation.ObjectOperation.TheVariants as on
 use Rattle.apex_types.specs.declared.request.Request.TheVariants as request
@@ -25,11 +25,13 @@ use Rattle.apex_machine.specs.Arguments.{natural_of}
 use Rattle.apex_machine.specs.Choice.{IsReady}
 use Rattle.apex_machine.specs.Objects.{acquired, handed_on, mutex_released}
 use Rattle.apex_machine.specs.Processes.{outcome_of, owed}
-use Rattle.apex_machine.specs.Answer.{Answer, NewNumber, Number, done, done_with, never, waiting, waking}
+use Rattle.apex_machine.specs.Answer.{Answer, NewNumber, Number, done, done_with, never, never_waking, waiting, waking}
+use Rattle.apex_machine.specs.Locks.{first_for_lock}
 use Rattle.apex_machine.specs.Names.{number_found, number_of}
 use Rattle.apex_machine.specs.Services.{answer_of, peer}
 use Rattle.apex_machine.specs.Statuses.{mutex_owned, reporting, status_of, telling}
-use Rattle.apex_machine.specs.State.{Mutex, Partition, created, given_object, is_free, item_at, occupant_of, time_of}
+use Rattle.apex_machine.specs.declared.state.Entry.{Entry}
+use Rattle.apex_machine.specs.State.{Lock, Mutex, Partition, created, given_object, is_free, item_at, occupant_of, time_of}
 use Rattle.apex_machine.specs.Waiting.{first_waiter, service_at, set_of}
 
 -- releases and entry into NORMAL
@@ -130,10 +132,14 @@ pub record IsDue (core now : ℕ) (process : Process) : Type 0 where
   pub due : HasDueTime process.wait time
   pub reached : time ≤ now
 
--- a process whose wait ends, with this outcome of the service due for which it waited, if there is such a service
+-- a process whose wait ends, with this outcome of the service due for which it waited, with this value, if there is such a service
+abbrev pub ends_valued : ℕ → Option Service → Code → Option ℤ → List ℕ → Process → Process
+ends_valued place of given value message process =
+    record process { wait = wait.Nothing; ready_position = place; due = owed of given value message }
+
+-- the same without a value
 abbrev pub ends_with : ℕ → Option Service → Code → List ℕ → Process → Process
-ends_with place of given message process =
-    record process { wait = wait.Nothing; ready_position = place; due = owed of given message }
+ends_with place of given message process = ends_valued place of given None message process
 
 -- a wait that falls due: TIMED_WAIT and PERIODIC_WAIT return NO_ERROR, SUSPEND_SELF and the waits for objects TIMED_OUT; the release
 -- for which the process waited becomes its last one; a first release and the end of the delay of a start return nothing
@@ -147,15 +153,18 @@ pub data IsReleased (place : ℕ) (old new : Process) : Type 0 where
   suspension : (due : Option ℕ) → old.wait ≡ wait.Suspended due → new ≡ ends_with place (Some service.SuspendSelf) code.TimedOut [] old → IsReleased place old new
   object : (set : WaitingSet) (due : Option ℕ) → old.wait ≡ wait.At set due → new ≡ ends_with place (service_at set) code.TimedOut [] old → IsReleased place old new
 
--- a wait that a call, an arrival or a departure ends: the waiting service returns NO_ERROR, and the message if one is handed over
+-- a wait that a call, an arrival or a departure ends: the waiting service returns NO_ERROR, and the message if one is handed over; a process
+-- that gets the lock returns from LOCK_PREEMPTION with level 1
 pub data IsWoken (place : ℕ) (message : List ℕ) (old new : Process) : Type 0 where
   suspension : (due : Option ℕ) → old.wait ≡ wait.Suspended due → new ≡ ends_with place (Some service.SuspendSelf) code.NoError message old → IsWoken place message old new
   object : (set : WaitingSet) (due : Option ℕ) → old.wait ≡ wait.At set due → new ≡ ends_with place (service_at set) code.NoError message old → IsWoken place message old new
+  lock : old.wait ≡ wait.ForLock → new ≡ ends_valued place (Some service.LockPreemption) code.NoError (Some (pos 1)) message old → IsWoken place message old new
 
--- a process waits for another: until it is resumed, or in a waiting set
+-- a process waits for another: until it is resumed, in a waiting set, or for the lock
 abbrev pub WaitsForOther : Wait → Type 0
 WaitsForOther (wait.Suspended due) = Unit {0}
 WaitsForOther (wait.At set due) = Unit {0}
+WaitsForOther wait.ForLock = Unit {0}
 WaitsForOther _ = ⊥
 
 -- STOP, STOP_SELF: the process is dormant, not suspended, waits for nothing, and nothing is due to it
@@ -164,13 +173,14 @@ IsStopped old new = new ≡ record old { alive = false; suspended = false; wait 
 
 -- the caller
 
--- what a caller waits for: TIMED_WAIT for the delay, PERIODIC_WAIT for the next release, SUSPEND_SELF for a resumption, any other service
--- in its waiting set; the last two wait until their time-out, if they have one
+-- what a caller waits for: TIMED_WAIT for the delay, PERIODIC_WAIT for the next release, SUSPEND_SELF for a resumption, LOCK_PREEMPTION for
+-- the lock, any other service in its waiting set; SUSPEND_SELF and waits in sets last until their time-out, if they have one
 pub data IsBegun (now : ℕ) (asked : Request) (chan : Option ℕ) (process : Process) (begun : Wait) : Type 0 where
   delay : (ticks : ℕ) → asked ≡ request.Caller (CallerOperation.TimedWait (pos ticks)) → begun ≡ wait.Until (now + ticks) → IsBegun now asked chan process begun
   release : asked ≡ (request.Caller CallerOperation.PeriodicWait) → begun ≡ wait.PeriodicRelease (next_release process) → IsBegun now asked chan process begun
   suspension : (time_out : ℤ) → asked ≡ request.Caller (CallerOperation.SuspendSelf time_out) → begun ≡ wait.Suspended (due_time time_out now) → IsBegun now asked chan process begun
   object : (set : WaitingSet) → set_of asked chan ≡ Some set → begun ≡ wait.At set (due_of_call (time_out_of asked) now) → IsBegun now asked chan process begun
+  lock : (operation : LockOperation) → asked ≡ request.Preemption operation → begun ≡ wait.ForLock → IsBegun now asked chan process begun
 
 -- a call that puts its caller behind the others of its priority when it answers NO_ERROR
 abbrev pub Renews : Request → Type 0
@@ -246,13 +256,13 @@ abbrev pub IsStartNumber : StartCondition → ℕ → Type 0
 IsStartNumber start.NormalStart number = number ≡ 0
 IsStartNumber start.PartitionRestart number = number ≡ 1
 
--- GET_PARTITION_STATUS: the mode, the lock level, which is 0, and the start condition
+-- GET_PARTITION_STATUS: the mode, the level of the lock, and the start condition
 pub record IsPartitionStatus (partition : Partition) (answer : Answer) : Type 0 where
   pub mode : ℕ
   pub is_mode : IsModeNumber partition.mode mode
   pub start : ℕ
   pub is_start : IsStartNumber partition.start start
-  pub reports : answer ≡ reporting (pos mode) (Some (pos 0)) (Some (pos start))
+  pub reports : answer ≡ reporting (pos mode) (Some (pos partition.lock.level)) (Some (pos start))
 
 -- the state of a process has a number: 0 if the process is dormant; 1 if it is ready and not the occupant of its core; 2 if it is ready and
 -- the occupant of its core; 3 if it waits, or is suspended
@@ -268,10 +278,21 @@ pub data IsProcessStatus (cores : List CoreState) (target : Who) (found : Option
       → answer ≡ reporting (pos number) (Some (pos process.current_priority)) (Some (negsuc 0)) → IsProcessStatus cores target found answer
   nobody : found ≡ None → answer ≡ done → IsProcessStatus cores target found answer
 
+-- GET_PROCESS_MUTEX_STATE: -3 for the owner of the lock, and for any other process the number of the mutex that it owns, or -2
+pub data IsMutexState (partition : Partition) (process : ℕ) (answer : Answer) : Type 0 where
+  owns_lock : partition.lock.owner ≡ Some process → answer ≡ done_with (Number (negsuc 2)) → IsMutexState partition process answer
+  other : ¬ (partition.lock.owner ≡ Some process) → answer ≡ done_with (Number (mutex_owned partition.mutexes process)) → IsMutexState partition process answer
+
+-- STOP, STOP_SELF: if the process that is stopped owns the lock and processes wait for it, the wait of the first ends; else no wait ends
+pub data IsStop (process : ℕ) (lock : Lock) (Answers : List Who → Answer) (answer : Answer) : Type 0 where
+  passes_on : (waiter : Entry) → lock.owner ≡ Some process → first_for_lock lock ≡ Some waiter → answer ≡ Answers (waiter.who ∷ []) → IsStop process lock Answers answer
+  nobody_waits : lock.owner ≡ Some process → first_for_lock lock ≡ None → answer ≡ Answers [] → IsStop process lock Answers answer
+  owns_nothing : ¬ (lock.owner ≡ Some process) → answer ≡ Answers [] → IsStop process lock Answers answer
+
 -- what the caller of a service of process management or time gets, if no error condition holds; for the other services the rules of their
 -- objects say it
 abbrev pub IsAnswer : List CoreState → ℕ → Who → Partition → Request → Answer → Type 0
-IsAnswer cores core who partition (request.Caller CallerOperation.StopSelf) answer = answer ≡ never
+IsAnswer cores core who partition (request.Caller CallerOperation.StopSelf) answer = IsStop who.proc partition.lock never_waking answer
 IsAnswer cores core who partition (request.Caller (CallerOperation.SuspendSelf time_out)) answer = IsOverOrWaits (time_out ≡ pos 0) answer
 IsAnswer cores core who partition (request.Process process ProcessOperation.Resume) answer = IsResuming (peer who process) (created partition.table process) answer
 IsAnswer cores core who partition (request.Caller CallerOperation.GetMyId) answer = answer ≡ done_with (Number (pos who.proc))
@@ -287,8 +308,8 @@ IsAnswer cores core who partition (request.Process process (ProcessOperation.Del
 IsAnswer cores core who partition (request.Process process ProcessOperation.GetStatus) answer =
     IsProcessStatus cores (peer who process) (created partition.table process) answer
 IsAnswer cores core who partition (request.Process process ProcessOperation.GetMutexState) answer =
-    answer ≡ done_with (Number (mutex_owned partition.mutexes (natural_of process)))
-IsAnswer cores core who partition (request.Process process ProcessOperation.Stop) answer = answer ≡ done
+    IsMutexState partition (natural_of process) answer
+IsAnswer cores core who partition (request.Process process ProcessOperation.Stop) answer = IsStop (natural_of process) partition.lock waking answer
 IsAnswer cores core who partition (request.Process process ProcessOperation.Suspend) answer = answer ≡ done
 IsAnswer cores core who partition (request.Process process (ProcessOperation.SetPriority priority)) answer = answer ≡ done
 IsAnswer cores core who partition (request.GetId of name) answer = answer ≡ done_with (number_found (number_of partition of name))

@@ -5,6 +5,8 @@ use Rattle.apex_types.specs.declared.record.Call.{Call as CallRecord}
 use Rattle.apex_types.specs.declared.record.Crossing.{Crossing}
 use Rattle.apex_types.specs.declared.record.Out.TheVariants as out
 use Rattle.apex_types.specs.declared.record.Who.{Who}
+use Rattle.apex_types.specs.declared.operation.{CallerOperation.CallerOperation, LockOperation.LockOperation, ProcessOperation.ProcessOperation}
+use Rattle.apex_types.specs.declared.request.Request.{Request}
 use Rattle.apex_types.specs.declared.request.Request.TheVariants as request
 use Rattle.apex_types.specs.declared.service.Service.{Service}
 use Rattle.apex_types.specs.declared.shape.End.TheVariants.{Senders, Receivers}
@@ -22,11 +24,12 @@ use Rattle.apex_machine.specs.Arguments.{capacity_given, natural_of, period_give
 use Rattle.apex_machine.specs.Choice.{IsReady}
 use Rattle.apex_machine.specs.Configuration.{Configuration, first_core, has_partition, period_of}
 use Rattle.apex_machine.specs.Ports.{Use, use_of}
-use Rattle.apex_machine.specs.State.{Channel, Content, Partition, State, Table, is_named, occupant_of, item_at, time_of, channel_set}
+use Rattle.apex_machine.specs.Locks.{enters_lock}
+use Rattle.apex_machine.specs.State.{Channel, Content, Lock, Partition, State, free_lock, Table, is_named, occupant_of, item_at, time_of, channel_set}
 use Rattle.apex_machine.specs.Step.{IsCodeOf}
 use Rattle.apex_machine.specs.Waiting.{ends_wait, enters, entry_of, stops, message_of}
 use Rattle.apex_laws.specs.Laws.{entries_at}
-use Rattle.apex_laws.specs.ObjectSentences.{IsUse}
+use Rattle.apex_laws.specs.ObjectSentences.{IsLocking, IsStoppedOwner, IsUnlocking, IsUse}
 use Rattle.apex_laws.specs.PartLaws.{OnlyProcessesChange}
 use Rattle.apex_laws.specs.ProcessSentences.{IsCaller, IsCreated, IsDue, IsReleased, IsSetBy, IsStopped, IsWoken}
 
@@ -54,17 +57,17 @@ Stays state next who = process_in next who ≡ process_in state who
 abbrev pub RestStays : State → State → ℕ → Type 0
 RestStays state next number = OnlyProcessesChange (state.partitions number) (next.partitions number)
 
--- a partition's objects and ports without the processes that wait
+-- a partition's lock, objects and ports without the processes that wait
 abbrev pub emptied : Partition → Partition
-emptied partition = each_set (λ wanted entries. []) (record partition { table = [] })
+emptied partition = each_set (λ wanted entries. []) (record partition { table = []; lock = record partition.lock { waiters = [] } })
 
--- a partition's mode, objects and ports are as before, except for its processes and for those that wait
+-- a partition's mode, lock, objects and ports are as before, except for its processes and for those that wait
 abbrev pub ObjectsStay : State → State → ℕ → Type 0
 ObjectsStay state next number = emptied (next.partitions number) ≡ emptied (state.partitions number)
 
 -- two partitions have the same objects, ports and start condition, except for the processes that wait
 abbrev pub ObjectsAre : Partition → Partition → Type 0
-ObjectsAre one other = emptied (record one { mode = other.mode; has_handler = other.has_handler }) ≡ emptied other
+ObjectsAre one other = emptied (record one { mode = other.mode; has_handler = other.has_handler; lock = other.lock }) ≡ emptied other
 
 -- every channel is as before
 abbrev pub ChannelsStay : State → State → Type 0
@@ -84,6 +87,28 @@ pub record IsSetAfterCall (place : ℕ) (call : CallRecord) (wanted : WaitingSet
   pub rest : List Entry
   pub kept : KeepsOnly (λ who. IsTrue (ends_wait call who)) old rest
   pub entered : (IsTrue (enters call wanted) × (new ≡ rest ++ entry_of place call ∷ [])) ⊎ (IsFalse (enters call wanted) × (new ≡ rest))
+
+-- the waiting set of a lock after a call: each process whose wait the call ends leaves, and a caller that waits for the lock enters at the end
+pub record IsLockSetAfterCall (place : ℕ) (call : CallRecord) (old new : List Entry) : Type 0 where
+  pub rest : List Entry
+  pub kept : KeepsOnly (λ who. IsTrue (ends_wait call who)) old rest
+  pub entered : (IsTrue (enters_lock call) × (new ≡ rest ++ entry_of place call ∷ [])) ⊎ (IsFalse (enters_lock call) × (new ≡ rest))
+
+-- what a call of this process that is done makes of the lock, its waiting set aside: LOCK_PREEMPTION, UNLOCK_PREEMPTION and a stop do what
+-- their sentences say, and any other call leaves the lock as it is
+abbrev pub IsLockChange : ℕ → Request → Lock → Lock → Type 0
+IsLockChange caller (request.Preemption LockOperation.Lock) lock next = (effect : Effect Lock) × IsLocking caller lock effect × (next ≡ effect.next)
+IsLockChange caller (request.Preemption LockOperation.Unlock) lock next = (effect : Effect Lock) × IsUnlocking lock effect × (next ≡ effect.next)
+IsLockChange caller (request.Process process ProcessOperation.Stop) lock next = (woken : List Who) × IsStoppedOwner (natural_of process) lock woken next
+IsLockChange caller (request.Caller CallerOperation.StopSelf) lock next = (woken : List Who) × IsStoppedOwner caller lock woken next
+IsLockChange caller _ lock next = next ≡ lock
+
+-- the lock after a call, with its waiting set
+pub record IsLockAfterCall (place : ℕ) (call : CallRecord) (old new : Lock) : Type 0 where
+  pub changed : Lock
+  pub change : (IsTrue (is_done call.claim.out) × IsLockChange call.who.proc call.request old changed) ⊎ (IsFalse (is_done call.claim.out) × (changed ≡ old))
+  pub rest : new ≡ record changed { waiters = new.waiters }
+  pub set : IsLockSetAfterCall place call old.waiters new.waiters
 
 -- dispatches
 
@@ -121,6 +146,7 @@ pub record IsTickOf (configuration : Configuration) (core place : ℕ) (state ne
   pub objects : (number : ℕ) → ObjectsStay state next number
   pub sets : (number : ℕ) (wanted : WaitingSet)
       → KeepsOnly (FallsDue configuration state core (time_of state.cores core + 1)) (entries_at (state.partitions number) wanted) (entries_at (next.partitions number) wanted)
+  pub locks : (number : ℕ) → KeepsOnly (FallsDue configuration state core (time_of state.cores core + 1)) (state.partitions number).lock.waiters (next.partitions number).lock.waiters
   pub contents : (number : ℕ) → (next.channels number).content ≡ (state.channels number).content
   pub senders : (number : ℕ) → KeepsOnly (FallsDue configuration state core (time_of state.cores core + 1)) (state.channels number).senders (next.channels number).senders
   pub receivers : (number : ℕ) → KeepsOnly (FallsDue configuration state core (time_of state.cores core + 1)) (state.channels number).receivers (next.channels number).receivers
@@ -192,8 +218,8 @@ IsSame set new = new ≡ set
 
 -- a call that restarts no partition. In the caller's partition, the caller is as its call leaves it; a process that the call stops is
 -- stopped; another that it names is woken; any other has what the call sets in it, if anything. In every other partition, a process that
--- the call names is woken, and any other stays. Only CREATE_PROCESS adds a process. The objects and ports of the caller's partition are as
--- their rules leave them, and those of the others stay. Processes whose waits end leave their waiting sets, and a caller that waits enters
+-- the call names is woken, and any other stays. Only CREATE_PROCESS adds a process. The lock, objects and ports of the caller's partition are
+-- as their rules leave them, and those of the others stay. Processes whose waits end leave their waiting sets, and a caller that waits enters
 -- its set. The channel through which the call goes gives its outcome; the contents of the others stay, and so do the cores
 pub record IsCallOf (configuration : Configuration) (place now : ℕ) (call : CallRecord) (state next : State) : Type 0 where
   pub caller : Turns (SetAnd configuration state place call call.who.proc (IsCaller place now call)) state next call.who
@@ -211,6 +237,7 @@ pub record IsCallOf (configuration : Configuration) (place now : ℕ) (call : Ca
       ≡ (if is_done call.claim.out then mode_by call.request (state.partitions call.who.part).mode else (state.partitions call.who.part).mode)
   pub handler : (next.partitions call.who.part).has_handler
       ≡ (if is_done call.claim.out then has_handler_by call.request (state.partitions call.who.part).has_handler else (state.partitions call.who.part).has_handler)
+  pub lock : IsLockAfterCall place call (state.partitions call.who.part).lock (next.partitions call.who.part).lock
   pub objects : (IsTrue (is_done call.claim.out)
       → ObjectsAre (next.partitions call.who.part) (objects_by configuration call.who call.claim.val call.request (state.partitions call.who.part)))
       × (IsFalse (is_done call.claim.out) → ObjectsAre (next.partitions call.who.part) (state.partitions call.who.part))
@@ -260,12 +287,13 @@ IsStart _ core place table =
     ((process : Process) × (item_at table 0 ≡ Some process) × IsInitialising core place process)
     × ((number : ℕ) → ¬ (number ≡ 0) → item_at table number ≡ None)
 
--- a restart of a partition in a mode: it starts anew, without objects, ports and error handler; its processes leave the waiting sets of all channels; the
--- contents of channels, the other partitions and the cores are as before
+-- a restart of a partition in a mode: it starts anew, with a free lock, without objects, ports and error handler; its processes leave the
+-- waiting sets of all channels; the contents of channels, the other partitions and the cores are as before
 pub record IsRestartOf (configuration : Configuration) (place : ℕ) (entered : Mode) (part : ℕ) (state next : State) : Type 0 where
   pub mode : (next.partitions part).mode ≡ entered
   pub start : (next.partitions part).start ≡ PartitionRestart
   pub handler : IsFalse (next.partitions part).has_handler
+  pub lock : (next.partitions part).lock ≡ free_lock
   pub processes : IsStart entered (first_core configuration part) place (next.partitions part).table
   pub buffers : (next.partitions part).buffers ≡ []
   pub blackboards : (next.partitions part).blackboards ≡ []

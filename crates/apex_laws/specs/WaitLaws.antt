@@ -4,7 +4,7 @@ use Rattle.apex_types.specs.declared.object_kind.ObjectKind.TheVariants as kind
 use Rattle.apex_types.specs.declared.code.Code.TheVariants as code
 use Rattle.apex_types.specs.declared.record.Call.{Call as CallRecord}
 use Rattle.apex_types.specs.declared.record.Out.TheVariants as out
-use Rattle.apex_types.specs.declared.operation.{BlackboardOperation.BlackboardOperation, BufferOperation.BufferOperation, EventOperation.EventOperation, MutexOperation.MutexOperation, QueuingOperation.QueuingOperation, SemaphoreOperation.SemaphoreOperation}
+use Rattle.apex_types.specs.declared.operation.{BlackboardOperation.BlackboardOperation, BufferOperation.BufferOperation, EventOperation.EventOperation, LockOperation.LockOperation, MutexOperation.MutexOperation, QueuingOperation.QueuingOperation, SemaphoreOperation.SemaphoreOperation}
 use Rattle.apex_types.specs.declared.request.Request.{Request}
 use Rattle.apex_types.specs.declared.operation.ObjectOperation.TheVariants as on
 use Rattle.apex_types.specs.declared.request.Request.TheVariants as request
@@ -14,6 +14,8 @@ use Rattle.apex_machine.specs.declared.state.Process.{Process}
 use Rattle.apex_machine.specs.declared.state.WaitingSet.{WaitingSet}
 use Rattle.apex_machine.specs.Arguments.{natural_of}
 use Rattle.apex_machine.specs.DueTimes.{falls_due}
+use Rattle.apex_machine.specs.declared.state.Wait.TheVariants as wait
+use Rattle.apex_machine.specs.Locks.{enters_lock}
 use Rattle.apex_machine.specs.Processes.{caller_after, released}
 use Rattle.apex_machine.specs.Waiting.{enters}
 use Rattle.apex_laws.specs.ConditionSentences.{HasTimeOut}
@@ -35,6 +37,16 @@ abbrev pub EnteringIsTheSentence : Type 0
 EnteringIsTheSentence =
     (call : CallRecord) (wanted : WaitingSet)
     → (enters call wanted ≡ true) ↔ ((call.claim.out ≡ out.Waits) × WaitsIn call.request call.claim.chan wanted)
+
+-- a call enters the waiting set of the lock exactly if it waits, and is one of the lock
+abbrev pub EnteringLockIsTheSentence : Type 0
+EnteringLockIsTheSentence =
+    (call : CallRecord)
+    → (enters_lock call ≡ true) ↔ ((call.claim.out ≡ out.Waits) × ((operation : LockOperation) × (call.request ≡ request.Preemption operation)))
+
+-- a process that waits for the lock never falls due
+abbrev pub LockIsAwaitedForever : Type 0
+LockIsAwaitedForever = (core time : ℕ) (process : Process) → process.wait ≡ wait.ForLock → falls_due core time (Some process) ≡ false
 
 -- a call that waits in a set with a time-out of some ticks: the caller falls due on its core exactly from the end of the time-out on, and
 -- its service then returns TIMED_OUT; with a time-out of -1 it never falls due

@@ -8,18 +8,18 @@
 #![tactic(auto)]
 
 ghost use Rattle.apex_laws.specs.Laws.{AtMostOneNextState, ChoiceIsTheSentence, KindsStay, OneFirstRefusal, OneRun, PiecesCompose, PiecesFollow, RunOfEach, StaysInOrder, StaysTied, ViewIsOfTheRun, WhoWaitsHasEntry};
-ghost use Rattle.apex_laws.specs.PartLaws.{DueLeave, ForeignCallsLeaveSets, LetsGoAsAnswered, OnlyDoneLetsGo, OtherSetsStay, PartStaysSound, RunningIsInNoSet};
+ghost use Rattle.apex_laws.specs.PartLaws.{DueLeave, ForeignCallsLeaveSets, LetsGoAsAnswered, OnlyDoneLetsGo, OtherCallsLeaveLock, OtherSetsStay, PartStaysSound, RefusedLeavesLock, RunningIsInNoSet};
 ghost use Rattle.apex_laws.specs.PartBounds.{PartStaysBounded, ReleasesFit};
 ghost use Rattle.apex_laws.specs.PartObjects.{EachLeavesItsSet, OneObjectChanges, RefusedLeavesObjects, StoppedLeaves};
 ghost use Rattle.apex_laws.specs.PartSets.{EachNamedLeaves, LeavesEverySet, NamedLeave};
 ghost use Rattle.apex_laws.specs.JoinLaws.{FindingsJoin, FoundIsRefused, NothingFoundIsARun, RunsJoin};
-ghost use Rattle.apex_laws.specs.ObjectLaws.{BlackboardIsTheSentence, ChannelIsTheSentence, CrossingIsTheSentence, EventIsTheSentence, FirstIsTheSentence, MutexIsTheSentence, ObjectCallIsTheSentence, OrderIsApart, QueueIsTheSentence, SamplingIsTheSentence, SemaphoreIsTheSentence};
+ghost use Rattle.apex_laws.specs.ObjectLaws.{BlackboardIsTheSentence, ChannelIsTheSentence, CrossingIsTheSentence, EventIsTheSentence, FirstIsTheSentence, LockIsTheSentence, MutexIsTheSentence, ObjectCallIsTheSentence, OrderIsApart, QueueIsTheSentence, SamplingIsTheSentence, SemaphoreIsTheSentence};
 ghost use Rattle.apex_laws.specs.RecordLaws.{ArrivalIsTheSentence, CallIsTheSentence, DepartureIsTheSentence, DispatchIsTheSentence, RefusalIsTheSentence, RestartIsTheSentence, ReturnIsTheSentence, SetIsTheSentence, TickIsTheSentence};
 ghost use Rattle.apex_laws.specs.ConditionFacts.{ConditionFacts};
 ghost use Rattle.apex_laws.specs.ConditionLaws.{CodesAreTheSentences, ConditionsAreTheSentences};
 ghost use Rattle.apex_laws.specs.NumberLaws.{NamesAreFound, NewNumberIsTheSentence, ObjectsAreFound, OwnedIsFound, ProcessesAreFound};
 ghost use Rattle.apex_laws.specs.ProfileLaws.{ProfileIsTheSentence};
-ghost use Rattle.apex_laws.specs.WaitLaws.{EnteringIsTheSentence, TimeOutIsTheSentence};
+ghost use Rattle.apex_laws.specs.WaitLaws.{EnteringIsTheSentence, EnteringLockIsTheSentence, LockIsAwaitedForever, TimeOutIsTheSentence};
 ghost use Rattle.apex_laws.specs.ViewLaws.{ViewsAreOfTheRun};
 ghost use Rattle.apex_laws.specs.ViewNumbers.{NumbersTell};
 ghost use Rattle.apex_laws.specs.WorkedRun.{WorkedRun};
@@ -116,6 +116,16 @@ pub fn lets_go_as_answered()
 /// A call of a sound partition that is not done leaves all objects, waiting sets and ports of the partition unchanged.
 pub fn refused_leaves_objects()
     ensures { RefusedLeavesObjects }
+{}
+
+/// An own call leaves the lock unchanged, unless it is one of the lock, a stop or a restart.
+pub fn other_calls_leave_lock()
+    ensures { OtherCallsLeaveLock }
+{}
+
+/// An own call that is not done leaves the lock unchanged.
+pub fn refused_leaves_lock()
+    ensures { RefusedLeavesLock }
 {}
 
 /// A STOP that is done takes its target out of the one waiting set that its wait names: no other process leaves, none enters, and all other
@@ -247,6 +257,11 @@ pub fn event_is_the_sentence()
 /// Acquiring, releasing and resetting a mutex is what the sentences say.
 pub fn mutex_is_the_sentence()
     ensures { MutexIsTheSentence }
+{}
+
+/// The lock of a partition: its operations, and a stop of its owner.
+pub fn lock_is_the_sentence()
+    ensures { LockIsTheSentence }
 {}
 
 /// Writing and reading a sampling channel is what the sentences say.
@@ -422,6 +437,16 @@ pub fn new_number_is_the_sentence()
 /// A call enters a waiting set exactly if it waits, and the set is its service's.
 pub fn entering_is_the_sentence()
     ensures { EnteringIsTheSentence }
+{}
+
+/// A call enters the waiting set of the lock exactly if it waits, and is one of the lock.
+pub fn entering_lock_is_the_sentence()
+    ensures { EnteringLockIsTheSentence }
+{}
+
+/// A process that waits for the lock never falls due.
+pub fn lock_is_awaited_forever()
+    ensures { LockIsAwaitedForever }
 {}
 
 /// A wait in a set falls due from the end of its time-out on, and then returns TIMED_OUT; with a time-out of -1 it never falls due.

@@ -28,11 +28,12 @@ use Rattle.apex_machine.specs.declared.state.WaitingSet.{WaitingSet}
 use Rattle.apex_machine.specs.Arguments.{discipline_given, natural_of}
 use Rattle.apex_machine.specs.Channels.{QueuingPort, SamplingPort, queuing_port, sampling_port}
 use Rattle.apex_machine.specs.Configuration.{Configuration, first_core, period_of}
+use Rattle.apex_machine.specs.Locks.{lock_by, lock_left}
 use Rattle.apex_machine.specs.Objects.{object_effect}
 use Rattle.apex_machine.specs.Ports.{arrived, channel_effect, departed, use_of}
 pub use Rattle.apex_machine.specs.Processes.{caller_after, caller_with, outcome_of, released}
 use Rattle.apex_machine.specs.Processes.{new_process, set_by, stopped, woken_by}
-use Rattle.apex_machine.specs.State.{Blackboard, Buffer, Channel, Content, Event, Mutex, ObjectOf, Partition, Port, Semaphore, State, Table, at_core, change_at, channel_set, each_item, is_named, objects_of, set_at, started_partition, time_of, with_ends, with_objects}
+use Rattle.apex_machine.specs.State.{Blackboard, Buffer, Channel, Content, Event, Lock, Mutex, ObjectOf, Partition, Port, Semaphore, State, Table, at_core, change_at, channel_set, each_item, is_named, objects_of, set_at, started_partition, time_of, with_ends, with_objects}
 use Rattle.apex_machine.specs.Waiting.{message_of, restart_of, set_after, stops}
 
 -- whether a call was carried out: it waits, it does not return, or it answered NO_ERROR
@@ -165,6 +166,10 @@ each_set change partition = record partition {
   mutexes = each_item (with_sets kind.Mutex change) partition.mutexes;
 }
 
+-- a partition with the waiting sets that a record leaves, its lock's included
+abbrev pub sets_left : ℕ → Body → Partition → Partition
+sets_left place body partition = record (each_set (set_after place body) partition) { lock = lock_left place body partition.lock }
+
 -- partitions
 
 -- the objects and ports of the caller's partition after a call, with their waiting sets
@@ -178,11 +183,17 @@ abbrev pub has_handler_by : Request → Bool → Bool
 has_handler_by request.CreateErrorHandler before = true
 has_handler_by _ before = before
 
+-- the lock after a call, with its waiting set
+abbrev pub lock_called : ℕ → CallRecord → Lock → Lock
+lock_called place call lock =
+    lock_left place (Call call) (if is_done call.claim.out then lock_by call.who.proc call.request lock else lock)
+
 -- the caller's partition after a call at this place and core that does not restart it
 abbrev pub partition_called : Configuration → List CoreState → ℕ → ℕ → CallRecord → Partition → Partition
 partition_called configuration cores place core call partition = record (objects_called configuration place call partition) {
   mode = if is_done call.claim.out then mode_by call.request partition.mode else partition.mode;
   has_handler = if is_done call.claim.out then has_handler_by call.request partition.has_handler else partition.has_handler;
+  lock = lock_called place call partition.lock;
   table = each_item (called place (time_of cores core) (period_of configuration call.who.part) cores partition call) partition.table
       ++ created_by (first_core configuration call.who.part) call call.request;
 }
@@ -211,7 +222,7 @@ partition_woken place number message woken partition =
 abbrev pub partition_by : Configuration → List CoreState → ℕ → ℕ → ℕ → Body → Partition → Partition
 partition_by configuration cores place core number (Disp who) partition = partition
 partition_by configuration cores place core number (Tick woken) partition =
-    record (each_set (set_after place (Tick woken)) partition) { table = each_item (ticked place number woken) partition.table }
+    record (sets_left place (Tick woken) partition) { table = each_item (ticked place number woken) partition.table }
 partition_by configuration cores place core number (Ret ret) partition =
     if nat_eq ret.who.part number then record partition { table = each_item (returned ret.who.proc) partition.table } else partition
 partition_by configuration cores place core number (Call call) partition =

@@ -43,9 +43,13 @@ waking woken = record { out = out.Answer code.NoError; val = Nothing; val2 = Non
 abbrev pub giving : List ℕ → List Who → Answer
 giving message woken = record { out = out.Answer code.NoError; val = Nothing; val2 = None; val3 = None; bytes = message; woken = woken }
 
+-- the call does not return, and the waits of these processes end
+abbrev pub never_waking : List Who → Answer
+never_waking woken = record { out = out.Never; val = Nothing; val2 = None; val3 = None; bytes = []; woken = woken }
+
 -- the call does not return
 abbrev pub never : Answer
-never = record { out = out.Never; val = Nothing; val2 = None; val3 = None; bytes = []; woken = [] }
+never = never_waking []
 
 -- the caller waits
 abbrev pub waiting : Answer

@@ -5,7 +5,7 @@ use Rattle.apex_machine.specs.declared.state.Process.{Process}
 use Rattle.apex_machine.specs.declared.state.Wait.{Wait}
 use Rattle.apex_machine.specs.declared.state.Wait.TheVariants as wait
 use Rattle.apex_machine.specs.Configuration.{Configuration, window_at}
-use Rattle.apex_machine.specs.State.{Partition, State, Table, time_of}
+use Rattle.apex_machine.specs.State.{Partition, State, Table, item_at, time_of}
 
 -- whether a wait is for nothing
 abbrev pub waits_for_nothing : Wait → Bool
@@ -41,10 +41,26 @@ ready_entries core table = filter (λ entry. is_ready core entry.1) table
 abbrev pub choice_in : ℕ → ℕ → Table → Option Who
 choice_in partition core table = option_map (λ entry. record { part = partition; proc = entry.0 }) (foremost (ready_entries core table))
 
--- the choice of a core in a window of this partition; idle if the core is in no window
+-- whether a process exists and is ready on a core
+abbrev pub is_one_ready : ℕ → Option Process → Bool
+is_one_ready core None = false
+is_one_ready core (Some process) = is_ready core process
+
+-- the choice of a core among the processes of one partition whose lock this process owns, if one does: the owner if it is ready on this
+-- core, else the choice among all
+abbrev pub choice_under : ℕ → ℕ → Option ℕ → Table → Option Who
+choice_under partition core None table = choice_in partition core table
+choice_under partition core (Some owner) table =
+    if is_one_ready core (item_at table owner) then Some (record { part = partition; proc = owner }) else choice_in partition core table
+
+-- the choice of a core in a window of this partition
+abbrev pub partition_choice : ℕ → ℕ → Partition → Option Who
+partition_choice number core partition = choice_under number core partition.lock.owner partition.table
+
+-- the choice of a core in a window of the partition of this number; idle if the core is in no window
 abbrev pub choice_of : Option ℕ → (ℕ → Partition) → ℕ → Option Who
 choice_of None partitions core = None
-choice_of (Some partition) partitions core = choice_in partition core (partitions partition).table
+choice_of (Some number) partitions core = partition_choice number core (partitions number)
 
 -- the choice of a core at its present time, among the processes of the partition whose window it is   (partition scheduling, section 2)
 abbrev pub choice : Configuration → State → ℕ → Option Who
@@ -68,8 +84,18 @@ GoesBefore one other =
     ⊎ ((one.1.current_priority ≡ other.1.current_priority)
     × ((one.1.ready_position < other.1.ready_position) ⊎ ((one.1.ready_position ≡ other.1.ready_position) × (one.0 < other.0))))
 
--- the choice of a core among the processes of a table: one that is ready on this core, and that no ready process goes before
+-- the first of the ready processes of a table: one that is ready on this core, and that no ready process goes before
 pub record IsChosen (core : ℕ) (table : Table) (entry : ℕ × Process) : Type 0 where
   pub is_member : Contains table entry
   pub ready : IsReady core entry.1
   pub first : (other : ℕ × Process) → Contains table other → IsReady core other.1 → ¬ GoesBefore other entry
+
+-- a process of this number is in the table, and is ready on this core
+abbrev pub IsReadyOwner : ℕ → ℕ → Table → Type 0
+IsReadyOwner core owner table = (process : Process) × Contains table (owner, process) × IsReady core process
+
+-- the choice of a core among the processes of a table, if this process owns the partition's lock, or if none does: an owner that is ready on
+-- this core runs there, whatever the priorities are; else the first of the ready processes   (LOCK_PREEMPTION, section 3)
+pub data IsChosenUnder (core : ℕ) (owner : Option ℕ) (table : Table) (entry : ℕ × Process) : Type 0 where
+  owner_runs : owner ≡ Some entry.0 → Contains table entry → IsReady core entry.1 → IsChosenUnder core owner table entry
+  first_runs : ((number : ℕ) → owner ≡ Some number → ¬ IsReadyOwner core number table) → IsChosen core table entry → IsChosenUnder core owner table entry

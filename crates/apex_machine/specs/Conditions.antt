@@ -10,6 +10,7 @@ use Rattle.apex_machine.specs.declared.state.Mode.{Mode}
 use Rattle.apex_machine.specs.declared.state.Mode.TheVariants as mode
 use Rattle.apex_machine.specs.declared.state.Process.{Process}
 use Rattle.apex_machine.specs.Arguments.{is_over, is_time_out}
+use Rattle.apex_machine.specs.Locks.{owns_lock}
 use Rattle.apex_machine.specs.Objects.{is_owner}
 use Rattle.apex_machine.specs.State.{Mutex, Partition}
 
@@ -61,6 +62,13 @@ code_of condition.NoSuchProcess = code.InvalidParam
 code_of condition.ProcessNotOwner = code.InvalidMode
 code_of condition.LengthOutOfRange = code.InvalidParam
 code_of condition.HandlerCreated = code.NoAction
+code_of condition.NotNormal = code.NoAction
+code_of condition.NotForInitialising = code.NoAction
+code_of condition.LevelIsGreatest = code.InvalidConfig
+code_of condition.OwnsMutex = code.InvalidMode
+code_of condition.NotLockOwner = code.NoAction
+code_of condition.OwnsLock = code.InvalidMode
+code_of condition.ProcessOwnsLock = code.InvalidMode
 
 -- this condition, if it holds
 abbrev pub when : Bool → Condition → List Condition
@@ -98,9 +106,9 @@ abbrev pub owns_mutex : List (ℕ × Mutex) → ℕ → Bool
 owns_mutex [] number = false
 owns_mutex (entry ∷ entries) number = is_owner entry.1.owner number || owns_mutex entries number
 
--- the initialising process may not wait, and neither may the owner of a mutex
+-- the initialising process may not wait, and neither may the owner of a mutex or of the lock
 abbrev pub may_not_wait : Who → Partition → Bool
-may_not_wait who partition = nat_eq who.proc 0 || owns_mutex partition.mutexes who.proc
+may_not_wait who partition = nat_eq who.proc 0 || (owns_mutex partition.mutexes who.proc || owns_lock partition who.proc)
 
 -- waits
 

@@ -24,7 +24,7 @@ use Rattle.apex_machine.specs.declared.state.Outcome.{Outcome}
 use Rattle.apex_machine.specs.declared.state.WaitingSet.{WaitingSet}
 use Rattle.apex_machine.specs.After.{is_channel}
 use Rattle.apex_machine.specs.Arguments.{is_over}
-use Rattle.apex_machine.specs.Choice.{choice_in}
+use Rattle.apex_machine.specs.Choice.{partition_choice}
 use Rattle.apex_machine.specs.Configuration.{Configuration, has_partition, window_at}
 use Rattle.apex_machine.specs.Pieces.{ChannelPart, ModulePart, Part, PartitionPart, part_after, time_at}
 use Rattle.apex_machine.specs.Channels.{has_channel, is_from_outside, is_to_outside, size_of}
@@ -101,8 +101,8 @@ module_demands configuration cores core (Ret ret) =
 -- partitions: the outcome of their own calls
 
 -- the occupant of a core is this process, and the process is the partition's choice
-abbrev pub IsRunning : ℕ → List CoreState → Table → ℕ → Who → Type 0
-IsRunning number cores table core who = (occupant_of cores core ≡ Some who) × (choice_in number core table ≡ Some who)
+abbrev pub IsRunning : ℕ → List CoreState → Partition → ℕ → Who → Type 0
+IsRunning number cores partition core who = (occupant_of cores core ≡ Some who) × (partition_choice number core partition ≡ Some who)
 
 -- a time-out with which a caller may wait: there is one, and it is not 0
 abbrev pub MayWait : Option ℤ → Type 0
@@ -146,7 +146,7 @@ outcome_demands (condition ∷ conditions) channel number asked answer claim =
 abbrev pub caller_demands : Configuration → ℕ → List CoreState → Partition → ℕ → CallRecord → List {1} Demand
 caller_demands configuration number cores partition core call =
     record { cause = cause.Window; holds = window_now configuration cores core ≡ Some number }
-    ∷ record { cause = cause.Choice; holds = IsRunning number cores partition.table core call.who }
+    ∷ record { cause = cause.Choice; holds = IsRunning number cores partition core call.who }
     ∷ record { cause = cause.Return; holds = HasNoneDue (item_at partition.table call.who.proc) }
     ∷ record {
       cause = cause.OutsideProfile;
@@ -182,7 +182,7 @@ WakesHere _ chan number table woken = ⊥
 -- a call of another partition that names one of these processes
 abbrev pub foreign_call_demands : Configuration → ℕ → List CoreState → Partition → ℕ → CallRecord → List {1} Demand
 foreign_call_demands configuration number cores partition core call =
-    record { cause = cause.Choice; holds = InWindowOf number (window_now configuration cores core) (IsRunning number cores partition.table core call.who) }
+    record { cause = cause.Choice; holds = InWindowOf number (window_now configuration cores core) (IsRunning number cores partition core call.who) }
     ∷ record { cause = cause.Woken; holds = WakesHere call.request call.claim.chan number partition.table call.claim.woken } ∷ []
 
 -- a call of one of the partition's own processes, or of another's
@@ -205,11 +205,11 @@ pub record ReturnsValues (outcome : Outcome) (ret : Return) : Type 0 where
 -- to receive on that channel, and of a departure, that they wait to send
 abbrev pub partition_demands : Configuration → ℕ → List CoreState → Partition → ℕ → Body → List {1} Demand
 partition_demands configuration number cores partition core (Disp who) =
-    record { cause = cause.Choice; holds = InWindowOf number (window_now configuration cores core) (choice_in number core partition.table ≡ who) } ∷ []
+    record { cause = cause.Choice; holds = InWindowOf number (window_now configuration cores core) (partition_choice number core partition ≡ who) } ∷ []
 partition_demands configuration number cores partition core (Tick woken) =
     record {
       cause = cause.Choice;
-      holds = InWindowOf number (window_now configuration cores core) (choice_in number core partition.table ≡ occupant_of cores core);
+      holds = InWindowOf number (window_now configuration cores core) (partition_choice number core partition ≡ occupant_of cores core);
     }
     ∷ record { cause = cause.Woken; holds = NamesThoseDue number core (time_of cores core + 1) partition.table woken } ∷ []
 partition_demands configuration number cores partition core (Call call) =
@@ -217,7 +217,7 @@ partition_demands configuration number cores partition core (Call call) =
 partition_demands configuration number cores partition core (Ret ret) =
     let due : Option Outcome = due_of (item_at partition.table ret.who.proc) in
     record { cause = cause.Window; holds = window_now configuration cores core ≡ Some number }
-    ∷ record { cause = cause.Choice; holds = IsRunning number cores partition.table core ret.who }
+    ∷ record { cause = cause.Choice; holds = IsRunning number cores partition core ret.who }
     ∷ record { cause = cause.Return; holds = IfDue due (λ outcome. outcome.service ≡ ret.service) }
     ∷ record { cause = cause.Out; holds = IfDue due (λ outcome. outcome.code ≡ ret.code) }
     ∷ record { cause = cause.Val; holds = IfDue due (λ outcome. ReturnsValues outcome ret) }

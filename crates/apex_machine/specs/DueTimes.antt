@@ -37,6 +37,16 @@ abbrev pub is_for_mutex : Wait → Bool
 is_for_mutex (wait.At set due) = is_same_kind set.kind kind.Mutex
 is_for_mutex _ = false
 
+-- whether a wait is for the lock of the partition
+abbrev pub is_for_lock : Wait → Bool
+is_for_lock wait.ForLock = true
+is_for_lock _ = false
+
+-- whether a process exists and waits for the lock; a process that waits is alive
+abbrev pub waits_for_lock : Option Process → Bool
+waits_for_lock None = false
+waits_for_lock (Some process) = process.alive && is_for_lock process.wait
+
 -- releases of periodic processes
 
 -- the first release: the least multiple of the partition's period above this time
@@ -101,6 +111,7 @@ abbrev pub wait_of : Request → Option ℕ → ℕ → Process → Wait
 wait_of (request.Caller (CallerOperation.TimedWait (pos delay))) chan now process = wait.Until (now + delay)
 wait_of (request.Caller CallerOperation.PeriodicWait) chan now process = wait.PeriodicRelease (next_release process)
 wait_of (request.Caller (CallerOperation.SuspendSelf time_out)) chan now process = wait.Suspended (due_time time_out now)
+wait_of (request.Preemption operation) chan now process = wait.ForLock
 wait_of asked chan now process = wait_in (set_of asked chan) (due_of_call (time_out_of asked) now)
 
 -- when a wait is over

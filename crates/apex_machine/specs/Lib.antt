@@ -8,6 +8,7 @@ pub mod DueTimes
 pub mod Choice
 pub mod Queue
 pub mod Objects
+pub mod Locks
 pub mod Ports
 pub mod Conditions
 pub mod Names

@@ -5,6 +5,7 @@ use Rattle.apex_machine.specs.declared.condition.Condition.{Condition}
 use Rattle.apex_machine.specs.declared.condition.Condition.TheVariants as condition
 use Rattle.apex_machine.specs.Arguments.{is_length, is_longer, is_number, natural_of}
 use Rattle.apex_machine.specs.Conditions.{conditions_for, conditions_if, of_caller, time_out_conditions, waiting_conditions, when}
+use Rattle.apex_machine.specs.Locks.{owns_lock}
 use Rattle.apex_machine.specs.Objects.{is_owner}
 use Rattle.apex_machine.specs.State.{Mutex, Partition, created, given_object, item_at}
 
@@ -26,7 +27,7 @@ owns_another [] mutex number = false
 owns_another (entry ∷ entries) mutex number = (is_owner entry.1.owner number && not (is_number mutex entry.0)) || owns_another entries mutex number
 
 -- ACQUIRE_MUTEX: a created mutex whose priority is not below the caller's current one; a time-out in range; a caller that is neither the
--- initialising process nor the owner of another mutex
+-- initialising process nor the owner of another mutex or of the lock
 abbrev pub acquire_conditions : Who → Partition → ℤ → ℤ → List Condition
 acquire_conditions who partition mutex time_out =
     conditions_for (given_object partition.mutexes mutex)
@@ -34,6 +35,7 @@ acquire_conditions who partition mutex time_out =
     ++ time_out_conditions time_out
     ++ when (nat_eq who.proc 0) condition.InitialisingCaller
     ++ when (owns_another partition.mutexes mutex who.proc) condition.OwnsAnother
+    ++ when (owns_lock partition who.proc) condition.OwnsLock
 
 -- RESET_MUTEX: a created mutex, and a created process, which owns it
 abbrev pub reset_conditions : Partition → ℤ → ℤ → List Condition

@@ -1,15 +1,17 @@
 -- The error conditions of the services on processes, on the caller's waits and on the partition's mode.
 use Rattle.std.specs.Prelude.{ℕ, ◌-◌, List, [], ◌∷◌, ◌++◌, length, Option, Some, None, Bool, false, ℤ, not, is_none, is_some, nat_eq, nat_le, ◌&&◌, ◌||◌}
 use Rattle.std.specs.Option.{option_map_or}
+use Rattle.apex_types.specs.declared.limits.TheConstants.{GREATEST_LOCK_LEVEL}
 use Rattle.apex_types.specs.declared.record.Who.{Who}
 use Rattle.apex_machine.specs.declared.condition.Condition.{Condition}
 use Rattle.apex_machine.specs.declared.condition.Condition.TheVariants as condition
 use Rattle.apex_machine.specs.declared.state.Mode.{Mode}
 use Rattle.apex_machine.specs.declared.state.Process.{Process}
-use Rattle.apex_machine.specs.Arguments.{is_above_period, is_at_least, is_mode, is_negative, is_normal_mode, is_number, is_period, is_priority, is_report_length, is_time_capacity, is_warm_start_mode, suits_period}
-use Rattle.apex_machine.specs.Conditions.{conditions_for, conditions_if, creation_conditions, is_cold_start, is_normal, is_taken, may_not_wait, of_caller, time_out_conditions, when}
+use Rattle.apex_machine.specs.Arguments.{is_above_period, is_at_least, is_mode, is_negative, is_normal_mode, is_number, is_period, is_priority, is_report_length, is_time_capacity, is_warm_start_mode, natural_of, suits_period}
+use Rattle.apex_machine.specs.Conditions.{conditions_for, conditions_if, creation_conditions, is_cold_start, is_normal, is_taken, may_not_wait, of_caller, owns_mutex, time_out_conditions, when}
 use Rattle.apex_machine.specs.Configuration.{Configuration, is_core, period_of, process_limit}
 use Rattle.apex_machine.specs.DueTimes.{is_suspension}
+use Rattle.apex_machine.specs.Locks.{owns_lock}
 use Rattle.apex_machine.specs.State.{Partition, Table, created, item_at}
 
 -- how many processes are created: all but the initialising one
@@ -70,10 +72,11 @@ stop_conditions who target process =
 abbrev pub suspension_conditions : Process → List Condition
 suspension_conditions process = when (not process.alive) condition.Dormant ++ when (is_periodic process) condition.Periodic
 
--- SUSPEND: a created process, other than the caller, that is neither dormant nor periodic and not yet suspended
-abbrev pub suspend_conditions : Who → Option Process → ℤ → List Condition
-suspend_conditions who target process =
-    conditions_for target (λ found. suspension_conditions found ++ when (is_suspended found) condition.AlreadySuspended)
+-- SUSPEND: a created process, other than the caller, that is neither dormant nor periodic, not yet suspended, and not the owner of the lock
+abbrev pub suspend_conditions : Who → Partition → ℤ → List Condition
+suspend_conditions who partition process =
+    conditions_for (created partition.table process)
+    (λ found. suspension_conditions found ++ when (is_suspended found) condition.AlreadySuspended ++ when (owns_lock partition (natural_of process)) condition.ProcessOwnsLock)
     ++ when (is_number process who.proc) condition.NamesItself
 
 -- RESUME: a created process, other than the caller, that is neither dormant nor periodic and is suspended
@@ -123,6 +126,24 @@ report_conditions length = when (not (is_report_length length)) condition.Length
 -- CREATE_ERROR_HANDLER: a mode other than NORMAL, and no handler yet
 abbrev pub create_handler_conditions : Partition → List Condition
 create_handler_conditions partition = when (is_normal partition.mode) condition.InNormal ++ when partition.has_handler condition.HandlerCreated
+
+-- the lock
+
+-- LOCK_PREEMPTION and UNLOCK_PREEMPTION: the mode NORMAL, and a caller other than the initialising process
+abbrev pub preemption_conditions : Who → Partition → List Condition
+preemption_conditions who partition =
+    when (not (is_normal partition.mode)) condition.NotNormal ++ when (nat_eq who.proc 0) condition.NotForInitialising
+
+-- LOCK_PREEMPTION: a caller that does not own the lock at its greatest level, and owns no mutex
+abbrev pub lock_conditions : Who → Partition → List Condition
+lock_conditions who partition =
+    preemption_conditions who partition
+    ++ when (owns_lock partition who.proc && nat_le GREATEST_LOCK_LEVEL partition.lock.level) condition.LevelIsGreatest
+    ++ when (owns_mutex partition.mutexes who.proc) condition.OwnsMutex
+
+-- UNLOCK_PREEMPTION: a caller that owns the lock
+abbrev pub unlock_conditions : Who → Partition → List Condition
+unlock_conditions who partition = preemption_conditions who partition ++ when (not (owns_lock partition who.proc)) condition.NotLockOwner
 
 -- the partition's mode
 

@@ -116,10 +116,10 @@ set_by place period cores partition caller _ number process = process
 
 -- the end of a wait
 
--- the outcome that a service gives its caller, if there is such a service
-abbrev pub owed : Option Service → Code → List ℕ → Option Outcome
-owed None code bytes = None
-owed (Some service) code bytes = Some (record { service = service; code = code; val = None; val2 = None; val3 = None; bytes = bytes })
+-- the outcome that a service gives its caller, with its code, its value and its message, if there is such a service
+abbrev pub owed : Option Service → Code → Option ℤ → List ℕ → Option Outcome
+owed None code val bytes = None
+owed (Some service) code val bytes = Some (record { service = service; code = code; val = val; val2 = None; val3 = None; bytes = bytes })
 
 -- the service whose call began a wait, if one did
 abbrev pub service_of_wait : Wait → Option Service
@@ -127,6 +127,7 @@ service_of_wait (wait.Until due) = Some service.TimedWait
 service_of_wait (wait.PeriodicRelease due) = Some service.PeriodicWait
 service_of_wait (wait.Suspended due) = Some service.SuspendSelf
 service_of_wait (wait.At set due) = service_at set
+service_of_wait wait.ForLock = Some service.LockPreemption
 service_of_wait _ = None
 
 -- the code with which a wait ends that falls due: TIMED_OUT if the process waited for something else than a time, NO_ERROR if it waited for
@@ -134,7 +135,13 @@ service_of_wait _ = None
 abbrev pub code_when_due : Wait → Code
 code_when_due (wait.Suspended due) = code.TimedOut
 code_when_due (wait.At set due) = code.TimedOut
+code_when_due wait.ForLock = code.TimedOut
 code_when_due _ = code.NoError
+
+-- the value with which a wait ends that another process ends: the new owner of the lock has level 1
+abbrev pub value_when_woken : Wait → Option ℤ
+value_when_woken wait.ForLock = Some (pos 1)
+value_when_woken _ = None
 
 -- the release for which a process waited becomes its last one
 abbrev pub release_reached : Wait → ℕ → ℕ
@@ -154,11 +161,11 @@ wait_ended place outcome process = record process {
 
 -- a process whose wait ends at a tick
 abbrev pub released : ℕ → Process → Process
-released place process = wait_ended place (owed (service_of_wait process.wait) (code_when_due process.wait) []) process
+released place process = wait_ended place (owed (service_of_wait process.wait) (code_when_due process.wait) None []) process
 
 -- a process whose wait a call, an arrival or a departure ends, which hands over the message that it gives, if any
 abbrev pub woken_by : ℕ → List ℕ → Process → Process
-woken_by place message process = wait_ended place (owed (service_of_wait process.wait) code.NoError message) process
+woken_by place message process = wait_ended place (owed (service_of_wait process.wait) code.NoError (value_when_woken process.wait) message) process
 
 -- the caller
 

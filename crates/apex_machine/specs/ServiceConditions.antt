@@ -1,7 +1,7 @@
 -- The error conditions of every service, by the request.
 use Rattle.std.specs.Prelude.{List, [], ◌++◌, option_map}
 use Rattle.apex_types.specs.declared.record.Who.{Who}
-use Rattle.apex_types.specs.declared.operation.{BlackboardOperation.BlackboardOperation, BufferOperation.BufferOperation, CallerOperation.CallerOperation, EventOperation.EventOperation, MutexOperation.MutexOperation, ProcessOperation.ProcessOperation, QueuingOperation.QueuingOperation, SamplingOperation.SamplingOperation, SemaphoreOperation.SemaphoreOperation}
+use Rattle.apex_types.specs.declared.operation.{BlackboardOperation.BlackboardOperation, BufferOperation.BufferOperation, CallerOperation.CallerOperation, EventOperation.EventOperation, LockOperation.LockOperation, MutexOperation.MutexOperation, ProcessOperation.ProcessOperation, QueuingOperation.QueuingOperation, SamplingOperation.SamplingOperation, SemaphoreOperation.SemaphoreOperation}
 use Rattle.apex_types.specs.declared.request.Request.{Request}
 use Rattle.apex_types.specs.declared.operation.ObjectOperation.TheVariants as on
 use Rattle.apex_types.specs.declared.request.Request.TheVariants as request
@@ -12,7 +12,7 @@ use Rattle.apex_machine.specs.Names.{get_id_conditions, number_of}
 use Rattle.apex_machine.specs.CreationConditions.{create_conditions}
 use Rattle.apex_machine.specs.ObjectConditions.{acquire_conditions, message_conditions, object_conditions, release_conditions, reset_conditions}
 use Rattle.apex_machine.specs.PortConditions.{destination_conditions, source_conditions}
-use Rattle.apex_machine.specs.ProcessConditions.{affinity_conditions, create_handler_conditions, create_process_conditions, delayed_start_conditions, get_my_id_conditions, named_conditions, periodic_wait_conditions, report_conditions, resume_conditions, set_mode_conditions, set_priority_conditions, start_conditions, stop_conditions, suspend_conditions, suspend_self_conditions, timed_wait_conditions}
+use Rattle.apex_machine.specs.ProcessConditions.{affinity_conditions, create_handler_conditions, create_process_conditions, delayed_start_conditions, get_my_id_conditions, lock_conditions, named_conditions, periodic_wait_conditions, report_conditions, resume_conditions, set_mode_conditions, set_priority_conditions, start_conditions, stop_conditions, suspend_conditions, suspend_self_conditions, timed_wait_conditions, unlock_conditions}
 use Rattle.apex_machine.specs.Statuses.{get_status_conditions}
 use Rattle.apex_machine.specs.State.{Blackboard, Buffer, Partition, created, given_object}
 
@@ -26,7 +26,7 @@ conditions_of configuration who partition (request.Process process ProcessOperat
 conditions_of configuration who partition (request.Process process (ProcessOperation.DelayedStart delay)) = delayed_start_conditions (created partition.table process) delay
 conditions_of configuration who partition (request.Process process ProcessOperation.Stop) = stop_conditions who (created partition.table process) process
 conditions_of configuration who partition (request.Caller CallerOperation.StopSelf) = []
-conditions_of configuration who partition (request.Process process ProcessOperation.Suspend) = suspend_conditions who (created partition.table process) process
+conditions_of configuration who partition (request.Process process ProcessOperation.Suspend) = suspend_conditions who partition process
 conditions_of configuration who partition (request.Caller (CallerOperation.SuspendSelf time_out)) = suspend_self_conditions who partition time_out
 conditions_of configuration who partition (request.Process process ProcessOperation.Resume) = resume_conditions who (created partition.table process) process
 conditions_of configuration who partition (request.Process process (ProcessOperation.SetPriority priority)) = set_priority_conditions (created partition.table process) priority
@@ -73,3 +73,5 @@ conditions_of configuration who partition (request.GetId kind name) = get_id_con
 conditions_of configuration who partition (request.GetStatus kind object) = get_status_conditions partition kind object
 conditions_of configuration who partition (request.ReportMessage length message) = report_conditions length
 conditions_of configuration who partition request.CreateErrorHandler = create_handler_conditions partition
+conditions_of configuration who partition (request.Preemption LockOperation.Lock) = lock_conditions who partition
+conditions_of configuration who partition (request.Preemption LockOperation.Unlock) = unlock_conditions who partition

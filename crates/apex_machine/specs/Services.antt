@@ -10,13 +10,14 @@ use Rattle.apex_machine.specs.declared.state.CoreState.{CoreState}
 use Rattle.apex_machine.specs.declared.state.Process.{Process}
 pub use Rattle.apex_machine.specs.Answer.{Answer, HasNoValues, HasValue, HasValues, Value, Nothing, Number, NewNumber, NamesExactly, done, done_with, never, waiting}
 pub use Rattle.apex_machine.specs.Arguments.{is_number, is_over, natural_of}
-use Rattle.apex_machine.specs.Answer.{waking}
+use Rattle.apex_machine.specs.Answer.{never_waking, waking}
 use Rattle.apex_machine.specs.Conditions.{of_caller, owns_mutex}
 use Rattle.apex_machine.specs.DueTimes.{is_for_mutex, is_released, is_suspension}
+use Rattle.apex_machine.specs.Locks.{freed_by_stop, lock_effect}
 use Rattle.apex_machine.specs.Names.{number_found, number_of}
 use Rattle.apex_machine.specs.Objects.{object_effect}
 use Rattle.apex_machine.specs.State.{Partition, Table, created, given_object, is_free, item_at, objects_of, time_of}
-use Rattle.apex_machine.specs.Statuses.{mutex_owned, partition_status, process_status, status_of, telling}
+use Rattle.apex_machine.specs.Statuses.{mutex_state, partition_status, process_status, status_of, telling}
 
 -- the profile
 
@@ -53,15 +54,17 @@ peer who process = record { part = who.part; proc = natural_of process }
 
 -- what each service gives, by the cores and the caller's core   (section 3): a creation a new number, GET_MY_ID the caller's, GET_TIME the
 -- time, GET_PROCESS_ID, GET_BUFFER_ID and its counterparts the number of what has the name, GET_PARTITION_STATUS, GET_PROCESS_STATUS,
--- GET_BUFFER_STATUS and its counterparts a status, GET_PROCESS_MUTEX_STATE the mutex that the process owns; a wait with a time-out or a delay of 0 is over at once, and so is PERIODIC_WAIT if the next release is reached; STOP_SELF and
--- SET_PARTITION_MODE do not return
+-- GET_BUFFER_STATUS and its counterparts a status, GET_PROCESS_MUTEX_STATE the mutex that the process owns; a wait with a time-out or a delay
+-- of 0 is over at once, and so is PERIODIC_WAIT if the next release is reached; a stop of the lock's owner ends the wait of the process that
+-- gets the lock; STOP_SELF and SET_PARTITION_MODE do not return
 abbrev pub answer_of : List CoreState → ℕ → Who → Partition → Request → Answer
 answer_of cores core who partition (request.CreateProcess name priority period time_capacity) = done_with (NewNumber (is_free partition.table))
 answer_of cores core who partition (request.Process process ProcessOperation.Resume) = resuming (peer who process) (created partition.table process)
 answer_of cores core who partition (request.Process process ProcessOperation.GetStatus) =
     answer_by (created partition.table process) (process_status cores (peer who process))
-answer_of cores core who partition (request.Process process ProcessOperation.GetMutexState) = done_with (Number (mutex_owned partition.mutexes (natural_of process)))
-answer_of cores core who partition (request.Caller CallerOperation.StopSelf) = never
+answer_of cores core who partition (request.Process process ProcessOperation.GetMutexState) = done_with (Number (mutex_state partition (natural_of process)))
+answer_of cores core who partition (request.Process process ProcessOperation.Stop) = waking (freed_by_stop (natural_of process) partition.lock)
+answer_of cores core who partition (request.Caller CallerOperation.StopSelf) = never_waking (freed_by_stop who.proc partition.lock)
 answer_of cores core who partition (request.Caller (CallerOperation.SuspendSelf time_out)) = if is_over time_out then done else waiting
 answer_of cores core who partition (request.Caller CallerOperation.GetMyId) = done_with (Number (pos who.proc))
 answer_of cores core who partition (request.Caller (CallerOperation.TimedWait delay)) = if is_over delay then done else waiting
@@ -74,4 +77,5 @@ answer_of cores core who partition (request.Object number operation) =
     answer_by (given_object (objects_of partition (kind_used operation)) number) (λ found. (object_effect who.proc operation found).answer)
 answer_of cores core who partition (request.GetId kind name) = done_with (number_found (number_of partition kind name))
 answer_of cores core who partition (request.GetStatus kind object) = telling (status_of partition kind object)
+answer_of cores core who partition (request.Preemption operation) = (lock_effect who.proc operation partition.lock).answer
 answer_of cores core who partition _ = done

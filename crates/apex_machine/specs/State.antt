@@ -65,6 +65,13 @@ pub record Mutex : Type 0 where
   pub count : ℕ
   pub waiters : List Entry
 
+-- the lock on preemption of a partition: the process that owns it, its level, and the processes that wait, which go by priority   (partition
+-- scheduling, section 2)
+pub record Lock : Type 0 where
+  pub owner : Option ℕ
+  pub level : ℕ
+  pub waiters : List Entry
+
 -- a created port: the greatest size of its messages, its direction, its channel, and whether the last read at it
 -- gave a valid sample   (ports, section 3)
 pub record Port : Type 0 where
@@ -74,12 +81,13 @@ pub record Port : Type 0 where
   pub channel : ℕ
   pub valid : Bool
 
--- a partition: its operating mode, its start condition, whether it has created an error handler, its processes, and its objects and ports
--- of each kind under their numbers   (section 2)
+-- a partition: its operating mode, its start condition, whether it has created an error handler, its lock, its processes, and its objects
+-- and ports of each kind under their numbers   (section 2)
 pub record Partition : Type 0 where
   pub mode : Mode
   pub start : StartCondition
   pub has_handler : Bool
+  pub lock : Lock
   pub table : Table
   pub buffers : List (ℕ × Buffer)
   pub blackboards : List (ℕ × Blackboard)
@@ -301,13 +309,18 @@ abbrev pub first_processes : Mode → ℕ → ℕ → Table
 first_processes mode.Idle core place = []
 first_processes _ core place = (0, initialising_process core place) ∷ []
 
--- a partition as it starts in a mode at this place: with its first processes, and without an error handler, objects and ports   (partition
--- modes, section 2)
+-- the lock that no process owns, and for which none waits
+abbrev pub free_lock : Lock
+free_lock = record { owner = None; level = 0; waiters = [] }
+
+-- a partition as it starts in a mode at this place: with its first processes and a free lock, and without an error handler, objects and
+-- ports   (partition modes, section 2)
 abbrev pub started_partition : StartCondition → Mode → Configuration → ℕ → ℕ → Partition
 started_partition start mode configuration number place = record {
   mode = mode;
   start = start;
   has_handler = false;
+  lock = free_lock;
   table = first_processes mode (first_core configuration number) place;
   buffers = [];
   blackboards = [];

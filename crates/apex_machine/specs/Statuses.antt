@@ -13,6 +13,7 @@ use Rattle.apex_machine.specs.Arguments.{mode_number, start_number}
 use Rattle.apex_machine.specs.Choice.{is_ready}
 use Rattle.apex_machine.specs.Answer.{Answer, Nothing, Number, Value}
 use Rattle.apex_machine.specs.Conditions.{conditions_for}
+use Rattle.apex_machine.specs.Locks.{owns_lock}
 use Rattle.apex_machine.specs.Objects.{is_owner}
 use Rattle.apex_machine.specs.State.{Blackboard, Buffer, Event, Mutex, Partition, Port, Semaphore, given_object, is_occupant, objects_of, occupant_of}
 
@@ -70,12 +71,16 @@ process_status cores who process = reporting (pos (state_number cores who proces
 
 -- GET_PARTITION_STATUS: the mode, the lock level, and the start condition
 abbrev pub partition_status : Partition → Answer
-partition_status partition = reporting (pos (mode_number partition.mode)) (Some (pos 0)) (Some (pos (start_number partition.start)))
+partition_status partition = reporting (pos (mode_number partition.mode)) (Some (pos partition.lock.level)) (Some (pos (start_number partition.start)))
 
 -- the number of the mutex that a process owns, or -2 if it owns none
 abbrev pub mutex_owned : List (ℕ × Mutex) → ℕ → ℤ
 mutex_owned [] number = negsuc 1
 mutex_owned (entry ∷ entries) number = if is_owner entry.1.owner number then pos entry.0 else mutex_owned entries number
+
+-- GET_PROCESS_MUTEX_STATE: the number of the mutex that a process owns, -3 if it owns the lock, or -2 if it owns neither
+abbrev pub mutex_state : Partition → ℕ → ℤ
+mutex_state partition number = if owns_lock partition number then negsuc 2 else mutex_owned partition.mutexes number
 
 -- objects
 

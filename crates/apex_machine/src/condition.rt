@@ -55,6 +55,13 @@ pub enum Condition {
     ProcessNotOwner,
     LengthOutOfRange,
     HandlerCreated,
+    NotNormal,
+    NotForInitialising,
+    LevelIsGreatest,
+    OwnsMutex,
+    NotLockOwner,
+    OwnsLock,
+    ProcessOwnsLock,
 }
 
 // What is known about a condition.
@@ -77,10 +84,10 @@ macro_rules! row {
 }
 
 // The conditions, in the order of the enum.
-const CONDITIONS: [ConditionRow; 46] = [
+const CONDITIONS: [ConditionRow; 53] = [
     row!(NotCreated => InvalidParam, "nothing of this kind has this number"),
     row!(TimeOutOutOfRange => InvalidParam, "the time-out is below -1"),
-    row!(MayNotWait => InvalidMode, "the caller is the initialising process or the owner of a mutex, which may not wait"),
+    row!(MayNotWait => InvalidMode, "the caller is the initialising process or the owner of a mutex or the lock, which may not wait"),
     row!(InNormal => InvalidMode, "the mode is NORMAL"),
     row!(NameTaken => NoAction, "the name is taken"),
     row!(AllCreated => InvalidConfig, "all that are configured have been created"),
@@ -124,6 +131,13 @@ const CONDITIONS: [ConditionRow; 46] = [
     row!(ProcessNotOwner => InvalidMode, "the process is not the owner"),
     row!(LengthOutOfRange => InvalidParam, "the length is not from 0 to 128"),
     row!(HandlerCreated => NoAction, "the error handler is already created"),
+    row!(NotNormal => NoAction, "the mode is not NORMAL"),
+    row!(NotForInitialising => NoAction, "the caller is the initialising process, for which nothing is done"),
+    row!(LevelIsGreatest => InvalidConfig, "the caller owns the lock, and its level is 16"),
+    row!(OwnsMutex => InvalidMode, "the caller owns a mutex"),
+    row!(NotLockOwner => NoAction, "the caller does not own the lock"),
+    row!(OwnsLock => InvalidMode, "the caller owns the lock"),
+    row!(ProcessOwnsLock => InvalidMode, "the process owns the lock"),
 ];
 
 impl Condition {

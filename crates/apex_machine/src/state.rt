@@ -97,6 +97,8 @@ pub enum Wait {
     Suspended(Option<u64>),
     /// It waits in a waiting set, until it is woken or until this time.
     At(WaitingSet, Option<u64>),
+    /// It waits for the lock of its partition, until it is woken.
+    ForLock,
 }
 
 /// An entry of a waiting set: the process that waits, with its priority at its call and the place of the call.

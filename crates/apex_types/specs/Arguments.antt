@@ -5,7 +5,7 @@ use Rattle.apex_types.specs.declared.service.Service.{Service}
 use Rattle.apex_types.specs.declared.service.Service.TheVariants as service
 use Rattle.apex_types.specs.declared.object_kind.NamedKind.TheVariants as named
 use Rattle.apex_types.specs.declared.object_kind.ObjectKind.TheVariants as kind
-use Rattle.apex_types.specs.declared.operation.{BlackboardOperation.BlackboardOperation, BufferOperation.BufferOperation, CallerOperation.CallerOperation, EventOperation.EventOperation, MutexOperation.MutexOperation, NewObject.NewObject, ProcessOperation.ProcessOperation, QueuingOperation.QueuingOperation, SamplingOperation.SamplingOperation, SemaphoreOperation.SemaphoreOperation}
+use Rattle.apex_types.specs.declared.operation.{BlackboardOperation.BlackboardOperation, BufferOperation.BufferOperation, CallerOperation.CallerOperation, EventOperation.EventOperation, LockOperation.LockOperation, MutexOperation.MutexOperation, NewObject.NewObject, ProcessOperation.ProcessOperation, QueuingOperation.QueuingOperation, SamplingOperation.SamplingOperation, SemaphoreOperation.SemaphoreOperation}
 use Rattle.apex_types.specs.declared.request.Request.{Request}
 use Rattle.apex_types.specs.declared.operation.ObjectOperation.TheVariants as on
 use Rattle.apex_types.specs.declared.request.Request.TheVariants as request
@@ -85,3 +85,5 @@ request_of service.ResetMutex n1 n2 n3 name message = request.Object n1 (on.Mute
 request_of service.GetProcessMutexState n1 n2 n3 name message = request.Process n1 ProcessOperation.GetMutexState
 request_of service.ReportApplicationMessage n1 n2 n3 name message = request.ReportMessage n2 message
 request_of service.CreateErrorHandler n1 n2 n3 name message = request.CreateErrorHandler
+request_of service.LockPreemption n1 n2 n3 name message = request.Preemption LockOperation.Lock
+request_of service.UnlockPreemption n1 n2 n3 name message = request.Preemption LockOperation.Unlock

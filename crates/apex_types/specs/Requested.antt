@@ -5,7 +5,7 @@ use Rattle.apex_types.specs.declared.object_kind.NamedKind.{NamedKind}
 use Rattle.apex_types.specs.declared.object_kind.NamedKind.TheVariants as named
 use Rattle.apex_types.specs.declared.object_kind.ObjectKind.{ObjectKind}
 use Rattle.apex_types.specs.declared.object_kind.ObjectKind.TheVariants as kind
-use Rattle.apex_types.specs.declared.operation.{CallerOperation.CallerOperation, NewObject.NewObject, ProcessOperation.ProcessOperation, SamplingOperation.SamplingOperation}
+use Rattle.apex_types.specs.declared.operation.{CallerOperation.CallerOperation, LockOperation.LockOperation, NewObject.NewObject, ProcessOperation.ProcessOperation, SamplingOperation.SamplingOperation}
 use Rattle.apex_types.specs.declared.request.Request.{Request}
 use Rattle.apex_types.specs.declared.request.Request.TheVariants as request
 use Rattle.apex_types.specs.declared.service.Service.{Service}
@@ -107,6 +107,11 @@ abbrev pub sampling_service : SamplingOperation → Service
 sampling_service (SamplingOperation.Write length message) = service.WriteSamplingMessage
 sampling_service SamplingOperation.Read = service.ReadSamplingMessage
 
+-- the service that requests this operation of the lock
+abbrev pub lock_service : LockOperation → Service
+lock_service LockOperation.Lock = service.LockPreemption
+lock_service LockOperation.Unlock = service.UnlockPreemption
+
 -- the service of a request
 abbrev pub service_of : Request → Service
 service_of (request.CreateProcess name priority period time_capacity) = service.CreateProcess
@@ -121,3 +126,4 @@ service_of (request.GetId kind name) = id_service kind
 service_of (request.GetStatus kind object) = (services_of kind).status
 service_of (request.ReportMessage length message) = service.ReportApplicationMessage
 service_of request.CreateErrorHandler = service.CreateErrorHandler
+service_of (request.Preemption operation) = lock_service operation

@@ -33,9 +33,9 @@ pub use laws::direction_and_discipline_are_one_number;
 pub use number::{ChanId, CoreId, PartId, Place, ProcId};
 pub use object_kind::{KindServices, NamedKind, ObjectKind};
 pub use operation::{
-    BlackboardOperation, BufferOperation, CallerOperation, EventOperation, MutexOperation,
-    NewObject, ObjectOperation, ProcessOperation, QueuingOperation, SamplingOperation,
-    SemaphoreOperation,
+    BlackboardOperation, BufferOperation, CallerOperation, EventOperation, LockOperation,
+    MutexOperation, NewObject, ObjectOperation, ProcessOperation, QueuingOperation,
+    SamplingOperation, SemaphoreOperation,
 };
 pub use record::{Body, Call, Claim, Crossing, Ordered, Out, Pair, Record, Return, Who, Woken};
 pub use request::{ArgumentValues, Request};

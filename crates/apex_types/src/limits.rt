@@ -30,6 +30,9 @@ pub const LONGEST_REPORT: usize = 128;
 /// A buffer or a queuing channel holds at most this many messages.
 pub const MOST_MESSAGES: usize = 1_024;
 
+/// The greatest level of the lock of a partition (MAX_LOCK_LEVEL).
+pub const GREATEST_LOCK_LEVEL: u8 = 16;
+
 /// The greatest maximum of a semaphore.
 pub const GREATEST_MAXIMUM: u32 = 32_767;
 

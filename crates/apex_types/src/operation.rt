@@ -121,6 +121,15 @@ pub enum MutexOperation {
     Reset { process: i64 },
 }
 
+/// What a caller requests of the lock of its partition.
+#[derive(Debug, Drop)]
+pub enum LockOperation {
+    /// LOCK_PREEMPTION
+    Lock,
+    /// UNLOCK_PREEMPTION
+    Unlock,
+}
+
 /// What a caller requests of an object, by its kind.
 #[derive(Debug, Drop)]
 pub enum ObjectOperation {
@@ -314,6 +323,18 @@ impl MutexOperation {
             }
             MutexOperation::Release => Shape::at_once(Service::ReleaseMutex),
             MutexOperation::Reset { .. } => Shape::at_once(Service::ResetMutex),
+        }
+    }
+}
+
+impl LockOperation {
+    /// The service that this is.
+    pub fn service(&self) -> Service
+        ensures { result ≡ requested.lock_service self.now }
+    {
+        match self {
+            LockOperation::Lock => Service::LockPreemption,
+            LockOperation::Unlock => Service::UnlockPreemption,
         }
     }
 }

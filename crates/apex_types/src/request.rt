@@ -9,9 +9,9 @@ ghost use Rattle.apex_types.specs.declared.request.Request.TheVariants as reques
 
 use crate::object_kind::{NamedKind, ObjectKind};
 use crate::operation::{
-    BlackboardOperation, BufferOperation, CallerOperation, EventOperation, MutexOperation,
-    NewObject, ObjectOperation, ProcessOperation, QueuingOperation, SamplingOperation,
-    SemaphoreOperation,
+    BlackboardOperation, BufferOperation, CallerOperation, EventOperation, LockOperation,
+    MutexOperation, NewObject, ObjectOperation, ProcessOperation, QueuingOperation,
+    SamplingOperation, SemaphoreOperation,
 };
 use crate::service::Service;
 use crate::text::{Message, Name};
@@ -48,6 +48,8 @@ pub enum Request {
         message: Message,
     },
     CreateErrorHandler,
+    /// LOCK_PREEMPTION and UNLOCK_PREEMPTION.
+    Preemption(LockOperation),
 }
 
 /// The values of a service's arguments, as a record gives them.
@@ -210,6 +212,8 @@ impl Request {
                 message,
             },
             Service::CreateErrorHandler => Request::CreateErrorHandler,
+            Service::LockPreemption => Request::Preemption(LockOperation::Lock),
+            Service::UnlockPreemption => Request::Preemption(LockOperation::Unlock),
         }
     }
 
@@ -230,6 +234,7 @@ impl Request {
             Request::GetStatus(kind, _) => kind.services().status,
             Request::ReportMessage { .. } => Service::ReportApplicationMessage,
             Request::CreateErrorHandler => Service::CreateErrorHandler,
+            Request::Preemption(operation) => operation.service(),
         }
     }
 }

@@ -68,6 +68,8 @@ pub enum Service {
     GetProcessMutexState,
     ReportApplicationMessage,
     CreateErrorHandler,
+    LockPreemption,
+    UnlockPreemption,
 }
 
 /// Whether a call of a service fills a field.
@@ -174,7 +176,7 @@ macro_rules! row {
 }
 
 /// The services, in the order of the enum. Views and rules identify a service by its place here, counted from 1.
-pub const SERVICES: [ServiceRow<&'static [u8]>; 60] = [
+pub const SERVICES: [ServiceRow<&'static [u8]>; 62] = [
     row!(CreateProcess => b"CREATE_PROCESS", TWO_OR_THREE, NAME, One),
     row!(InitializeProcessCoreAffinity => b"INITIALIZE_PROCESS_CORE_AFFINITY", TWO, NOTHING, One),
     row!(Start => b"START", ONE, NOTHING, One),
@@ -235,6 +237,8 @@ pub const SERVICES: [ServiceRow<&'static [u8]>; 60] = [
     row!(GetProcessMutexState => b"GET_PROCESS_MUTEX_STATE", ONE, NOTHING, Three),
     row!(ReportApplicationMessage => b"REPORT_APPLICATION_MESSAGE", SECOND, MESSAGE, Three),
     row!(CreateErrorHandler => b"CREATE_ERROR_HANDLER", ZERO, NOTHING, Three),
+    row!(LockPreemption => b"LOCK_PREEMPTION", ZERO, NOTHING, Three),
+    row!(UnlockPreemption => b"UNLOCK_PREEMPTION", ZERO, NOTHING, Three),
 ];
 
 impl Service {

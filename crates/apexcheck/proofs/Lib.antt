@@ -1,1 +1,2 @@
+mod Requested
 mod Failed

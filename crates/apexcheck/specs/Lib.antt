@@ -1,3 +1,8 @@
+pub mod CommandLine
+pub mod Requests
+pub mod Settings
+pub mod Words
+pub mod Wrong
 pub mod Endings
 pub mod Files
 pub mod Folders

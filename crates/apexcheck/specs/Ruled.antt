@@ -8,9 +8,9 @@ use Rattle.report.specs.declared.fault.CheckFault.TheVariants.{Memory}
 use Rattle.report.specs.declared.settings.Settings.{Settings}
 use Rattle.report.specs.declared.last.LastItem.{LastItem}
 use Rattle.report.specs.Answers.{AnswersWith, Given}
-use Rattle.rule_options.specs.declared.option.RuleOption.{RuleOption}
-use Rattle.rules_file.specs.declared.fault.RulesFault.{RulesFault}
-use Rattle.rules_file.specs.Reading.{SaidRule}
+use Rattle.asked_rules.specs.declared.option.RuleOption.{RuleOption}
+use Rattle.asked_rules.specs.declared.fault.RulesFault.{RulesFault}
+use Rattle.asked_rules.specs.Reading.{SaidRule}
 use Rattle.user_rules.specs.declared.relation.Relation.{Relation}
 use Rattle.verdict_merge.specs.declared.verdict.Verdict.{Verdict}
 use Rattle.apexcheck.specs.declared.ending.CheckEnd.{CheckEnd}

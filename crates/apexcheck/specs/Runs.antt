@@ -15,11 +15,11 @@ use Rattle.verdict_merge.specs.declared.verdict.Verdict.{Verdict}
 use Rattle.apexcheck.specs.declared.awaited.Observed.{Observed}
 use Rattle.apexcheck.specs.declared.ending.CheckEnd.{CheckEnd}
 use Rattle.apexcheck.specs.declared.stored.TheConstants.{CONFIG, ORDER, RECORDING, SETTINGS}
-use Rattle.check_request.specs.declared.usage.Asked.{Asked}
+use Rattle.apexcheck.specs.declared.usage.Asked.{Asked}
 use Rattle.apexcheck.specs.Endings.{own_status_of, own_text_of, refusing}
 use Rattle.apexcheck.specs.Files.{IsOfFiles}
 use Rattle.apexcheck.specs.Folders.{FolderView}
-use Rattle.check_request.specs.Requests.{IsRequested}
+use Rattle.apexcheck.specs.Requests.{IsRequested}
 
 -- an outcome of the run that is stored in the program, with one worker and the usual depth
 abbrev pub IsOfStored : Result Verdict CheckFault → Type 0

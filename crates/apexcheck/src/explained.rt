@@ -2,19 +2,18 @@
 
 use crate::ending::CheckEnd;
 use crate::sarif::write_log;
+use crate::usage::{Asked, FilesAsked};
 use answer_words::{
     Explainer, RunFiles, Told, words_of_stored_run, words_of_unwritten_log,
     words_of_unwritten_output,
 };
-use check_request::{Asked, FilesAsked};
 use program_ends::{Ending, UNWRITTEN, UsageFault};
-use program_words::{Documents, Program, tell_usage};
 use report::Verdict;
 use std::alloc::Global;
 use std::fs::Files;
 use std::io::{Read, Write};
 use std::rt::Env;
-use wording::{Look, Words};
+use wording::{Documents, Look, Program, Words, tell_usage};
 
 /// Explains the line to a person: where the record, the row or the key is, what was found and what was expected; which keys of the
 /// configuration are ignored; and which recordings have no record. With `--quiet` it prints only what was noted. With `--sarif` it writes

@@ -11,14 +11,23 @@
 //! with the status that it returns. `carry_out` first reserves the stack that a run may need. At the end `run` writes the line, then the
 //! explanation (`explain`), and then the log of `--sarif`. No rule of the machine is here.
 //!
-//! What the words request is said by `check_request`.
-//!
 //! `Opened` holds what was opened in a `Folder`. Its `check` judges the rules file (`read_rules`), then checks under the relations of the
 //! options, followed by clones of the file's relations (`check_ruled`). `check_files` opens the files and passes on the answer of `check`.
 //!
 //! `Explainer` gathers what explains the end. It is the witness of the check, and notes which file cannot be opened, why a rules file is
 //! refused, which rule is broken, and which keys of the configuration are unknown. What a person sees while the check goes on is a
 //! `Course`, which is the gate of the check: its progress, and the files that hold up a known answer (`Awaited`).
+//!
+//! # The command line
+//!
+//! What the command line of `apexcheck` requests.
+//!
+//! Promises: no word requests the stored run, `--version` alone the version, and other words a run over files, for which each file, option
+//! and setting is what the parser of command lines finds in the words. Words are refused only if the parser does not take them, if a file
+//! that a run needs is not named, or if an option has a value that it cannot have.
+//!
+//! The options are a definition (`CommandLine.antt`), and so is what they request (`Words.antt`). Workers and depth are passed on as they
+//! are given; the check refuses what is out of range.
 #![tactic(auto)]
 
 ghost use Rattle.std.specs.Prelude.{◌≡◌, ◌<◌, map, string_bytes};
@@ -35,11 +44,13 @@ mod files;
 mod folder;
 mod ruled;
 mod sarif;
+mod settings;
 mod stored;
+mod usage;
+mod words;
 
 use answer_words::{Explainer, Terminal};
 use awaited::Observed;
-use check_request::{Asked, request_of};
 use csv_rows::{TextSource, Watched};
 use ending::{CheckEnd, conclude};
 use explained::explain;
@@ -55,6 +66,8 @@ use std::rt::{Clock, Env};
 use std::sync::Wait;
 use std::thread::Threads;
 use std::{env, io};
+use usage::Asked;
+use words::request_of;
 
 /// How many bytes of the main thread's stack are touched in one step.
 const STEP: usize = 16_384;

@@ -1,16 +1,14 @@
 // The check under the rules of options and of a rules file.
 
 ghost use Rattle.std.specs.Prelude.{[], ◌≡◌, map};
-ghost use Rattle.rules_file.specs.Reading.{said};
+ghost use Rattle.asked_rules.specs.Reading.{said};
 ghost use Rattle.apexcheck.specs.Ruled.{AnswersRuled};
 
-use asked_rules::all_relations;
+use asked_rules::{NamedRule, RuleOption, all_relations};
 use csv_rows::TextSource;
 use report::{
     CheckFault, Gate, Inputs, Last, Options, Settings, Verdict, Witness, check_relations,
 };
-use rule_options::RuleOption;
-use rules_file::NamedRule;
 use std::alloc::Global;
 use std::sync::Wait;
 use std::thread::Threads;

@@ -3,7 +3,7 @@
 ghost use Rattle.std.specs.Prelude.{[], ◌∷◌, Some, false};
 ghost use Rattle.report.specs.Answers.{Answers, given_by};
 
-use check_request::USUAL_DEPTH;
+use crate::settings::USUAL_DEPTH;
 use report::{CheckFault, Open, Settings, Verdict, check};
 use std::alloc::Global;
 use std::sync::Wait;

@@ -5,12 +5,12 @@ use Rattle.module_config.specs.Reading.{configuration_of}
 use Rattle.program_ends.specs.declared.ending.Ending.{Ending}
 use Rattle.program_ends.specs.Endings.{out_of_memory, refused_rules}
 use Rattle.record_read.specs.Row.{records_of}
-use Rattle.rule_options.specs.declared.option.RuleOption.{RuleOption}
-use Rattle.rule_options.specs.Options.{in_order}
-use Rattle.rules_file.specs.declared.fault.RulesFault.{RulesFault}
-use Rattle.rules_file.specs.declared.fault.RulesFault.TheVariants.{File, Memory, Rule}
-use Rattle.rules_file.specs.declared.refusal.RulesRefusal.{RulesRefusal}
-use Rattle.rules_file.specs.Reading.{SaidRule, without_key}
+use Rattle.asked_rules.specs.declared.option.RuleOption.{RuleOption}
+use Rattle.asked_rules.specs.Options.{in_order}
+use Rattle.asked_rules.specs.declared.fault.RulesFault.{RulesFault}
+use Rattle.asked_rules.specs.declared.fault.RulesFault.TheVariants.{File, Memory, Rule}
+use Rattle.asked_rules.specs.declared.refusal.RulesRefusal.{RulesRefusal}
+use Rattle.asked_rules.specs.Reading.{SaidRule, without_key}
 use Rattle.apexorder.specs.declared.ending.OrderEnd.{OrderEnd}
 use Rattle.apexorder.specs.declared.files.Opened.{Opened}
 use Rattle.apexorder.specs.declared.usage.OrderAsked.{OrderAsked}

@@ -3,14 +3,14 @@ use Rattle.std.specs.Prelude.{◌≡◌, ◌⊎◌, ℕ, List, Option, Some, Res
 use Rattle.apex_machine.specs.Configuration.{Configuration}
 use Rattle.module_config.specs.Reading.{configuration_of}
 use Rattle.record_read.specs.Row.{records_of}
-use Rattle.order_words.specs.declared.names.OrderNames.{OrderNames}
+use Rattle.apexorder.specs.declared.names.OrderNames.{OrderNames}
 use Rattle.program_ends.specs.declared.ending.Ending.{Ending}
 use Rattle.program_ends.specs.declared.ending.Ending.TheVariants as ending
 use Rattle.program_ends.specs.declared.refused.UsageFault.{UsageFault}
 use Rattle.program_ends.specs.Endings.{out_of_memory, refused_rules, refused_words}
-use Rattle.rule_options.specs.Options.{in_order}
-use Rattle.rules_file.specs.declared.fault.RulesFault.{RulesFault}
-use Rattle.rules_file.specs.Reading.{SaidRule}
+use Rattle.asked_rules.specs.Options.{in_order}
+use Rattle.asked_rules.specs.declared.fault.RulesFault.{RulesFault}
+use Rattle.asked_rules.specs.Reading.{SaidRule}
 use Rattle.apexorder.specs.declared.ending.OrderEnd.{OrderEnd}
 use Rattle.apexorder.specs.declared.ending.OrderEnd.TheVariants as own
 use Rattle.apexorder.specs.declared.files.OpenFault.{OpenFault}

@@ -4,8 +4,8 @@ use Rattle.apex_machine.specs.Configuration.{Configuration}
 use Rattle.asked_rules.specs.Asked.{SayBoth}
 use Rattle.program_ends.specs.declared.ending.Ending.{Ending}
 use Rattle.program_ends.specs.Endings.{out_of_memory}
-use Rattle.rule_options.specs.declared.option.RuleOption.{RuleOption}
-use Rattle.rules_file.specs.Reading.{SaidRule}
+use Rattle.asked_rules.specs.declared.option.RuleOption.{RuleOption}
+use Rattle.asked_rules.specs.Reading.{SaidRule}
 use Rattle.user_rules.specs.declared.relation.Relation.{Relation}
 use Rattle.apexorder.specs.declared.ending.OrderEnd.{OrderEnd}
 use Rattle.apexorder.specs.Endings.{IsCertifiedBy, refusing}

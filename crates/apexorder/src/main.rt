@@ -1,8 +1,19 @@
 //! The program: searches for an order of the recordings of several cores, and prints it as a certificate.
 //!
 //! Promises: what goes to standard output during a search are rows of a certificate, of which `order_run` says what they are; the exit
-//! status is that of the end, and the end is what the command line and its files came to (`run`). Standard error shows a person that end, in
-//! the words of `order_words`.
+//! status is that of the end, and the end is what the command line and its files came to (`run`). Standard error shows a person that end
+//! in words.
+//!
+//! # The words
+//!
+//! What standard error says of a search for an order: how it ended, what stops each core, why inputs are refused, and what was noted on the
+//! way (`noted.rt`): files that are not opened, a rules file that is refused, the rule that is broken, unknown keys and doubtful settings of
+//! the configuration.
+//!
+//! Promises only that its functions end and take no memory except for their texts: the words decide nothing. They receive the proposal or
+//! the fault itself. If memory is refused there are fewer words.
+//!
+//! The functions have no contracts, and are proved only to end and to meet no fault.
 #![tactic(auto)]
 
 ghost use Rattle.std.specs.Prelude.{◌≡◌};
@@ -12,12 +23,19 @@ ghost use Rattle.apexorder.specs.declared.ending.OrderEnd.{OrderEnd as End};
 ghost use Rattle.apexorder.specs.Endings.{own_status_of};
 ghost use Rattle.apexorder.specs.Files.{EndsBy};
 
+mod configuration;
 mod ending;
 mod files;
+mod names;
+mod noted;
 mod of_itself;
+mod proposed;
 mod proposing;
+mod refused;
 mod ruled;
+mod search_files;
 mod seen;
+mod stops;
 mod told;
 mod usage;
 

@@ -6,9 +6,9 @@ ghost use Rattle.apexorder.specs.declared.ending.OrderEnd.TheVariants.{Help, Unw
 
 use crate::ending::OrderEnd;
 use program_ends::Ending;
-use program_words::{Documents, Program, help};
 use std::alloc::Global;
 use std::fs::Files;
+use wording::{Documents, Program, help};
 
 /// Prints the version.
 pub fn print_version(rt: &impl Print) -> Ending<OrderEnd>

@@ -4,19 +4,17 @@ ghost use Rattle.std.specs.Prelude.{◌≡◌, ℕ, List, Ok, Some, length, map,
 ghost use Rattle.apex_machine.specs.Configuration.{Configuration};
 ghost use Rattle.module_config.specs.Reading.{configuration_of};
 ghost use Rattle.record_read.specs.Row.{records_of};
-ghost use Rattle.rules_file.specs.Reading.{said};
+ghost use Rattle.asked_rules.specs.Reading.{said};
 ghost use Rattle.apexorder.specs.Endings.{EndsSearch, HasReceived, IsCertifiedBy};
 ghost use Rattle.apexorder.specs.Ruled.{IsCertified};
 
 use crate::ending::OrderEnd;
 use crate::proposing::propose_into;
 use apex_types::View;
-use asked_rules::all_relations;
+use asked_rules::{NamedRule, RuleOption, all_relations};
 use csv_rows::TextSource;
 use order_tip::Watcher;
 use program_ends::{Ending, out_of_memory};
-use rule_options::RuleOption;
-use rules_file::NamedRule;
 use sink::WriterSink;
 use std::alloc::Global;
 use std::io::Write;

@@ -1,9 +1,9 @@
 // What a search shows while it goes on, and what is noted of it.
 
+use crate::noted::Noted;
 use apex_types::{Cause, Ordered};
 use module_config::Config;
 use order_tip::Watcher;
-use order_words::Noted;
 use piece_check::Piece;
 use program_ends::ProgressLine;
 use std::alloc::Global;

@@ -2,17 +2,18 @@
 // words.
 
 use crate::ending::OrderEnd;
+use crate::noted::Noted;
+use crate::proposed::{words_of_proposal, words_of_unwritten_order};
+use crate::search_files::SearchFiles;
 use crate::usage::{Asked, OrderAsked};
 use order_run::Proposal;
-use order_words::{Noted, SearchFiles, words_of_proposal, words_of_unwritten_order};
 use program_ends::{Ending, UsageFault, write_text};
-use program_words::{Documents, Program, tell_usage};
 use sink::Sink;
 use std::alloc::Global;
 use std::fs::Files;
 use std::io::Read;
 use std::rt::Env;
-use wording::{Look, Words};
+use wording::{Documents, Look, Program, Words, tell_usage};
 
 /// Reports to a person how the run ended. The line of a refusal goes to this output. If no order was found, what stops each core follows.
 /// The last line is the end in words.

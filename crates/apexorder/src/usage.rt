@@ -1,11 +1,11 @@
 // The words of the command line.
 
+use crate::names::OrderNames;
+use asked_rules::RuleOptions;
 use clap::error::ErrorKind;
 use clap::{Arg, ArgAction, ArgMatches, Command};
 use csv_rows::read_decimal;
-use order_words::OrderNames;
 use program_ends::UsageFault;
-use rule_options::RuleOptions;
 use std::alloc::{AllocError, Global};
 use std::rt::Env;
 use std::{env, io};

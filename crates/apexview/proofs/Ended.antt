@@ -6,12 +6,12 @@ use Rattle.program_ends.specs.declared.refused.UsageFault.{UsageFault}
 use Rattle.program_ends.specs.Endings.{out_of_memory, refused_words}
 use Rattle.apexview.specs.declared.usage.Asked.{Asked}
 use Rattle.apexview.specs.declared.usage.Asked.TheVariants as asks
-use Rattle.shown_files.specs.declared.files.FilesAsked.{FilesAsked}
-use Rattle.shown_files.specs.Files.{IsOfFiles}
+use Rattle.shown_run.specs.declared.files.FilesAsked.{FilesAsked}
+use Rattle.shown_run.specs.Files.{IsOfFiles}
 use Rattle.view_drawing.specs.declared.viewing.ViewAsked.{ViewAsked}
-use Rattle.shown_files.specs.declared.ending.ViewEnd.{ViewEnd}
-use Rattle.shown_files.specs.declared.ending.ViewEnd.TheVariants.{Checked, Help, Unwritten, Version}
-use Rattle.shown_files.specs.Endings.{refusing}
+use Rattle.shown_run.specs.declared.ending.ViewEnd.{ViewEnd}
+use Rattle.shown_run.specs.declared.ending.ViewEnd.TheVariants.{Checked, Help, Unwritten, Version}
+use Rattle.shown_run.specs.Endings.{refusing}
 use Rattle.apexview.specs.Requests.{EndsBy}
 
 module _ {S : Type 0} (known : S → Option (List ℕ)) (can_fail : Bool) where

@@ -4,10 +4,10 @@ use Rattle.program_ends.specs.declared.ending.Ending.{Ending}
 use Rattle.program_ends.specs.declared.ending.Ending.TheVariants.{Own}
 use Rattle.program_ends.specs.declared.refused.UsageFault.{UsageFault}
 use Rattle.program_ends.specs.Endings.{out_of_memory, refused_words}
-use Rattle.shown_files.specs.Files.{IsOfFiles}
-use Rattle.shown_files.specs.Endings.{refusing}
-use Rattle.shown_files.specs.declared.ending.ViewEnd.{ViewEnd}
-use Rattle.shown_files.specs.declared.ending.ViewEnd.TheVariants.{Help, Unwritten, Version}
+use Rattle.shown_run.specs.Files.{IsOfFiles}
+use Rattle.shown_run.specs.Endings.{refusing}
+use Rattle.shown_run.specs.declared.ending.ViewEnd.{ViewEnd}
+use Rattle.shown_run.specs.declared.ending.ViewEnd.TheVariants.{Help, Unwritten, Version}
 use Rattle.apexview.specs.declared.usage.Asked.{Asked}
 use Rattle.apexview.specs.declared.usage.Asked.TheVariants as asks
 

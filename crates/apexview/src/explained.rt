@@ -2,18 +2,17 @@
 
 ghost use Rattle.std.specs.Prelude.{◌≡◌, ◌⊎◌};
 ghost use Rattle.program_ends.specs.Endings.{out_of_memory};
-ghost use Rattle.shown_files.specs.Endings.{refusing};
+ghost use Rattle.shown_run.specs.Endings.{refusing};
 
 use crate::usage::Asked;
 use answer_words::{Explainer, InputNames, RunFiles};
 use program_ends::{Ending, Line, UsageFault, out_of_memory};
-use program_words::{Documents, Program, Refusal};
 use report::Verdict;
-use shown_files::ViewEnd;
+use shown_run::ViewEnd;
 use std::alloc::Global;
 use std::fs::{File, Files};
 use std::rt::Env;
-use wording::{Look, Words};
+use wording::{Documents, Look, Program, Refusal, Words};
 
 /// Prints the line of an end, and explains it to a person. The end is the given one, or `Memory` if memory was refused to what explains
 /// it.

@@ -3,15 +3,15 @@
 ghost use Rattle.std.specs.Prelude.{◌≡◌, ◌⊎◌};
 ghost use Rattle.program_ends.specs.declared.ending.Ending.TheVariants.{Own};
 ghost use Rattle.program_ends.specs.Endings.{out_of_memory};
-ghost use Rattle.shown_files.specs.declared.ending.ViewEnd.TheVariants.{Help, Unwritten, Version};
-ghost use Rattle.shown_files.specs.Endings.{refusing};
+ghost use Rattle.shown_run.specs.declared.ending.ViewEnd.TheVariants.{Help, Unwritten, Version};
+ghost use Rattle.shown_run.specs.Endings.{refusing};
 
 use program_ends::{Ending, out_of_memory};
-use program_words::{Documents, Program, help};
-use shown_files::ViewEnd;
+use shown_run::ViewEnd;
 use sink::{Sink, put_all};
 use std::alloc::Global;
 use std::fs::Files;
+use wording::{Documents, Program, help};
 
 /// Prints the version.
 pub fn print_version<W: Sink>(output: &mut W) -> Ending<ViewEnd>

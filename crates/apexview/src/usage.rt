@@ -1,12 +1,12 @@
 // The words of the command line.
 
 use answer_words::InputNames;
+use asked_rules::RuleOptions;
 use clap::error::ErrorKind;
 use clap::{Arg, ArgAction, ArgMatches, Command};
 use csv_rows::read_decimal;
 use program_ends::UsageFault;
-use rule_options::RuleOptions;
-use shown_files::FilesAsked;
+use shown_run::FilesAsked;
 use std::alloc::{AllocError, Global};
 use std::rt::Env;
 use std::{env, io};

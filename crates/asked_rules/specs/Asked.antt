@@ -1,11 +1,11 @@
 -- The rules that options and a rules file ask for.
 use Rattle.std.specs.Prelude.{◌≡◌, ◌++◌, ℕ, List, [], Option, Some, None, Result, Ok, map}
 use Rattle.apex_types.specs.declared.view.View.{View}
-use Rattle.rule_options.specs.declared.option.RuleOption.{RuleOption}
-use Rattle.rule_options.specs.Options.{SayInTurn}
-use Rattle.rules_file.specs.declared.fault.RulesFault.{RulesFault}
-use Rattle.rules_file.specs.declared.refusal.RulesRefusal.{RulesRefusal}
-use Rattle.rules_file.specs.Reading.{SaidRule, walk_of, without_key}
+use Rattle.asked_rules.specs.declared.option.RuleOption.{RuleOption}
+use Rattle.asked_rules.specs.Options.{SayInTurn}
+use Rattle.asked_rules.specs.declared.fault.RulesFault.{RulesFault}
+use Rattle.asked_rules.specs.declared.refusal.RulesRefusal.{RulesRefusal}
+use Rattle.asked_rules.specs.Reading.{SaidRule, walk_of, without_key}
 use Rattle.user_rules.specs.declared.relation.Relation.{Relation}
 use Rattle.user_rules.specs.Meets.{meets}
 

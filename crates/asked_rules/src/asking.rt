@@ -1,11 +1,12 @@
 // The relations that are asked for, and the rules of a file.
 
 ghost use Rattle.std.specs.Prelude.{◌≡◌, IfOk, map, option_map};
-ghost use Rattle.rules_file.specs.Reading.{GivesPlaced, said};
+ghost use Rattle.asked_rules.specs.Reading.{GivesPlaced, said};
 ghost use Rattle.asked_rules.specs.Asked.{HoldInTurn, SayBoth, walk_given};
 
-use rule_options::{RuleOption, relations_of};
-use rules_file::{NamedRule, RulesRefusal};
+use crate::option::{RuleOption, relations_of};
+use crate::refusal::RulesRefusal;
+use crate::rule::NamedRule;
 use std::alloc::{AllocError, Global};
 use user_rules::Relation;
 
@@ -18,7 +19,7 @@ pub fn read_rules(alloc: Global, text: Option<&[u8]>) -> Result<Vec<NamedRule>, 
     ensures { GivesPlaced (λ rules. map said rules.items) result (walk_given (option_map (λ text. text.now) text.entry)) }
 {
     match text {
-        Some(text) => rules_file::read_explained(alloc, text),
+        Some(text) => crate::text::read_explained(alloc, text),
         None => Ok(Vec::new(alloc)),
     }
 }

@@ -9,8 +9,8 @@ use Rattle.report.specs.Answers.{IsAnswer}
 use Rattle.report.specs.Inputs.{Texts}
 use Rattle.report.specs.Last.{last_lines}
 use Rattle.report.specs.Text.{outcome_status_of, report_of}
-use Rattle.rule_options.specs.declared.option.RuleOption.{RuleOption}
-use Rattle.rule_options.specs.Options.{SayInTurn}
+use Rattle.asked_rules.specs.declared.option.RuleOption.{RuleOption}
+use Rattle.asked_rules.specs.Options.{SayInTurn}
 use Rattle.user_rules.specs.declared.relation.Relation.{Relation}
 use Rattle.case_runner.specs.declared.manner.Named.{Named}
 

@@ -7,11 +7,11 @@ ghost use Rattle.case_runner.specs.Answers.{IsReportOf, IsWanted, texts_of, repo
 
 use crate::fields::LINE_FEED;
 use crate::manner::Manner;
+use asked_rules::{RuleOption, relations_of};
 use report::{
     CheckFault, Inputs, Last, Nobody, Open, Options, Verdict, check_relations, status_of_outcome,
     write_last, write_report,
 };
-use rule_options::{RuleOption, relations_of};
 use sink::{FailureCount, Sink, SinkFault};
 use std::alloc::{AllocError, Global};
 use std::io::Cursor;

@@ -6,8 +6,8 @@ use crate::editing::{EditFault, apply};
 use crate::fields::{line_count, split_line, split_word};
 use crate::heading::{Change, Heading, TextName};
 use crate::manner::Named;
+use asked_rules::{RuleOption, RuleOptions};
 use csv_rows::read_decimal;
-use rule_options::{RuleOption, RuleOptions};
 use std::alloc::{AllocError, AllocFailed, Global};
 
 /// What is expected if a recording ends after this many bytes, up to the next cut.

@@ -6,12 +6,12 @@ ghost use Rattle.apex_machine.specs.Runs.{ArePlaced, AreOfCores};
 
 use crate::answering::{Answer, Texts, line_of, readers_of};
 use apex_types::{Ordered, View};
+use asked_rules::{RuleOption, relations_of};
 use core_intake::Intake;
 use module_config::Config;
 use order_cert::CertSource;
 use placement::{Filled, Placer};
 use report::{Verdict, status_of_outcome};
-use rule_options::{RuleOption, relations_of};
 use std::alloc::{AllocError, Global};
 use std::io::Cursor;
 use std::sync::Wait;

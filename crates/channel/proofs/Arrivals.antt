@@ -13,7 +13,7 @@ use Rattle.channel.specs.Kinds.{queuing_held, queuing_settings, sampling_held}
 use Rattle.channel.specs.Operations.{queue_after_arrival}
 use Rattle.channel.proofs.Configured.{configured}
 use Rattle.channel.proofs.Shared.{of_three, without-twice}
-use Rattle.message_queue.specs.Queues.{sent_to}
+use Rattle.wait_set.specs.Queues.{sent_to}
 use Rattle.wait_set.specs.declared.object.ObjFault.{ObjFault}
 use Rattle.wait_set.specs.declared.object.ObjFault.TheVariants.{Memory, Unlawful}
 

@@ -15,7 +15,7 @@ use Rattle.channel.specs.Kinds.{queuing_held, queuing_settings, sampling_held}
 use Rattle.channel.specs.Operations.{leaving_demands, queue_after_departure}
 use Rattle.channel.proofs.Configured.{configured}
 use Rattle.channel.proofs.Shared.{of_three, without-twice}
-use Rattle.message_queue.specs.Queues.{received_from}
+use Rattle.wait_set.specs.Queues.{received_from}
 
 -- whether it is accepted
 

@@ -18,7 +18,7 @@ use Rattle.apex_machine.specs.Ports.{channel_status}
 use Rattle.apex_machine.specs.Queue.{Messages}
 use Rattle.apex_machine.specs.Statuses.{telling}
 use Rattle.apex_machine.specs.Waiting.{is_waiting, set_after}
-use Rattle.message_queue.specs.Queues.{Queue}
+use Rattle.wait_set.specs.Queues.{Queue}
 use Rattle.channel.specs.declared.queuing.QueuingChannel.{QueuingChannel}
 use Rattle.channel.specs.Held.{AllBelow, Held, IsAfterCall, IsConfigured, is_there}
 use Rattle.channel.specs.Kinds.{queuing_held}

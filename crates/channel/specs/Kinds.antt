@@ -2,7 +2,7 @@
 use Rattle.std.specs.Prelude.{ℕ, List, [], ◌∷◌, Bool, Option, None, is_none, true, false}
 use Rattle.std.specs.Str.{bytes_eq}
 use Rattle.apex_machine.specs.State.{Content, Queued, Sampled, Stamped}
-use Rattle.message_queue.specs.Queues.{Queue}
+use Rattle.wait_set.specs.Queues.{Queue}
 use Rattle.channel.specs.declared.channel.Kind.{Kind}
 use Rattle.channel.specs.declared.channel.Kind.TheVariants.{Sampling, Queuing}
 use Rattle.channel.specs.declared.settings.QueuingSettings.{QueuingSettings}

@@ -14,7 +14,7 @@ use Rattle.apex_machine.specs.Queue.{Messages}
 use Rattle.apex_machine.specs.State.{Stamped, is_named}
 use Rattle.apex_machine.specs.Statuses.{telling}
 use Rattle.apex_machine.specs.Step.{IsTaken}
-use Rattle.message_queue.specs.Queues.{Queue, after_arrival, after_clear, after_departure, after_receive, after_send, cleared_of, received_from, sent_to, without_waiters}
+use Rattle.wait_set.specs.Queues.{Queue, after_arrival, after_clear, after_departure, after_receive, after_send, cleared_of, received_from, sent_to, without_waiters}
 use Rattle.channel.specs.Held.{is_there}
 use Rattle.wait_set.specs.declared.object.Actor.{Actor}
 

@@ -7,17 +7,16 @@ ghost use Rattle.apex_machine.specs.State.{is_named, is_same};
 ghost use Rattle.channel.specs.Held as rules;
 ghost use Rattle.channel.specs.Held.{Accepts, AllBelow, DoesNotServe, Gives, IsAfterCall, JudgesCall, RefusesCall};
 ghost use Rattle.channel.specs.Kinds.{destination_in, is_sampled, last_written, queuing_held, sampling_held, size_in, source_in};
-ghost use Rattle.message_queue.specs.Queues.{empty_queue};
+ghost use Rattle.wait_set.specs.Queues.{empty_queue};
 ghost use Rattle.wait_set.specs.Givens.{answer_given};
 
 use crate::queuing::QueuingChannel;
 use crate::sampling::{SamplingChannel, Stamped};
 use crate::settings::{QueuingSettings, SamplingSettings};
 use apex_types::{Call, Cause, ChanId, ObjectKind, PartId, Place, Request, Who};
-use message_queue::MessageQueue;
 use std::alloc::{AllocError, Global};
 use std::marker::Model;
-use wait_set::{Actor, Given, ObjFault};
+use wait_set::{Actor, Given, MessageQueue, ObjFault};
 
 /// A channel, which knows its number.
 #[derive(Drop)]

@@ -9,15 +9,14 @@ ghost use Rattle.apex_machine.specs.Statuses.{telling};
 ghost use Rattle.wait_set.specs.Actors.{Refuses, WaitsAlone, entry_with};
 ghost use Rattle.wait_set.specs.Givens.{answer_given};
 ghost use Rattle.wait_set.specs.Sets.{IsNewInEach};
-ghost use Rattle.message_queue.specs.Queues.{received_from, sent_to};
+ghost use Rattle.wait_set.specs.Queues.{received_from, sent_to};
 ghost use Rattle.channel.specs.Kinds.{is_oldest_in};
 ghost use Rattle.channel.specs.Operations.{asked_demands, leaving_demands, queue_after, queue_after_arrival, queue_after_departure, queuing_effect, waiting_between};
 
 use apex_machine::Status;
 use apex_types::{Cause, Claim, Crossing, PartId, QueuingOperation};
-use message_queue::MessageQueue;
 use std::alloc::AllocError;
-use wait_set::{Actor, Ended, Given, ObjFault, WaitSet};
+use wait_set::{Actor, Ended, Given, MessageQueue, ObjFault, WaitSet};
 
 /// A queuing channel: its queue, the greatest size of its messages in bytes, and the partitions at its source and at its destination, unless
 /// the end is outside.

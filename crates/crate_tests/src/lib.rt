@@ -4,7 +4,7 @@
 //! Promises nothing: the crate contains only tests. The tests are not in the crates that they test, so that those are proved once. The
 //! tests of rounds, of the intake and of single parts are in crates of their own; whole recordings are the data of `case_runner`.
 //!
-//! The tests go by public calls. No crate has tests but this one, `part_tests`, `intake_tests`, `round_tests` and `search_tests`.
+//! The tests go by public calls. No crate has tests but this one, `part_tests`, `intake_tests` and `round_tests`.
 #![tactic(auto)]
 
 #[cfg(test)]

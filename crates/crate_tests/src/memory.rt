@@ -1,9 +1,9 @@
 // Checks in ample memory, none of which may answer that memory was refused.
 
 use report::{Open, Settings, Verdict, check};
+use round_tests::{CONFIG, asking, in_turn};
 use std::io::Cursor;
 use std::test::Fail;
-use test_runs::{CONFIG, asking, in_turn};
 
 // Recordings of each length up to 607 records, so that whatever grows with the records does so at each of its sizes.
 #[test]

@@ -5,13 +5,13 @@ use order_cert::CertFault;
 use placement::InputFault;
 use record_read::RowFault;
 use report::{CheckFault, Open, Settings, Verdict, check};
+use round_tests::{BOTH, CONFIG, MODULE, ORDER, RECEIVER, RECORDING, SENDER};
 use std::alloc::{AllocError, Global};
 use std::io;
 use std::io::{ErrorKind, Read};
 use std::sync::Wait;
 use std::test::Fail;
 use std::thread::Threads;
-use test_runs::{BOTH, CONFIG, MODULE, ORDER, RECEIVER, RECORDING, SENDER};
 
 // Gives its text at most `step` bytes at a time. Each read past the first `given` bytes fails.
 #[derive(Clone, Copy)]

@@ -7,12 +7,12 @@ use crate::verdicts::SETTINGS;
 use apex_types::limits::LARGEST_ROUND;
 use csv_rows::Watched;
 use report::{Open, Settings, Verdict, check, check_in_rounds};
+use round_tests::{BOTH, CONFIG, MODULE, Meeting, RECEIVER, SENDER, asking, in_turn, reaches};
 use std::io;
 use std::io::{Cursor, ErrorKind, Read};
 use std::sync::Arc;
 use std::sync::atomic::{AtomicUsize, Ordering};
 use std::test::Fail;
-use test_runs::{BOTH, CONFIG, MODULE, Meeting, RECEIVER, SENDER, asking, in_turn, reaches};
 
 // What is expected of the message from one partition to another.
 const SENT: Verdict = Verdict::Yes { records: 23 };

@@ -7,12 +7,12 @@ use report::{
     CheckFault, Last, LastItem, Open, Settings, Verdict, check, check_in_rounds, check_with_last,
     write_last,
 };
+use round_tests::{CONFIG, MISSED, ORDER, RECORDING, config_of, records_of, rule};
 use sink::WriterSink;
 use std::alloc::{AllocError, Global};
 use std::sync::Wait;
 use std::test::Fail;
 use std::thread::Threads;
-use test_runs::{CONFIG, MISSED, ORDER, RECORDING, config_of, records_of, rule};
 use user_rules::{Relation, Rule};
 use verdict_merge::check_plain;
 

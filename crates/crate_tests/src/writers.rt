@@ -2,11 +2,11 @@
 
 use crate::verdicts::SETTINGS;
 use report::{Open, check, write_report};
+use round_tests::{CONFIG, ORDER, RECORDING};
 use sink::{WriteFault, WriterSink};
 use std::io;
 use std::io::{ErrorKind, Write};
 use std::test::Fail;
-use test_runs::{CONFIG, ORDER, RECORDING};
 
 // Takes two bytes at a time, while it has room.
 #[derive(Drop)]

@@ -20,7 +20,17 @@ pub fn tell_choice(
     tell_own_window(words, refusal, refusing.number);
     tell_chosen(words, &refusing, refusal.core(), choice);
     tell_named(words, refusal, &refusing, occupant);
-    words.rule("part 2, the choice (IsChosen, GoesBefore)");
+    words.rule(choice_rule(&refusing, choice));
+}
+
+// Where the specification says why this is the choice.
+fn choice_rule(refusing: &Refusing<'_>, choice: &Option<Who>) -> &'static str {
+    match choice {
+        Some(choice) if refusing.state.owns_lock(choice.proc) => {
+            "part 2, the choice (IsChosenUnder)"
+        }
+        _ => "part 2, the choice (IsChosen, GoesBefore)",
+    }
 }
 
 // Reports that a core is in a window of the partition.
@@ -41,9 +51,16 @@ fn tell_chosen(words: &mut Words, refusing: &Refusing<'_>, core: CoreId, choice:
     match choice {
         Some(choice) => {
             words.say_part(Part::Expected, Numbered(*choice));
-            words.say(
-                ": the highest priority goes first, then the earliest ready position, then the lowest process number",
-            );
+            if refusing.state.owns_lock(choice.proc) {
+                words.say(format_args!(
+                    ": it owns the lock, with level {}, and runs whatever the priorities are",
+                    refusing.state.lock().level()
+                ));
+            } else {
+                words.say(
+                    ": the highest priority goes first, then the earliest ready position, then the lowest process number",
+                );
+            }
             tell_ready(words, refusing.state, core, choice);
         }
         None => {

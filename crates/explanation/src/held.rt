@@ -1,13 +1,12 @@
-// What objects and channels hold, in words.
+// What objects, locks and channels hold, in words.
 
 use crate::processes::tell_since;
 use apex_types::{Discipline, Name, ObjectKind};
 use channel::Channel;
-use message_queue::MessageQueue;
 use module_config::ChannelKind;
+use partition_objects::{Port, PreemptionLock};
 use partition_state::PartitionState;
-use ports::Port;
-use wait_set::{Named, WaitSet};
+use wait_set::{MessageQueue, Named, WaitSet};
 use wording::{Ascii, Bytes, Count, Numbered, Words, kind_name};
 
 /// How many of the processes that wait in a set are shown.
@@ -103,6 +102,20 @@ fn tell_mutex(words: &mut Words, state: &PartitionState, number: i64) {
         None => words.say("is free"),
     }
     tell_waiters(words, mutex.waiters(), "for it");
+}
+
+/// Reports who owns the lock of a partition, with which level, and which processes wait for it.
+pub fn tell_lock(words: &mut Words, lock: &PreemptionLock) {
+    words.next_line();
+    match lock.owner() {
+        Some(owner) => words.say(format_args!(
+            "process {} owns the lock, with level {}",
+            owner.number(),
+            lock.level()
+        )),
+        None => words.say("no process owns the lock"),
+    }
+    tell_waiters(words, lock.waiters(), "for it");
 }
 
 /// Reports what a channel holds.

@@ -1,6 +1,6 @@
-// By what a call is judged: the process or the object that it names, or the time.
+// By what a call is judged: the process or the object that it names, the lock, or the time.
 
-use crate::held::tell_object;
+use crate::held::{tell_lock, tell_object};
 use crate::processes::{peer_of, tell_numbered};
 use apex_machine::{Mode, StartCondition};
 use apex_types::{
@@ -10,7 +10,7 @@ use partition_state::PartitionState;
 use wait_set::GivenValue;
 use wording::Words;
 
-/// Reports by what a call is judged: the process or the object that it names, or the time.
+/// Reports by what a call is judged: the process or the object that it names, the lock, or the time.
 pub fn tell_basis(words: &mut Words, state: &PartitionState, now: u64, call: &Call) {
     match &call.request {
         Request::CreateProcess { .. }
@@ -24,7 +24,7 @@ pub fn tell_basis(words: &mut Words, state: &PartitionState, now: u64, call: &Ca
         Request::Process(process, operation) => {
             tell_target(words, state, call.who, *process, operation);
         }
-        Request::Caller(operation) => tell_time(words, state, now, call.who.proc, operation),
+        Request::Caller(operation) => tell_own(words, state, now, call.who.proc, operation),
         Request::Object(number, operation) => {
             tell_object(words, state, operation.kind(), *number);
         }
@@ -34,6 +34,7 @@ pub fn tell_basis(words: &mut Words, state: &PartitionState, now: u64, call: &Ca
             }
         }
         Request::GetStatus(kind, object) => tell_object(words, state, *kind, *object),
+        Request::Preemption(_) => tell_lock(words, state.lock()),
     }
 }
 
@@ -70,7 +71,8 @@ pub fn tell_holder(words: &mut Words, state: &PartitionState, call: &Call) {
         | Request::GetId(..)
         | Request::GetStatus(..)
         | Request::ReportMessage { .. }
-        | Request::CreateErrorHandler => {}
+        | Request::CreateErrorHandler
+        | Request::Preemption(_) => {}
     }
 }
 
@@ -89,31 +91,39 @@ fn tell_target(
             }
         }
         ProcessOperation::GetMutexState => tell_owned(words, state, process),
+        ProcessOperation::Stop => {
+            if state.numbered_owns_lock(process) {
+                tell_lock(words, state.lock());
+            }
+        }
         ProcessOperation::InitializeCoreAffinity { .. }
         | ProcessOperation::Start
         | ProcessOperation::DelayedStart { .. }
-        | ProcessOperation::Stop
         | ProcessOperation::Suspend
         | ProcessOperation::SetPriority { .. } => {}
     }
 }
 
-// Reports the mutex that a process owns, if it owns one.
+// Reports the mutex that a process owns, or that it owns the lock.
 fn tell_owned(words: &mut Words, state: &PartitionState, process: i64) {
-    match state.mutex_owned(process) {
+    if state.numbered_owns_lock(process) {
+        tell_lock(words, state.lock());
+        return;
+    }
+    match state.mutex_state(process) {
         GivenValue::Natural(mutex) => {
             let mutex = i64::try_from(mutex).unwrap_or(i64::MAX);
             tell_object(words, state, ObjectKind::Mutex, mutex);
         }
         GivenValue::BelowZero(_) => {
             words.next_line();
-            words.say(format_args!("process {process} owns no mutex"));
+            words.say(format_args!("process {process} owns neither a mutex nor the lock"));
         }
     }
 }
 
-// Reports the time, if the answer to the caller depends on it.
-fn tell_time(
+// Reports the time, the partition's mode or the lock, if the answer to the caller depends on it.
+fn tell_own(
     words: &mut Words,
     state: &PartitionState,
     now: u64,
@@ -147,9 +157,14 @@ fn tell_time(
                 StartCondition::NormalStart => ", and has run since the module started",
                 StartCondition::PartitionRestart => ", and was restarted by SET_PARTITION_MODE",
             });
+            tell_lock(words, state.lock());
         }
-        CallerOperation::StopSelf
-        | CallerOperation::SuspendSelf { .. }
+        CallerOperation::StopSelf => {
+            if state.owns_lock(caller) {
+                tell_lock(words, state.lock());
+            }
+        }
+        CallerOperation::SuspendSelf { .. }
         | CallerOperation::GetMyId
         | CallerOperation::TimedWait { .. } => {}
     }

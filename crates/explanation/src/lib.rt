@@ -9,8 +9,8 @@
 //! function here (`evidence.rt`). At a broken rule it receives the record and its view.
 //!
 //! The files are by subject: the demands by their causes, the module, the choice, pending outcomes, priorities, who is named wrongly,
-//! claims beside what the rules give, messages from and to the outside, error conditions, objects and channels, uses outside the profile, and recordings that may be named for
-//! the wrong cores.
+//! claims beside what the rules give, messages from and to the outside, error conditions, objects, locks and channels, uses outside the
+//! profile, and recordings that may be named for the wrong cores.
 //!
 //! The crate does not depend on `report`, so the two are proved side by side; `apexcheck` passes it what the witness of a check receives
 //! (`Explainer`). The check has its answer before a witness receives it, and no clause speaks of the words. The functions have no

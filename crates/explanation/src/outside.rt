@@ -67,6 +67,7 @@ fn tell_target(words: &mut Words, refusal: &Refusal<'_>, what: &str) {
         | Request::GetId(..)
         | Request::GetStatus(..)
         | Request::ReportMessage { .. }
-        | Request::CreateErrorHandler => {}
+        | Request::CreateErrorHandler
+        | Request::Preemption(_) => {}
     }
 }

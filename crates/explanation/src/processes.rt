@@ -87,6 +87,7 @@ fn tell_wait(words: &mut Words, process: &Process) {
             words.say(format_args!(" waits {}", Set(set)));
             tell_due(words, due);
         }
+        Wait::ForLock => words.say(" waits for the lock"),
     }
 }
 

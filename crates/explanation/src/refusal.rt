@@ -1,10 +1,10 @@
 // A record that a piece rejects, and what is read from the piece to explain it.
 
 use apex_types::{Body, Call, Cause, CoreId, Ordered, PartId, Who};
-use dispatch_rule::Clock;
 use module_config::Config;
 use partition_state::PartitionState;
 use piece_check::{Evidence, Piece, Seen};
+use scheduling::Clock;
 
 /// A record that a piece rejects for a cause. The piece is as it was before the record.
 #[derive(Clone, Copy)]

@@ -10,10 +10,9 @@ use crate::watcher::Watcher;
 use apex_types::Record;
 use csv_rows::TextSource;
 use module_config::Config;
-use order_search::{Search, Step};
+use order_search::{Search, Step, Thing};
 use placement::PlacingFault;
 use std::alloc::AllocError;
-use tip_pieces::Thing;
 
 /// How far the exploration is.
 #[derive(Clone, Copy, Debug, PartialEq, Eq)]

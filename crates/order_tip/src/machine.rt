@@ -10,10 +10,9 @@ use apex_types::{Cause, Record};
 use csv_rows::TextSource;
 use module_config::Config;
 use order_run::Lanes;
-use order_search::{Answer, Rivals, Tip};
+use order_search::{Answer, Rivals, Thing, Tip};
 use placement::PlacingFault;
 use std::alloc::{AllocError, Global};
-use tip_pieces::Thing;
 
 /// How many records are taken again before the tip gets a checkpoint of its own.
 const MANY_AGAIN: u64 = 16;

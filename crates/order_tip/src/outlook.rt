@@ -10,13 +10,12 @@ use apex_types::{Body, Cause, Ordered, Place, Record};
 use csv_rows::TextSource;
 use module_config::Config;
 use order_run::Lanes;
-use order_search::{Answer, Rivals};
+use order_search::{
+    Answer, Checkpoint, Checkpoints, Pieces, Reach, Rejection, Rivals, Thing, TipState, blame,
+    is_free, is_tick, reaches, rivals_of, touched,
+};
 use placement::PlacingFault;
 use std::alloc::{AllocError, Global};
-use tip_pieces::{
-    Checkpoint, Checkpoints, Pieces, Reach, Rejection, Thing, TipState, blame, is_free, is_tick,
-    reaches, rivals_of, touched,
-};
 
 /// The recordings, the pieces at the tip, and what is known of each core's next record.
 #[derive(Drop)]

@@ -1,7 +1,7 @@
 // Rules that options request: what their texts give, their numbers, and their relations.
 
 use apex_types::{Service, View};
-use rule_options::{RuleOption, RuleOptions, relations_of};
+use asked_rules::{RuleOption, RuleOptions, relations_of};
 use std::alloc::Global;
 use std::test::Fail;
 

@@ -2,11 +2,11 @@
 
 use crate::options_of_rules::call_of;
 use apex_types::View;
-use rules_file::RuleFault::{
+use asked_rules::RuleFault::{
     self, BadName, Empty, Missing, NotToml, TooDeep, TooMany, UnknownField, UnknownKey,
     UnknownName, WrongType,
 };
-use rules_file::{FIELD_NAMES, RulesFault, read};
+use asked_rules::{FIELD_NAMES, RulesFault, read};
 use std::alloc::Global;
 use std::test::Fail;
 
@@ -163,7 +163,7 @@ fn knows_names(rt: HostRuntime) -> Result<(), Fail> {
         ("service", "GET_BUFFER_ID", 38),
         ("service", "GET_QUEUING_PORT_STATUS", 51),
         ("service", "GET_PARTITION_STATUS", 52),
-        ("service", "CREATE_ERROR_HANDLER", 60),
+        ("service", "UNLOCK_PREEMPTION", 62),
         ("out", "NO_ERROR", 0),
         ("out", "TIMED_OUT", 6),
         ("out", "wait", 7),

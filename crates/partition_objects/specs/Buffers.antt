@@ -7,7 +7,7 @@ use Rattle.apex_machine.specs.declared.state.Entry.{Entry}
 use Rattle.apex_machine.specs.Answer.{Answer}
 use Rattle.apex_machine.specs.Objects.{buffer_effect}
 use Rattle.apex_machine.specs.State.{Buffer}
-use Rattle.message_queue.specs.Queues.{Queue}
+use Rattle.wait_set.specs.Queues.{Queue}
 use Rattle.wait_set.specs.declared.object.Actor.{Actor}
 use Rattle.wait_set.specs.Actors.{joined_by, left_by}
 use Rattle.wait_set.specs.Sets as waiters

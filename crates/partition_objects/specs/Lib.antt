@@ -2,6 +2,9 @@ pub mod Blackboards
 pub mod Buffers
 pub mod Copies
 pub mod Events
+pub mod Locks
 pub mod Mutexes
 pub mod Numbers
 pub mod Semaphores
+pub mod Ports
+pub mod Guards

@@ -6,10 +6,9 @@ ghost use Rattle.partition_objects.specs.Buffers as rules;
 
 use apex_machine::Status;
 use apex_types::{BufferOperation, Claim, Discipline, Name, Who};
-use message_queue::MessageQueue;
 use std::alloc::{AllocError, Global};
 use std::marker::Model;
-use wait_set::{Actor, ApexObject, Given, Named, Owners};
+use wait_set::{Actor, ApexObject, Given, MessageQueue, Named, Owners};
 
 /// A buffer: its name, the greatest size of its messages, and the queue of its messages, whose senders and receivers wait by one
 /// discipline.

@@ -80,7 +80,7 @@ event_found configuration who partition event EventOperation.Reset none = is_the
 pub mutex_found : (configuration : Configuration) (who : Who) (partition : Partition) (mutex : ℤ) (operation : MutexOperation)
     → conditions_of configuration who partition (request.Object mutex (on.Mutex operation)) ≡ [] → given_object partition.mutexes mutex ≢ None
 mutex_found configuration who partition mutex (MutexOperation.Acquire time_out) none =
-    is_first (given_object partition.mutexes mutex) _ (time_out_conditions time_out) (nil_left _ _ (nil_left _ _ none))
+    is_first (given_object partition.mutexes mutex) _ (time_out_conditions time_out) (nil_left _ _ (nil_left _ _ (nil_left _ _ none)))
 mutex_found configuration who partition mutex MutexOperation.Release none = is_there (given_object partition.mutexes mutex) _ none
 mutex_found configuration who partition mutex (MutexOperation.Reset process) none = is_first (given_object partition.mutexes mutex) _ _ (nil_left _ _ none)
 
@@ -130,7 +130,7 @@ pub at_work : (configuration : Configuration) (cores : List CoreState) (place co
     → IsClear configuration cores place core partition call → IsAtWork place partition call.who
 at_work configuration cores place core partition call clear = record {
   sound = clear.sound;
-  nowhere = λ wanted. (running_is_in_no_set call.who.part place core cores partition call.who clear.sound clear.caller.1.0 wanted).0;
+  nowhere = λ wanted. ((running_is_in_no_set call.who.part place core cores partition call.who clear.sound clear.caller.1.0).0 wanted).0;
 }
 
 -- what is demanded of an outcome on which no condition holds, through no channel

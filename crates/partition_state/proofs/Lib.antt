@@ -5,6 +5,7 @@ pub mod Sets
 pub mod ObjectCalls
 pub mod Clear
 pub mod MutexTransfers
+pub mod Locks
 pub mod Served
 pub mod Sounds
 pub mod Uses

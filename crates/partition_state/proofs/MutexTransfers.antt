@@ -9,8 +9,8 @@ use Rattle.apex_machine.specs.declared.state.CoreState.{CoreState}
 use Rattle.apex_machine.specs.Configuration.{Configuration}
 use Rattle.apex_machine.specs.State.{Mutex, Partition, given_object}
 use Rattle.partition_objects.specs.Mutexes as mutexes
-use Rattle.process_state.specs.declared.transfer.Transfer.{Transfer}
-use Rattle.process_state.specs.Transfers.{IsTransferOf}
+use Rattle.scheduling.specs.declared.transfer.Transfer.{Transfer}
+use Rattle.scheduling.specs.Transfers.{IsTransferOf}
 use Rattle.wait_set.specs.declared.object.Actor.{Actor}
 use Rattle.wait_set.specs.declared.object.ObjFault.{ObjFault}
 use Rattle.partition_state.specs.Calls.{IsClear, actor_of}

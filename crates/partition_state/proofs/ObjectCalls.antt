@@ -30,7 +30,7 @@ use Rattle.partition_objects.specs.Buffers as buffers
 use Rattle.partition_objects.specs.Events as events
 use Rattle.partition_objects.specs.Mutexes as mutexes
 use Rattle.partition_objects.specs.Semaphores as semaphores
-use Rattle.process_state.specs.declared.transfer.Transfer.{Transfer}
+use Rattle.scheduling.specs.declared.transfer.Transfer.{Transfer}
 use Rattle.wait_set.specs.declared.object.Actor.{Actor}
 use Rattle.wait_set.specs.declared.object.ObjFault.{ObjFault}
 use Rattle.wait_set.specs.Actors.{entry_with, joined_by}

@@ -2,7 +2,7 @@
 use Rattle.std.proofs.Common.{◌≡◌, ℕ, List, Option, Some, None, Result, Ok, Err, Bool, true, false, IfErr, OnOk, refl, sym, ap, ◌∙◌, cond}
 use Rattle.apex_types.specs.declared.object_kind.ObjectKind.TheVariants as kind
 use Rattle.apex_types.specs.declared.cause.Cause.{Cause}
-use Rattle.apex_types.specs.declared.operation.{ProcessOperation.ProcessOperation, SamplingOperation.SamplingOperation}
+use Rattle.apex_types.specs.declared.operation.{CallerOperation.CallerOperation, LockOperation.LockOperation, ProcessOperation.ProcessOperation, SamplingOperation.SamplingOperation}
 use Rattle.apex_types.specs.declared.record.Call.{Call as CallRecord}
 use Rattle.apex_types.specs.declared.record.Who.{Who}
 use Rattle.apex_types.specs.declared.request.Request.{Request}
@@ -11,61 +11,101 @@ use Rattle.apex_machine.specs.declared.state.CoreState.{CoreState}
 use Rattle.apex_machine.specs.declared.state.Process.{Process}
 use Rattle.apex_machine.specs.declared.state.Wait.{Wait}
 use Rattle.apex_machine.specs.declared.state.Wait.TheVariants as wait
-use Rattle.apex_machine.specs.After.{has_handler_by, is_done, objects_called, partition_called}
+use Rattle.apex_machine.specs.After.{has_handler_by, is_done, lock_called, objects_called, partition_called}
+use Rattle.apex_machine.specs.Arguments.{natural_of}
 use Rattle.apex_machine.specs.Configuration.{Configuration}
 use Rattle.apex_machine.specs.Demands.{AllHold, Demand, Judges}
 use Rattle.apex_machine.specs.Services.{peer}
-use Rattle.apex_machine.specs.State.{Partition, created, with_objects, ObjectOf}
+use Rattle.apex_machine.specs.State.{Lock, Partition, created, with_objects, ObjectOf}
 use Rattle.apex_machine.specs.Waiting.{is_no_error, restart_of}
 use Rattle.apex_laws.specs.PartLaws.{IsOwnCall}
 use Rattle.apex_laws.specs.PartObjects.{left_by, objects_changed}
 use Rattle.apex_laws.specs.PartSets.{left_if_there}
 use Rattle.apex_laws.proofs.LeavingSets.{stopped_leaves}
+use Rattle.apex_laws.proofs.LockStays.{other_calls_leave_lock}
 use Rattle.apex_laws.proofs.PartObjects.{one_object_changes}
-use Rattle.process_state.specs.Processes.{Processes, processes_of}
-use Rattle.process_state.specs.declared.transfer.Transfer.{Transfer}
+use Rattle.partition_objects.specs.Locks.{after as lock_after}
+use Rattle.scheduling.specs.Processes.{Processes, processes_of}
+use Rattle.scheduling.specs.declared.transfer.Transfer.{Transfer}
 use Rattle.wait_set.specs.declared.object.ObjFault.{ObjFault}
 use Rattle.wait_set.specs.declared.object.ObjFault.TheVariants.{Unlawful, Memory}
 use Rattle.wait_set.specs.Actors.{Refuses}
-use Rattle.partition_state.specs.Calls.{IsClear, IsJudged, ReadsAtPort, RefusesOrWants, objects_noted, objects_served, served, served_demands}
+use Rattle.partition_state.specs.Calls.{IsClear, IsJudged, ReadsAtPort, RefusesOrWants, actor_of, objects_noted, objects_served, served, served_demands, with_lock_stopped}
 use Rattle.partition_state.proofs.Clear.{own_call, target_found}
+use Rattle.partition_state.proofs.Locks.{lock_before, lock_self_stopped, lock_used}
 use Rattle.partition_state.proofs.Sets.{either_way}
 use Rattle.apex_types.specs.Shapes.{kind_used}
 use Rattle.apex_types.specs.Requested.{kind_of}
 use Rattle.apex_types.specs.declared.object_kind.ObjectKind.{ObjectKind}
 
--- whether a request is STOP
-abbrev pub is_stop : Request → Bool
-is_stop (request.Process process ProcessOperation.Stop) = true
-is_stop _ = false
+-- whether a request may change the lock: a stop, or an operation on it
+abbrev pub reaches_lock : Request → Bool
+reaches_lock (request.Process process ProcessOperation.Stop) = true
+reaches_lock (request.Caller CallerOperation.StopSelf) = true
+reaches_lock (request.Preemption operation) = true
+reaches_lock _ = false
 
 -- whether a request creates an error handler
 abbrev pub is_handler_creation : Request → Bool
 is_handler_creation request.CreateErrorHandler = true
 is_handler_creation _ = false
 
--- the objects after a call
+-- the objects and the lock after a call
 
-objects_are_called : (configuration : Configuration) (cores : List CoreState) (place core : ℕ) (partition : Partition) (call : CallRecord)
+-- what a service that reaches no lock changes leaves the lock as it is
+put_leaves_lock : (kind : ObjectKind) (objects : List (ℕ × ObjectOf kind)) (partition : Partition) → (with_objects kind objects partition).lock ≡ partition.lock
+put_leaves_lock kind.Buffer objects partition = refl
+put_leaves_lock _ objects partition = refl
+
+changed_leaves_lock : (configuration : Configuration) (place : ℕ) (call : CallRecord) (partition : Partition) (asked : Request)
+    → (objects_changed configuration place call asked partition).lock ≡ partition.lock
+changed_leaves_lock configuration place call partition (request.Create name object) = put_leaves_lock (kind_of object) _ partition
+changed_leaves_lock configuration place call partition (request.Object number operation) = put_leaves_lock (kind_used operation) _ partition
+changed_leaves_lock configuration place call partition (request.SamplingPort port SamplingOperation.Read) = refl
+changed_leaves_lock configuration place call partition _ = refl
+
+-- the objects and the ports after a call, with the lock after it
+abbrev pub all_called : Configuration → ℕ → CallRecord → Partition → Partition
+all_called configuration place call partition = record (objects_called configuration place call partition) { lock = lock_called place call partition.lock }
+
+all_are_called : (configuration : Configuration) (cores : List CoreState) (place core : ℕ) (partition : Partition) (call : CallRecord)
     → IsClear configuration cores place core partition call → AllHold (served_demands cores core partition call) → restart_of call ≡ None
     → (asked : Request) → call.request ≡ asked
-    → objects_called configuration place call partition ≡ objects_served configuration place call asked partition
-objects_are_called configuration cores place core partition call clear holds goes_on (request.Process process ProcessOperation.Stop) is =
+    → all_called configuration place call partition ≡ objects_served configuration place call asked partition
+all_are_called configuration cores place core partition call clear holds goes_on (request.Process process ProcessOperation.Stop) is =
     by (created partition.table process) refl
   where
     own : IsOwnCall configuration call.who.part place core cores partition call
     own = own_call configuration cores place core partition call clear holds
 
     by : (target : Option Process) → created partition.table process ≡ target
-        → objects_called configuration place call partition ≡ left_if_there (peer call.who process) target partition
+        → all_called configuration place call partition
+        ≡ left_if_there (peer call.who process) target (with_lock_stopped (natural_of process) call.claim.woken partition)
     by None e = absurd (target_found configuration call.who partition process (rw is at clear.conditions) e)
     by (Some target) e =
         let held = rw is at holds in
         let done : is_no_error call.claim.out ≡ true = rw held.0 refl in
         (stopped_leaves configuration call.who.part place core cores partition call own process is done target e).2
-objects_are_called configuration cores place core partition call clear holds goes_on asked is =
-    one_object_changes configuration call.who.part place core cores partition call
-    (own_call configuration cores place core partition call clear holds) (rw (goes_on, is) refl) asked is
+all_are_called configuration cores place core partition call clear holds goes_on (request.Caller CallerOperation.StopSelf) is =
+    let held = rw is at holds in
+    let own = own_call configuration cores place core partition call clear holds in
+    ap (λ (one : Partition). record one { lock = lock_called place call partition.lock })
+    (one_object_changes configuration call.who.part place core cores partition call own (rw (goes_on, is) refl) (request.Caller CallerOperation.StopSelf) is)
+    ∙ ap (λ lock. record partition { lock = lock }) (lock_self_stopped place call partition.lock is held.0)
+all_are_called configuration cores place core partition call clear holds goes_on (request.Preemption operation) is =
+    let held = rw is at holds in
+    let own = own_call configuration cores place core partition call clear holds in
+    ap (λ (one : Partition). record one { lock = lock_called place call partition.lock })
+    (one_object_changes configuration call.who.part place core cores partition call own (rw (goes_on, is) refl) (request.Preemption operation) is)
+    ∙ ap (λ lock. record partition { lock = lock })
+    (lock_used place call operation partition.lock is (lock_before configuration cores place core partition call clear) held)
+all_are_called configuration cores place core partition call clear holds goes_on asked is =
+    let own = own_call configuration cores place core partition call clear holds in
+    ap (λ (one : Partition). record one { lock = lock_called place call partition.lock })
+    (one_object_changes configuration call.who.part place core cores partition call own (rw (goes_on, is) refl) asked is)
+    ∙ ap (λ lock. record (objects_changed configuration place call asked partition) { lock = lock })
+    (other_calls_leave_lock configuration call.who.part place core cores partition call own (rw is refl) (rw is refl) goes_on
+    ∙ sym (changed_leaves_lock configuration place call partition asked))
 
 -- the error handler after a call
 
@@ -80,6 +120,7 @@ handler_is_called cores core partition call holds _ is = either_way (is_done cal
 abbrev pub all_but_processes : Configuration → ℕ → CallRecord → Partition → Partition
 all_but_processes configuration place call partition = record (objects_called configuration place call partition) {
   has_handler = cond (is_done call.claim.out) (has_handler_by call.request partition.has_handler) partition.has_handler;
+  lock = lock_called place call partition.lock;
 }
 
 pub served_is_called : (configuration : Configuration) (cores : List CoreState) (place core : ℕ) (partition : Partition) (call : CallRecord)
@@ -87,7 +128,7 @@ pub served_is_called : (configuration : Configuration) (cores : List CoreState) 
     → all_but_processes configuration place call partition ≡ served configuration place call call.request partition
 served_is_called configuration cores place core partition call clear holds goes_on =
     ap (λ (one : Partition). record one { has_handler = cond (is_done call.claim.out) (has_handler_by call.request partition.has_handler) partition.has_handler })
-    (objects_are_called configuration cores place core partition call clear holds goes_on call.request refl)
+    (all_are_called configuration cores place core partition call clear holds goes_on call.request refl)
     ∙ ap (λ has_handler. record (objects_served configuration place call call.request partition) { has_handler = has_handler })
     (handler_is_called cores core partition call holds call.request refl)
 
@@ -113,19 +154,31 @@ with_handler asked before objects new other stays is = is ∙ ap (λ has_handler
     by request.CreateErrorHandler other = let never : ◌≡◌ {A = Bool} true false = other in cc
     by _ other = refl
 
--- a service other than STOP and CREATE_ERROR_HANDLER changes the one object that it names
-pub one_is_served : (configuration : Configuration) (place : ℕ) (call : CallRecord) (asked : Request) (partition new : Partition) → is_stop asked ≡ false
+-- a service that reaches no lock, other than CREATE_ERROR_HANDLER, changes the one object that it names
+pub one_is_served : (configuration : Configuration) (place : ℕ) (call : CallRecord) (asked : Request) (partition new : Partition) → reaches_lock asked ≡ false
     → is_handler_creation asked ≡ false → new ≡ objects_changed configuration place call asked partition → new ≡ served configuration place call asked partition
 one_is_served configuration place call (request.Process process ProcessOperation.Stop) partition new other no_handler is =
+    let never : ◌≡◌ {A = Bool} true false = other in cc
+one_is_served configuration place call (request.Caller CallerOperation.StopSelf) partition new other no_handler is =
+    let never : ◌≡◌ {A = Bool} true false = other in cc
+one_is_served configuration place call (request.Preemption operation) partition new other no_handler is =
     let never : ◌≡◌ {A = Bool} true false = other in cc
 one_is_served configuration place call asked partition new other no_handler is =
     with_handler asked partition.has_handler (objects_changed configuration place call asked partition) new no_handler
     (changed_leaves_handler configuration place call partition asked) is
 
-pub changed_is_served : (configuration : Configuration) (place : ℕ) (call : CallRecord) (partition new : Partition) → is_stop call.request ≡ false
+pub changed_is_served : (configuration : Configuration) (place : ℕ) (call : CallRecord) (partition new : Partition) → reaches_lock call.request ≡ false
     → is_handler_creation call.request ≡ false
     → new ≡ objects_changed configuration place call call.request partition → new ≡ served configuration place call call.request partition
 changed_is_served configuration place call partition new = one_is_served configuration place call call.request partition new
+
+-- and an operation on the lock changes the lock
+pub lock_is_served : (configuration : Configuration) (place : ℕ) (call : CallRecord) (operation : LockOperation) (partition old : Partition) (new : Lock) (result : Result Transfer ObjFault)
+    → partition ≡ old → OnOk result (new ≡ lock_after (actor_of place call) operation call.claim partition.lock)
+    → OnOk result (record partition { lock = new } ≡ served configuration place call (request.Preemption operation) old)
+lock_is_served configuration place call operation partition old new (Ok transfer) same is =
+    ap (λ lock. record partition { lock = lock }) is ∙ ap (λ one. served configuration place call (request.Preemption operation) one) same
+lock_is_served configuration place call operation partition old new (Err fault) same is = tt
 
 -- what is accepted or refused as it is judged holds, or its cause is that of the first demand that fails
 
@@ -160,9 +213,14 @@ pub served_keeps : (configuration : Configuration) (place : ℕ) (call : CallRec
     → processes_of (objects_served configuration place call asked partition) ≡ processes_of partition
 served_keeps configuration place call partition (request.Process process ProcessOperation.Stop) = by (created partition.table process)
   where
-    by : (target : Option Process) → processes_of (left_if_there (peer call.who process) target partition) ≡ processes_of partition
+    stopped : Partition
+    stopped = with_lock_stopped (natural_of process) call.claim.woken partition
+
+    by : (target : Option Process) → processes_of (left_if_there (peer call.who process) target stopped) ≡ processes_of partition
     by None = refl
-    by (Some target) = left_keeps (peer call.who process) target.wait partition
+    by (Some target) = left_keeps (peer call.who process) target.wait stopped
+served_keeps configuration place call partition (request.Caller CallerOperation.StopSelf) = refl
+served_keeps configuration place call partition (request.Preemption operation) = refl
 served_keeps configuration place call partition (request.Create name object) = put_keeps (kind_of object) _ partition
 served_keeps configuration place call partition (request.Object number operation) = put_keeps (kind_used operation) _ partition
 served_keeps configuration place call partition (request.SamplingPort port SamplingOperation.Read) = refl

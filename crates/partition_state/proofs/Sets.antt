@@ -28,7 +28,7 @@ use Rattle.partition_state.specs.Calls.{IsAtWork}
 -- who enters
 
 -- entries below a place are before it
-are_before : (place : ℕ) (entries : List Entry) → AllEntries (λ entry. entry.place < place) entries → AreBeforePlace place entries
+pub are_before : (place : ℕ) (entries : List Entry) → AllEntries (λ entry. entry.place < place) entries → AreBeforePlace place entries
 are_before place [] below = tt
 are_before place (entry ∷ entries) below = (below.0, are_before place entries below.1)
 

@@ -22,7 +22,7 @@ use Rattle.apex_laws.specs.PartBounds.{IsBoundedPart}
 use Rattle.apex_laws.proofs.BoundedParts.{releases_fit}
 use Rattle.module_config.specs.Limits.{CoresAreOfModule}
 use Rattle.partition_objects.proofs.Numbers.{given_fits}
-use Rattle.process_state.specs.Sound.{IsSound, AsksSoundly, GivesSoundly, ReleasesSoundly, WaitsSoundly, is_core_number}
+use Rattle.scheduling.specs.Sound.{IsSound, AsksSoundly, GivesSoundly, ReleasesSoundly, WaitsSoundly, is_core_number}
 use Rattle.partition_state.specs.Calls.{IsClear, NumbersAreKept, served_demands}
 use Rattle.partition_state.proofs.Clear.{blackboard_found, buffer_found, event_found, mutex_found, nil_left, nil_right, semaphore_found, when_not}
 

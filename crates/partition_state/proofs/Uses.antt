@@ -7,23 +7,25 @@ use Rattle.apex_types.specs.declared.record.Call.{Call as CallRecord}
 use Rattle.apex_types.specs.declared.request.Request.{Request}
 use Rattle.apex_types.specs.declared.request.Request.TheVariants as request
 use Rattle.apex_machine.specs.declared.state.CoreState.{CoreState}
-use Rattle.apex_machine.specs.After.{has_handler_by, is_done, objects_called}
+use Rattle.apex_machine.specs.After.{has_handler_by, is_done, lock_called, objects_called}
 use Rattle.apex_machine.specs.Arguments.{natural_of}
 use Rattle.apex_machine.specs.Configuration.{Configuration}
+use Rattle.apex_machine.specs.Locks.{is_of_lock}
 use Rattle.apex_machine.specs.Ports.{use_of}
 use Rattle.apex_machine.specs.State.{Partition, change_at}
 use Rattle.apex_machine.specs.Waiting.{restart_by, restart_of}
 use Rattle.apex_laws.specs.PartBounds.{IsBoundedPart}
-use Rattle.apex_laws.specs.PartLaws.{IsOwnCall}
+use Rattle.apex_laws.specs.PartLaws.{IsOwnCall, stops_one}
 use Rattle.apex_laws.specs.PartObjects.{objects_changed}
 use Rattle.apex_laws.proofs.EnteringSets.{refused_leaves_objects}
+use Rattle.apex_laws.proofs.LockStays.{other_calls_leave_lock, refused_leaves_lock}
 use Rattle.apex_laws.proofs.PartObjects.{one_object_changes}
 use Rattle.apex_laws.proofs.Restarts.{not_done_goes_on}
-use Rattle.process_state.specs.declared.transfer.Transfer.{Transfer}
-use Rattle.process_state.specs.Sound.{AsksSoundly, IsSound, WaitsSoundly}
-use Rattle.process_state.specs.Transfers.{IsTransferOf}
+use Rattle.scheduling.specs.declared.transfer.Transfer.{Transfer}
+use Rattle.scheduling.specs.Sound.{AsksSoundly, IsSound, WaitsSoundly}
+use Rattle.scheduling.specs.Transfers.{IsTransferOf}
 use Rattle.partition_state.specs.Calls.{LeavesObjects, objects_noted}
-use Rattle.ports.specs.Ports.{read_at}
+use Rattle.partition_objects.specs.Ports.{read_at}
 use Rattle.partition_state.proofs.Served.{all_but_processes}
 use Rattle.partition_state.proofs.Sets.{either_way}
 use Rattle.partition_state.proofs.Sounds.{not_done_and_done, releases_soundly, sound_refused}
@@ -77,15 +79,36 @@ noted_handler : (call : CallRecord) (asked : Request) (partition : Partition) �
 noted_handler call (request.SamplingPort port SamplingOperation.Read) partition = refl
 noted_handler call _ partition = refl
 
+-- and the lock stays
+
+noted_lock : (call : CallRecord) (asked : Request) (partition : Partition) → (objects_noted call asked partition).lock ≡ partition.lock
+noted_lock call (request.SamplingPort port SamplingOperation.Read) partition = refl
+noted_lock call _ partition = refl
+
+lock_stays : (configuration : Configuration) (number place core : ℕ) (cores : List CoreState) (partition : Partition) (call : CallRecord)
+    → IsOwnCall configuration number place core cores partition call → LeavesObjects call → lock_called place call partition.lock ≡ partition.lock
+lock_stays configuration number place core cores partition call own (inl not_done) =
+    refused_leaves_lock configuration number place core cores partition call own not_done
+lock_stays configuration number place core cores partition call own (inr uses) =
+    other_calls_leave_lock configuration number place core cores partition call own
+    (by_use (λ asked. is_of_lock asked ≡ false) (λ port operation. refl) (λ port operation. refl) (λ port. refl) call.request uses)
+    (by_use (λ asked. stops_one asked ≡ false) (λ port operation. refl) (λ port operation. refl) (λ port. refl) call.request uses)
+    (by_use (λ asked. restart_by asked call.claim.out ≡ None) (λ port operation. refl) (λ port operation. refl) (λ port. refl) call.request uses)
+
 -- so of the partition all but its mode and its processes is as noted
 pub leaves_all : (configuration : Configuration) (number place core : ℕ) (cores : List CoreState) (partition : Partition) (call : CallRecord)
     → IsOwnCall configuration number place core cores partition call → LeavesObjects call
     → all_but_processes configuration place call partition ≡ objects_noted call call.request partition
 leaves_all configuration number place core cores partition call own leaves =
-    ap (λ (one : Partition). record one { has_handler = cond (is_done call.claim.out) (has_handler_by call.request partition.has_handler) partition.has_handler })
+    ap (λ (one : Partition). record one { has_handler = handler; lock = lock_called place call partition.lock })
     (leaves_objects configuration number place core cores partition call own leaves)
-    ∙ ap (λ has_handler. record (objects_noted call call.request partition) { has_handler = has_handler })
+    ∙ ap (λ has_handler. record (objects_noted call call.request partition) { has_handler = has_handler; lock = lock_called place call partition.lock })
     (handler_left call leaves partition.has_handler ∙ sym (noted_handler call call.request partition))
+    ∙ ap (λ lock. record (objects_noted call call.request partition) { lock = lock })
+    (lock_stays configuration number place core cores partition call own leaves ∙ sym (noted_lock call call.request partition))
+  where
+    handler : Bool
+    handler = cond (is_done call.claim.out) (has_handler_by call.request partition.has_handler) partition.has_handler
 
 -- it restarts no partition
 pub noted_goes_on : (call : CallRecord) → LeavesObjects call → restart_of call ≡ None

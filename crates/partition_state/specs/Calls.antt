@@ -1,7 +1,7 @@
 -- The calls that a partition may serve, what it answers, and which object a request uses.
 use Rattle.std.specs.Prelude.{◌≡◌, ◌≢◌, ◌⊎◌, ℕ, ℤ, Bool, true, false, List, [], None, IsErrAnd, IsFalse, IsOk, IsTrue, MatchResult, Result, is_some, if◌then◌else◌}
 use Rattle.apex_types.specs.declared.cause.Cause.{Cause}
-use Rattle.apex_types.specs.declared.operation.{ProcessOperation.ProcessOperation, SamplingOperation.SamplingOperation}
+use Rattle.apex_types.specs.declared.operation.{CallerOperation.CallerOperation, ProcessOperation.ProcessOperation, SamplingOperation.SamplingOperation}
 use Rattle.apex_types.specs.declared.record.Call.{Call as CallRecord}
 use Rattle.apex_types.specs.declared.record.Claim.{Claim}
 use Rattle.apex_types.specs.declared.record.Who.{Who}
@@ -23,9 +23,10 @@ use Rattle.apex_laws.specs.PartLaws.{IsSoundPart}
 use Rattle.apex_laws.specs.PartBounds.{IsBoundedPart}
 use Rattle.apex_laws.specs.PartObjects.{objects_changed}
 use Rattle.apex_laws.specs.PartSets.{left_if_there}
+use Rattle.partition_objects.specs.Locks.{after as lock_after, after_stop}
 use Rattle.partition_objects.specs.Numbers.{NumbersFit}
-use Rattle.ports.specs.Ports.{read_at}
-use Rattle.process_state.specs.declared.transfer.Transfer.{Transfer}
+use Rattle.partition_objects.specs.Ports.{read_at}
+use Rattle.scheduling.specs.declared.transfer.Transfer.{Transfer}
 use Rattle.wait_set.specs.declared.object.Actor.{Actor}
 use Rattle.wait_set.specs.declared.object.ObjFault.{ObjFault}
 use Rattle.wait_set.specs.declared.object.ObjFault.TheVariants.{Unlawful, Memory}
@@ -113,15 +114,24 @@ objects_noted call (request.SamplingPort port SamplingOperation.Read) partition 
 }
 objects_noted call _ partition = partition
 
--- the objects of a partition after a call that was served: STOP takes its target out of its waiting set, and any other service changes the
--- one object that it names
+-- a partition after a stop of this process that ends the waits of these, except for its processes and the set in which the process waits: if
+-- it owns the lock, it gives the lock up
+abbrev pub with_lock_stopped : ℕ → List Who → Partition → Partition
+with_lock_stopped number woken partition = record partition { lock = after_stop number woken partition.lock }
+
+-- the objects and the lock of a partition after a call that was served: STOP takes its target out of its waiting set, and a stop of the
+-- lock's owner gives the lock up; an operation on the lock changes the lock; and any other service changes the one object that it names
 abbrev pub objects_served : Configuration → ℕ → CallRecord → Request → Partition → Partition
 objects_served configuration place call (request.Process process ProcessOperation.Stop) partition =
-    left_if_there (peer call.who process) (created partition.table process) partition
+    left_if_there (peer call.who process) (created partition.table process) (with_lock_stopped (natural_of process) call.claim.woken partition)
+objects_served configuration place call (request.Caller CallerOperation.StopSelf) partition =
+    with_lock_stopped call.who.proc call.claim.woken partition
+objects_served configuration place call (request.Preemption operation) partition =
+    record partition { lock = lock_after (actor_of place call) operation call.claim partition.lock }
 objects_served configuration place call asked partition = objects_changed configuration place call asked partition
 
--- a partition after a call that was served, except for its mode and its processes: its objects change, and CREATE_ERROR_HANDLER creates the
--- error handler
+-- a partition after a call that was served, except for its mode and its processes: its objects and its lock change, and
+-- CREATE_ERROR_HANDLER creates the error handler
 abbrev pub served : Configuration → ℕ → CallRecord → Request → Partition → Partition
 served configuration place call asked partition =
     record (objects_served configuration place call asked partition) { has_handler = has_handler_by asked partition.has_handler }

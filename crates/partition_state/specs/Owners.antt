@@ -3,8 +3,8 @@ use Rattle.std.specs.Prelude.{◌≡◌, ℕ}
 use Rattle.apex_machine.specs.declared.state.Process.{Process}
 use Rattle.apex_machine.specs.Objects.{is_owner}
 use Rattle.apex_machine.specs.Processes.{on_ownership}
-use Rattle.process_state.specs.declared.transfer.Transfer.{Transfer}
-use Rattle.process_state.specs.Transfers.{transferred}
+use Rattle.scheduling.specs.declared.transfer.Transfer.{Transfer}
+use Rattle.scheduling.specs.Transfers.{transferred}
 use Rattle.wait_set.specs.declared.object.Owners.{Owners}
 
 -- a transfer changes each process as the owners of the object before and after say

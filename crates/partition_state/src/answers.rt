@@ -22,7 +22,7 @@ use apex_types::{
     Request, Who,
 };
 use partition_objects::ObjectTable;
-use process_state::Moment;
+use scheduling::Moment;
 use wait_set::{Actor, ApexObject, Given, judge_value};
 
 impl PartitionState {
@@ -43,6 +43,7 @@ impl PartitionState {
             Request::Object(number, operation) => {
                 Some(self.object_answer(*number, &caller, operation))
             }
+            Request::Preemption(operation) => Some(self.lock.answer(&caller, operation)),
             Request::SamplingPort(..)
             | Request::QueuingPort(..)
             | Request::ReportMessage { .. }
@@ -83,7 +84,8 @@ impl PartitionState {
             | Request::GetId(..)
             | Request::GetStatus(..)
             | Request::ReportMessage { .. }
-            | Request::CreateErrorHandler => false,
+            | Request::CreateErrorHandler
+            | Request::Preemption(..) => false,
         }
     }
 
@@ -145,7 +147,9 @@ impl PartitionState {
         ensures { answer_given result ≡ services.answer_of moment.now.cores.now moment.now.core who self.now (request.Caller operation.now) }
     {
         match operation {
-            CallerOperation::StopSelf => Given::never(),
+            CallerOperation::StopSelf => {
+                Given::never_waking(self.freed_by_stop(i64::from(who.proc.number())))
+            }
             CallerOperation::TimedWait { delay: time }
             | CallerOperation::SuspendSelf { time_out: time } => Given::done_if(*time == 0),
             CallerOperation::PeriodicWait => {
@@ -157,8 +161,8 @@ impl PartitionState {
         }
     }
 
-    // What a service that names the process of this number gives, at this moment: RESUME ends the wait of a process that suspended itself,
-    // and a status is reported.
+    // What a service that names the process of this number gives, at this moment: RESUME ends the wait of a process that suspended itself, a
+    // STOP of the lock's owner that of the process that gets the lock, and a status is reported.
     fn answer_on<'a>(
         &self,
         moment: &Moment<'_>,
@@ -172,12 +176,12 @@ impl PartitionState {
             ProcessOperation::Resume => self.resuming(who, process),
             ProcessOperation::GetStatus => self.process_answer(moment, who, process),
             ProcessOperation::GetMutexState => {
-                Given::values(self.mutex_owned(process), None, None)
+                Given::values(self.mutex_state(process), None, None)
             }
+            ProcessOperation::Stop => Given::waking(self.freed_by_stop(process)),
             ProcessOperation::InitializeCoreAffinity { .. }
             | ProcessOperation::Start
             | ProcessOperation::DelayedStart { .. }
-            | ProcessOperation::Stop
             | ProcessOperation::Suspend
             | ProcessOperation::SetPriority { .. } => Given::done(),
         }

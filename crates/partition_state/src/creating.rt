@@ -16,8 +16,7 @@ use crate::state::PartitionState;
 use apex_machine::Direction;
 use apex_types::{ChanId, Claim, Name, NewObject, Who};
 use module_config::Config;
-use partition_objects::ObjectTable;
-use ports::PortSettings;
+use partition_objects::{ObjectTable, PortSettings};
 use wait_set::ObjFault;
 
 impl PartitionState {

@@ -1,26 +1,25 @@
 // Waits that end, and the processes that leave a waiting set then: by a STOP, at a tick, by a record of others; and returns.
 
-ghost use Rattle.std.specs.Prelude.{◌≡◌, ◌≢◌, ℕ, List, None, IfErr, OnErr, OnOk};
+ghost use Rattle.std.specs.Prelude.{◌≡◌, ◌≢◌, ℕ, List, None, OnErr, OnOk};
 ghost use Rattle.apex_types.specs.declared.record.Body.TheVariants.{Tick};
 ghost use Rattle.apex_machine.specs.declared.state.CoreState.{CoreState};
-ghost use Rattle.apex_machine.specs.After.{each_set, partition_by, partition_woken, returned};
+ghost use Rattle.apex_machine.specs.declared.state.Wait.TheVariants as wait;
+ghost use Rattle.apex_machine.specs.After.{partition_by, partition_woken, returned, sets_left};
+ghost use Rattle.apex_machine.specs.Arguments.{natural_of};
 ghost use Rattle.apex_machine.specs.Configuration.{Configuration};
-ghost use Rattle.apex_machine.specs.Demands.{AllHold, answer_demands};
-ghost use Rattle.apex_machine.specs.Services.{done, peer};
+ghost use Rattle.apex_machine.specs.Services.{peer};
 ghost use Rattle.apex_machine.specs.State.{created, each_item, item_at};
-ghost use Rattle.apex_machine.specs.Waiting.{set_after};
 ghost use Rattle.apex_laws.specs.PartLaws.{HasDistinctObjects, IsSoundPart};
 ghost use Rattle.apex_laws.specs.PartObjects.{left_by};
 ghost use Rattle.apex_laws.specs.PartSets.{left_if_there};
-ghost use Rattle.wait_set.specs.Actors.{Refuses};
-ghost use Rattle.partition_state.specs.Calls.{IsAtWork, served_demands};
+ghost use Rattle.partition_state.specs.Calls.{IsAtWork, with_lock_stopped};
 ghost use Rattle.partition_state.specs.Leaving.{HasEntryWhereItWaits, HasEntryOnlyAt};
 
 use crate::state::PartitionState;
-use apex_machine::Wait;
-use apex_types::{Call, Code, ObjectKind, Out, PartId, Place, ProcId, Who, Woken};
+use apex_machine::{Wait, WaitingSet};
+use apex_types::{Call, ObjectKind, PartId, Place, ProcId, Who, Woken};
 use std::alloc::AllocError;
-use wait_set::{ObjFault, judge_outcome};
+use wait_set::ApexObject;
 
 impl PartitionState {
     /// Takes a process out of the waiting set that this wait names, if it names one. Takes no memory.
@@ -29,9 +28,21 @@ impl PartitionState {
         requires alone { HasEntryOnlyAt who wait self.old }
         ensures { self.new ≡ left_by who wait self.old }
     {
-        let Wait::At(wanted, _) = wait else {
-            return;
-        };
+        match wait {
+            Wait::At(wanted, _) => self.leave_object(who, wanted),
+            Wait::ForLock => {
+                self.lock.leave(who);
+            }
+            _ => {}
+        }
+    }
+
+    // Takes a process out of this waiting set of an object.
+    fn leave_object(&mut self, who: Who, wanted: WaitingSet)
+        requires objects { HasDistinctObjects self.old }
+        requires alone { HasEntryOnlyAt who (wait.At wanted None) self.old }
+        ensures { self.new ≡ left_by who (wait.At wanted None) self.old }
+    {
         match wanted.kind {
             ObjectKind::Buffer => self.buffers.leave(wanted.number, who),
             ObjectKind::Blackboard => self.blackboards.leave(wanted.number, who),
@@ -54,33 +65,27 @@ impl PartitionState {
         }
     }
 
-    /// STOP of the process that a caller gives. If the claim is that the call is done, the process leaves the waiting set in which it
-    /// waits.
-    ///
-    /// Refused, with nothing changed, if the claim is another.
-    pub(crate) fn stop(&mut self, place: Place, call: &Call, process: i64) -> Result<(), ObjFault>
+    /// STOP of the process that a caller gives, by a claim that is what the service gives. The process leaves the waiting set in which it
+    /// waits, and if it owns the lock, gives it up. Takes no memory.
+    pub(crate) fn stop(&mut self, place: Place, call: &Call, process: i64)
         requires at_work { IsAtWork place self.old call.now.who }
         requires found { created self.old.table process ≢ None }
-        ensures ok { OnOk result (AllHold (answer_demands done call.now.claim)) }
-        ensures after { OnOk result (self.new ≡ left_if_there (peer call.now.who process) (created self.old.table process) self.old) }
-        ensures refused { IfErr result (Refuses (answer_demands done call.now.claim)) }
-        ensures unchanged { OnErr result (self.new ≡ self.old) }
+        ensures { self.new ≡ left_if_there (peer call.now.who process) (created self.old.table process) (with_lock_stopped (natural_of process) call.now.claim.woken self.old) }
     {
-        judge_outcome(Out::Answer(Code::NoError), &call.claim).map_err(ObjFault::Unlawful)?;
         if let Some(proc) = self.processes.created_number(process) {
             let target = Who {
                 part: call.who.part,
                 proc,
             };
+            self.lock.stop(proc, call.claim.woken.as_slice());
             self.leave(target);
         }
-        Ok(())
     }
 
     /// The processes of this partition that a tick names leave the waiting sets in which they wait. Takes no memory.
     pub(crate) fn leave_named(&mut self, part: PartId, place: Place, woken: &Woken)
         requires sound { IsSoundPart part place self.old }
-        ensures { self.new ≡ each_set (set_after place (Tick woken.now)) self.old }
+        ensures { self.new ≡ sets_left place (Tick woken.now) self.old }
     {
         let named = woken.as_slice();
         for who in named {

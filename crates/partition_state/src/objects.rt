@@ -1,17 +1,19 @@
 // What an operation makes of the one object that a call names, whatever its kind.
 
-ghost use Rattle.std.specs.Prelude.{◌≡◌, ◌≢◌, [], None, IfErr, IfOk, IfSome, OnErr, OnOk};
+ghost use Rattle.std.specs.Prelude.{◌≡◌, ◌≢◌, ◌∷◌, [], None, IfErr, IfOk, IfSome, OnErr, OnOk};
 ghost use Rattle.apex_machine.specs.Arguments.{natural_of};
-ghost use Rattle.apex_machine.specs.Demands.{AllHold};
+ghost use Rattle.apex_machine.specs.Demands.{AllHold, answer_demands};
+ghost use Rattle.apex_machine.specs.Locks.{lock_effect};
 ghost use Rattle.apex_machine.specs.State.{change_at, given_object};
+ghost use Rattle.partition_objects.specs.Locks.{Owes, after as lock_after};
 ghost use Rattle.wait_set.specs.Actors.{Refuses, entry_with};
 ghost use Rattle.wait_set.specs.Sets.{IsNewInEach};
 ghost use Rattle.partition_state.specs.Calls.{actor_of, used_demands};
 ghost use Rattle.partition_state.specs.Owners.{TransfersBetween};
 
-use apex_types::{Call, Claim, Place};
-use partition_objects::ObjectTable;
-use process_state::Transfer;
+use apex_types::{Call, Claim, LockOperation, Place};
+use partition_objects::{ObjectTable, PreemptionLock};
+use scheduling::Transfer;
 use wait_set::{Actor, ApexObject, ObjFault, Owners};
 
 /// The caller of a call at this place, with the priority that the call claims, as an object sees it.
@@ -45,6 +47,26 @@ pub(crate) fn use_object<Object: ApexObject>(
     ensures unchanged { OnErr result (objects.new ≡ objects.old) }
 {
     let effect = objects.apply(number, caller, operation, claim)?;
+    Ok(transfer_of(effect.owners))
+}
+
+/// Performs an operation on the lock of a partition. No mutex changes its owner.
+///
+/// Refused, with nothing changed, if the claim is not what the lock gives, or if memory is refused.
+pub(crate) fn use_lock(
+    lock: &mut PreemptionLock,
+    caller: Actor,
+    operation: &LockOperation,
+    claim: &Claim,
+) -> Result<Transfer, ObjFault>
+    requires new { IsNewInEach (entry_with caller []) (lock.old.waiters ∷ []) }
+    requires owed { Owes caller operation.now lock.old }
+    ensures ok { OnOk result (AllHold (answer_demands (lock_effect caller.who.proc operation.now lock.old).answer claim.now)) }
+    ensures after { OnOk result (lock.new ≡ lock_after caller operation.now claim.now lock.old) }
+    ensures refused { IfErr result (Refuses (answer_demands (lock_effect caller.who.proc operation.now lock.old).answer claim.now)) }
+    ensures unchanged { OnErr result (lock.new ≡ lock.old) }
+{
+    let effect = lock.apply(caller, operation, claim)?;
     Ok(transfer_of(effect.owners))
 }
 

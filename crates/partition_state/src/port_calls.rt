@@ -6,7 +6,7 @@ ghost use Rattle.partition_state.specs.Calls.{ReadsAtPort, objects_noted};
 
 use crate::state::PartitionState;
 use apex_types::{Call, ChanId, ObjectKind, Request, SamplingOperation};
-use process_state::is_done;
+use scheduling::is_done;
 
 impl PartitionState {
     /// The channel of the port that a request goes through, or None if it goes through no created port.

@@ -10,8 +10,7 @@ ghost use Rattle.apex_machine.specs.declared.state.StartCondition.TheVariants.{P
 use crate::state::PartitionState;
 use apex_machine::{Mode, StartCondition};
 use apex_types::{Call, CoreId, Out, Place, Request};
-use partition_objects::ObjectTable;
-use ports::PortTable;
+use partition_objects::{ObjectTable, PortTable, PreemptionLock};
 
 /// The mode in which a call restarts its caller's partition, if it does: SET_PARTITION_MODE to IDLE, COLD_START or WARM_START
 /// that does not return.
@@ -37,13 +36,14 @@ fn restart_given(mode: i64) -> Option<Mode>
 }
 
 impl PartitionState {
-    /// The partition as SET_PARTITION_MODE starts it in this mode, at this place: it has no error handler, no object and no port, and of its
-    /// processes only the initialising one, which IDLE does not have. Takes no memory.
+    /// The partition as SET_PARTITION_MODE starts it in this mode, at this place: its lock is free, it has no error handler, no object and no
+    /// port, and of its processes only the initialising one, which IDLE does not have. Takes no memory.
     pub(crate) fn restart(&mut self, mode: Mode, first_core: CoreId, place: Place)
         ensures { (configuration : Configuration) (number : ℕ) → first_core_of configuration number ≡ first_core → self.new ≡ started_partition PartitionRestart mode configuration number place }
     {
         self.start = StartCondition::PartitionRestart;
         self.has_handler = false;
+        self.lock = PreemptionLock::new(self.alloc);
         self.processes.restart(mode, first_core, place);
         self.buffers = ObjectTable::new(self.alloc);
         self.blackboards = ObjectTable::new(self.alloc);

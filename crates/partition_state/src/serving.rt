@@ -10,17 +10,19 @@ ghost use Rattle.apex_machine.specs.Waiting.{restart_of as restarted_by};
 ghost use Rattle.apex_laws.specs.PartBounds.{IsBoundedPart};
 ghost use Rattle.apex_laws.specs.PartLaws.{IsSoundPart};
 ghost use Rattle.apex_laws.specs.PartObjects.{objects_changed};
-ghost use Rattle.process_state.specs.Timely.{TimesFit};
-ghost use Rattle.process_state.specs.Transfers.{IsTransferOf};
+ghost use Rattle.scheduling.specs.Timely.{TimesFit};
+ghost use Rattle.scheduling.specs.Transfers.{IsTransferOf};
 ghost use Rattle.wait_set.specs.Actors.{Refuses};
 ghost use Rattle.partition_state.specs.Calls.{IsClear, IsJudged, IsReady, LeavesObjects, RefusesOrWants, object_demands, served, served_demands};
 
-use crate::objects::{caller_of, use_object};
+use crate::objects::{caller_of, use_lock, use_object};
 use crate::restarting::restart_of;
 use crate::state::PartitionState;
-use apex_types::{Call, Cause, ObjectOperation, Out, Place, ProcessOperation, Request};
+use apex_types::{
+    Call, CallerOperation, Cause, ObjectOperation, Out, Place, ProcessOperation, Request,
+};
 use module_config::Config;
-use process_state::{Moment, Transfer};
+use scheduling::{Moment, Transfer};
 use std::alloc::AllocError;
 use wait_set::{ObjFault, judge_outcome};
 
@@ -115,8 +117,8 @@ impl PartitionState {
         Ok(())
     }
 
-    // Judges what a call claims against what its service gives, and changes the objects and the error handler accordingly. Returns what
-    // becomes of the owner of a mutex. A call through a port goes through a channel.
+    // Judges what a call claims against what its service gives, and changes the objects, the lock and the error handler accordingly. Returns
+    // what becomes of the owner of a mutex. A call through a port goes through a channel.
     #[tactic(auto, using(crate::proofs::Clear::at_work, crate::proofs::Served::accepted_ok, crate::proofs::Served::accepted_refused, crate::proofs::Served::changed_is_served))]
     fn operate(
         &mut self,
@@ -133,8 +135,18 @@ impl PartitionState {
     {
         match &call.request {
             Request::Process(process, ProcessOperation::Stop) => {
-                self.stop(moment.place, call, *process)?;
+                self.judge(moment, call).map_err(ObjFault::Unlawful)?;
+                self.stop(moment.place, call, *process);
                 Ok(Transfer::none())
+            }
+            Request::Caller(CallerOperation::StopSelf) => {
+                self.judge(moment, call).map_err(ObjFault::Unlawful)?;
+                self.lock.stop(call.who.proc, call.claim.woken.as_slice());
+                Ok(Transfer::none())
+            }
+            Request::Preemption(operation) => {
+                let caller = caller_of(moment.place, call);
+                use_lock(&mut self.lock, caller, operation, &call.claim)
             }
             Request::Create(name, object) => {
                 self.create(config, call.who, name, object, &call.claim)?;

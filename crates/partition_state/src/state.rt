@@ -3,25 +3,28 @@
 ghost use Rattle.std.specs.Prelude.{◌≡◌, ℕ, [], false, IfOk, OnOk};
 ghost use Rattle.apex_machine.specs.declared.state.StartCondition.TheVariants.{NormalStart};
 ghost use Rattle.apex_machine.specs.Configuration.{Configuration, first_core as first_core_of};
-ghost use Rattle.apex_machine.specs.State.{cold_partition};
-ghost use Rattle.process_state.specs.Processes.{processes_of};
+ghost use Rattle.apex_machine.specs.Choice.{partition_choice};
+ghost use Rattle.apex_machine.specs.State.{cold_partition, free_lock};
+ghost use Rattle.scheduling.specs.Processes.{processes_of};
 ghost use Rattle.partition_state.specs.Calls.{NumbersAreKept};
 
 use apex_machine::StartCondition;
-use apex_types::CoreId;
-use partition_objects::{Blackboard, Buffer, Event, Mutex653, ObjectTable, Semaphore};
-use ports::PortTable;
-use process_state::ProcTable;
+use apex_types::{CoreId, PartId, Who};
+use partition_objects::{
+    Blackboard, Buffer, Event, Mutex653, ObjectTable, PortTable, PreemptionLock, Semaphore,
+};
+use scheduling::ProcTable;
 use std::alloc::{AllocError, Global};
 use std::marker::Model;
 
-/// The state of a partition: its mode and its processes, its start condition, whether it has an error handler, and its objects and ports of
-/// each kind under their numbers, in the order of their creation.
+/// The state of a partition: its mode and its processes, its start condition, whether it has an error handler, its lock, and its objects and
+/// ports of each kind under their numbers, in the order of their creation.
 #[derive(Drop)]
 pub struct PartitionState {
     pub(crate) alloc: Global,
     pub(crate) start: StartCondition,
     pub(crate) has_handler: bool,
+    pub(crate) lock: PreemptionLock,
     pub(crate) processes: ProcTable,
     pub(crate) buffers: ObjectTable<Buffer>,
     pub(crate) blackboards: ObjectTable<Blackboard>,
@@ -37,7 +40,7 @@ impl Model for PartitionState {
 
     ghost Value = { Partition };
 
-    ghost view = { λ state. record { mode = state.processes.mode; start = state.start; has_handler = state.has_handler; table = state.processes.table; buffers = state.buffers; blackboards = state.blackboards; semaphores = state.semaphores; events = state.events; mutexes = state.mutexes; sampling_ports = state.sampling_ports; queuing_ports = state.queuing_ports } };
+    ghost view = { λ state. record { mode = state.processes.mode; start = state.start; has_handler = state.has_handler; lock = state.lock; table = state.processes.table; buffers = state.buffers; blackboards = state.blackboards; semaphores = state.semaphores; events = state.events; mutexes = state.mutexes; sampling_ports = state.sampling_ports; queuing_ports = state.queuing_ports } };
 }
 
 impl PartitionState {
@@ -51,14 +54,16 @@ impl PartitionState {
         Ok(PartitionState::without_objects(alloc, processes))
     }
 
-    // The partition of this mode and these processes as the module starts it, without an error handler, an object or a port. Takes no memory.
+    // The partition of this mode and these processes as the module starts it, with a free lock, and without an error handler, an object or
+    // a port. Takes no memory.
     fn without_objects(alloc: Global, processes: ProcTable) -> PartitionState
-        ensures { result ≡ record { mode = processes.mode; start = NormalStart; has_handler = false; table = processes.table; buffers = []; blackboards = []; semaphores = []; events = []; mutexes = []; sampling_ports = []; queuing_ports = [] } }
+        ensures { result ≡ record { mode = processes.mode; start = NormalStart; has_handler = false; lock = free_lock; table = processes.table; buffers = []; blackboards = []; semaphores = []; events = []; mutexes = []; sampling_ports = []; queuing_ports = [] } }
     {
         PartitionState {
             alloc,
             start: StartCondition::NormalStart,
             has_handler: false,
+            lock: PreemptionLock::new(alloc),
             processes,
             buffers: ObjectTable::new(alloc),
             blackboards: ObjectTable::new(alloc),
@@ -97,6 +102,7 @@ impl PartitionState {
     {
         self.start = other.start;
         self.has_handler = other.has_handler;
+        self.lock = other.lock.clone()?;
         self.copy_objects(other)?;
         self.copy_ports(other)
     }
@@ -131,6 +137,21 @@ impl PartitionState {
         ensures { result ≡ self.now.has_handler }
     {
         self.has_handler
+    }
+
+    /// Its lock on preemption.
+    pub fn lock(&self) -> &PreemptionLock
+        ensures { result.now ≡ self.now.lock }
+    {
+        &self.lock
+    }
+
+    /// The process that this core is to run if the window is this partition's, whose number is given: the owner of the lock if it is ready
+    /// on the core, else the ready process that no other goes before, or None if none is ready.
+    pub fn choice_on(&self, part: PartId, core: CoreId) -> Option<Who>
+        ensures { result ≡ partition_choice part core self.now }
+    {
+        self.processes.choice_on(part, core, self.lock.owner())
     }
 
     /// The buffers.

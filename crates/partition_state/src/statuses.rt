@@ -12,7 +12,7 @@ ghost use Rattle.wait_set.specs.Givens.{answer_given};
 use crate::state::PartitionState;
 use apex_machine::{Mode, Process, StartCondition, Wait};
 use apex_types::Who;
-use process_state::Moment;
+use scheduling::Moment;
 use wait_set::{Given, GivenValue};
 
 impl PartitionState {
@@ -22,7 +22,7 @@ impl PartitionState {
     {
         Given::values(
             GivenValue::Natural(mode_number(self.processes.mode())),
-            Some(GivenValue::Natural(0)),
+            Some(GivenValue::Natural(u64::from(self.lock.level()))),
             Some(GivenValue::Natural(start_number(self.start))),
         )
     }

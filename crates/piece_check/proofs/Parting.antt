@@ -15,7 +15,7 @@ use Rattle.apex_machine.specs.State.{time_of, at_core, cold_core, cold_partition
 use Rattle.apex_machine.specs.Waiting.{ends_wait, enters, entry_of, set_after, without}
 use Rattle.apex_machine.specs.After.{cores_by}
 use Rattle.apex_machine.specs.Pieces.{Module, OfChannel, OfPartition, Part, Piece, ChannelPart, ModulePart, PartitionPart, one_more, part, part_after, time_at, times_by, times_of}
-use Rattle.process_state.specs.Timely.{TimesFit}
+use Rattle.scheduling.specs.Timely.{TimesFit}
 use Rattle.apex_machine.specs.Demands.{AllHold, demands}
 use Rattle.apex_laws.specs.Laws.{AllEntries}
 use Rattle.apex_laws.specs.PartBounds.{PeriodFits}

@@ -23,8 +23,7 @@ use Rattle.apex_machine.specs.Waiting.{ends_wait, enters, is_the_set, is_waiting
 use Rattle.apex_laws.specs.Laws.{AllEntries}
 use Rattle.apex_laws.proofs.Booleans.{cannot_hold, is_itself, neither_first, neither_later, not_second}
 use Rattle.apex_laws.proofs.Restarts.{restart_stops_none}
-use Rattle.apex_laws.proofs.TickLeaves.{without_without}
-use Rattle.apex_laws.proofs.Waiters.{without_same}
+use Rattle.apex_laws.proofs.Waiters.{without_same, without_without}
 use Rattle.channel.specs.Held.{AcceptsArrival, AcceptsDeparture, Held, IsAfterArrival, IsAfterCall, IsAfterDeparture, IsConfigured, crossed}
 use Rattle.partition_state.specs.Calls.{RefusesOrWants}
 use Rattle.wait_set.specs.Actors.{Refuses}

@@ -16,7 +16,7 @@ use Rattle.apex_machine.specs.declared.state.Outcome.{Outcome}
 use Rattle.apex_machine.specs.declared.state.Process.{Process}
 use Rattle.apex_types.specs.declared.shape.End.TheVariants.{Senders, Receivers}
 use Rattle.apex_machine.specs.Channels.{has_channel, is_from_outside, is_to_outside, size_of}
-use Rattle.apex_machine.specs.Choice.{choice_in}
+use Rattle.apex_machine.specs.Choice.{partition_choice}
 use Rattle.apex_machine.specs.Conditions.{owns_mutex}
 use Rattle.apex_machine.specs.Configuration.{Configuration, has_partition}
 use Rattle.apex_machine.specs.Demands.{AllWaitAt, WakesHere, has_entry_in, window_now}
@@ -164,7 +164,7 @@ ShowsOfPartition configuration number cores partition core body cause.Idle shown
 ShowsOfPartition configuration number cores partition core body cause.Window shown =
     shown ≡ evidence.Window (window_now configuration cores core) (occupant_of cores core)
 ShowsOfPartition configuration number cores partition core body cause.Choice shown =
-    shown ≡ evidence.Choice (choice_in number core partition.table) (occupant_of cores core)
+    shown ≡ evidence.Choice (partition_choice number core partition) (occupant_of cores core)
 ShowsOfPartition configuration number cores partition core body cause shown = ShowsOfBody configuration number cores partition core body cause shown
 
 -- channels

@@ -2,7 +2,7 @@
 use Rattle.std.specs.Prelude.{◌≡◌, List}
 use Rattle.apex_types.specs.declared.record.Ordered.{Ordered}
 use Rattle.apex_machine.specs.declared.state.CoreState.{CoreState}
-use Rattle.process_state.specs.declared.moment.Moment.{Moment}
+use Rattle.scheduling.specs.declared.moment.Moment.{Moment}
 
 -- the moment of a record, with these cores
 pub record IsMomentOf (cores : List CoreState) (ordered : Ordered) (moment : Moment) : Type 0 where

@@ -23,9 +23,9 @@ use apex_types::{
     Body, Call, Cause, ChanId, Code, Ordered, Out, Place, ProcId, ProcessOperation, Request, Who,
 };
 use channel::{Channel, QueuingSettings, SamplingSettings};
-use dispatch_rule::Times;
 use module_config::{ChannelKind, Config};
 use partition_state::restart_of;
+use scheduling::Times;
 use std::alloc::{AllocError, Global};
 use wait_set::ObjFault;
 

@@ -9,6 +9,7 @@ mod creations;
 mod errors;
 mod objects;
 mod port_services;
+mod preemption;
 mod processes;
 mod reported;
 
@@ -21,6 +22,7 @@ use module_config::Config;
 use objects::object_conditions;
 use partition_state::PartitionState;
 use port_services::{queuing_conditions, sampling_conditions};
+use preemption::preemption_conditions;
 use processes::{Scheduling, caller_conditions, create_process, process_conditions, set_mode};
 use reported::{id_conditions, status_conditions};
 use wait_set::Conditions;
@@ -59,6 +61,7 @@ pub(crate) fn conditions_of(config: &Config, state: &PartitionState, call: &Call
         Request::GetStatus(kind, object) => status_conditions(state, *kind, *object),
         Request::ReportMessage { length, .. } => report_message(*length),
         Request::CreateErrorHandler => create_error_handler(state),
+        Request::Preemption(operation) => preemption_conditions(state, who, operation),
     }
 }
 
@@ -86,11 +89,11 @@ fn creation(state: &PartitionState, is_taken: bool, is_full: bool) -> Conditions
         .with(is_full, Condition::AllCreated)
 }
 
-// Whether a process may not wait: it is the initialising process, or the owner of a mutex.
+// Whether a process may not wait: it is the initialising process, or the owner of a mutex or of the lock.
 fn may_not_wait(state: &PartitionState, who: Who) -> bool
     ensures { result ≡ shared.may_not_wait who state.now }
 {
-    who.proc.number() == 0 || state.owns_mutex(who.proc)
+    who.proc.number() == 0 || state.owns_mutex(who.proc) || state.owns_lock(who.proc)
 }
 
 // Whether a mode is NORMAL.

@@ -161,7 +161,7 @@ impl PartitionPiece {
                 occupant: self.clock.on(core),
             },
             Cause::Choice => Evidence::Choice {
-                choice: self.state.processes().ready_on(self.number, core),
+                choice: self.state.choice_on(self.number, core),
                 occupant: self.clock.on(core),
             },
             Cause::Names | Cause::Skew | Cause::Idle => Evidence::Nothing,

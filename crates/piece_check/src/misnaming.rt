@@ -139,7 +139,11 @@ fn is_due_after(now: u64, wait: Wait) -> bool
         | Wait::Until(due)
         | Wait::PeriodicRelease(due) => is_reached_after(now, due),
         Wait::Suspended(Some(due)) | Wait::At(_, Some(due)) => is_reached_after(now, due),
-        Wait::Nothing | Wait::NormalMode(_) | Wait::Suspended(None) | Wait::At(_, None) => false,
+        Wait::Nothing
+        | Wait::NormalMode(_)
+        | Wait::Suspended(None)
+        | Wait::At(_, None)
+        | Wait::ForLock => false,
     }
 }
 

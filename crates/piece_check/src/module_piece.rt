@@ -16,8 +16,8 @@ use crate::names::{all_configured, channel_configured, one_configured};
 use crate::views::{crossing_view, dispatch_view, tick_view};
 use crate::windows::{WindowAt, window_by};
 use apex_types::{Body, Call, Cause, CoreId, Crossing, Ordered, Return, View, Who, Woken};
-use dispatch_rule::Clock;
 use module_config::Config;
+use scheduling::Clock;
 use wait_set::ObjFault;
 
 /// The piece of the module: the cores.

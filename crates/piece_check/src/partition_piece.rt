@@ -31,10 +31,9 @@ use apex_types::{
     Body, Call, Cause, CoreId, Crossing, End, Ordered, PartId, Place, ProcId, Return, Service,
     View, Who, Woken,
 };
-use dispatch_rule::Clock;
 use module_config::Config;
 use partition_state::PartitionState;
-use process_state::{Moment, message_of};
+use scheduling::{Clock, Moment, message_of};
 use std::alloc::{AllocError, Global};
 use wait_set::{Conditions, ObjFault};
 
@@ -415,7 +414,7 @@ impl PartitionPiece {
         ensures { Judges (asked_by_partition config.now self.now core (body.Disp who)) result }
     {
         if self.is_in_window(config, core, window)
-            && self.state.processes().ready_on(self.number, core) != who
+            && self.state.choice_on(self.number, core) != who
         {
             return Err(Cause::Choice);
         }
@@ -437,7 +436,7 @@ impl PartitionPiece {
     {
         let occupant = self.clock.on(core);
         if self.is_in_window(config, core, window)
-            && self.state.processes().ready_on(self.number, core) != occupant
+            && self.state.choice_on(self.number, core) != occupant
         {
             return Err(Cause::Choice);
         }
@@ -530,11 +529,10 @@ impl PartitionPiece {
 
     // Whether this process is the core's occupant and the partition's choice.
     fn is_running(&self, core: CoreId, who: Who) -> bool
-        ensures { IsTrue result ↔ IsRunning self.now.number self.now.clock.cores self.now.state.table core who }
+        ensures { IsTrue result ↔ IsRunning self.now.number self.now.clock.cores self.now.state core who }
     {
         let running = Some(who);
-        self.clock.on(core) == running
-            && self.state.processes().ready_on(self.number, core) == running
+        self.clock.on(core) == running && self.state.choice_on(self.number, core) == running
     }
 
     // The outcome that is due to the process, if the process exists and an outcome is due.

@@ -10,8 +10,8 @@ use crate::piece::Piece;
 use crate::subject::Subject;
 use apex_types::PartId;
 use channel::Channel;
-use dispatch_rule::{Clock, Times};
 use partition_state::PartitionState;
+use scheduling::{Clock, Times};
 
 /// What a piece holds, for reading.
 #[derive(Clone, Copy)]

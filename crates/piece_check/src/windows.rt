@@ -6,8 +6,8 @@ ghost use Rattle.piece_check.specs.Found.{IsWindowAt};
 
 use apex_types::limits::MOST_CORES;
 use apex_types::{Body, CoreId, Ordered, PartId};
-use dispatch_rule::Clock;
 use module_config::Config;
+use scheduling::Clock;
 use std::alloc::{AllocError, Global};
 use std::marker::Model;
 

@@ -2,10 +2,10 @@
 use Rattle.std.specs.Prelude.{ℕ, List, ◌++◌, codes, decimal}
 use Rattle.report.specs.declared.fault.CheckFault.{CheckFault}
 use Rattle.report.specs.declared.fault.CheckFault.TheVariants as fault
-use Rattle.rules_file.specs.declared.fault.RuleFault.{RuleFault}
-use Rattle.rules_file.specs.declared.fault.RuleFault.TheVariants as rule
-use Rattle.rules_file.specs.declared.fault.RulesFault.{RulesFault}
-use Rattle.rules_file.specs.declared.fault.RulesFault.TheVariants as rules
+use Rattle.asked_rules.specs.declared.fault.RuleFault.{RuleFault}
+use Rattle.asked_rules.specs.declared.fault.RuleFault.TheVariants as rule
+use Rattle.asked_rules.specs.declared.fault.RulesFault.{RulesFault}
+use Rattle.asked_rules.specs.declared.fault.RulesFault.TheVariants as rules
 use Rattle.program_ends.specs.declared.ending.Ending.{Ending}
 use Rattle.program_ends.specs.declared.ending.Ending.TheVariants.{Own, BadUsage, Unopened, BadRules, BadRule}
 use Rattle.program_ends.specs.declared.refused.UsageFault.{UsageFault}

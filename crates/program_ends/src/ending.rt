@@ -4,8 +4,8 @@ ghost use Rattle.std.specs.Prelude.{◌≡◌, ◌<◌, OnErr, OnOk};
 ghost use Rattle.program_ends.specs.Endings.{exit_status_of};
 ghost use Rattle.sink.specs.Written.{IsCut, IsWritten};
 
+use asked_rules::RuleFault;
 use report::CheckFault;
-use rules_file::RuleFault;
 use sink::{Sink, WriteFault};
 
 /// The exit status if standard output could not be written.

@@ -4,8 +4,8 @@ ghost use Rattle.std.specs.Prelude.{◌≡◌};
 ghost use Rattle.program_ends.specs.Endings.{out_of_memory, refused_rules, refused_words};
 
 use crate::ending::{Ending, OwnEnd};
+use asked_rules::RulesFault;
 use report::CheckFault;
-use rules_file::RulesFault;
 use std::alloc::{AllocError, AllocFailed};
 
 /// Why a command line requests nothing that can be done.

@@ -5,8 +5,8 @@ ghost use Rattle.program_ends.specs.Endings.{rule_fault_name, rule_text, rules_t
 ghost use Rattle.sink.specs.Written.{IsCut, IsWritten};
 
 use crate::ending::{Ending, OwnEnd};
+use asked_rules::RuleFault;
 use itoa::Buffer;
-use rules_file::RuleFault;
 use sink::{Sink, WriteFault, put_all, put_parts};
 
 // The name of a fault of a rule, or of a rules file.

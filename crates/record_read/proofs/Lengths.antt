@@ -33,8 +33,8 @@ pub can_begin_at : (len first : ℕ) → true ≡ nat_lt len (length FIRST_OF_LE
 can_begin_at len first within is =
     let here : IsTrue (can_begin len first) =
     subst (λ n. IsTrue (can_begin len n)) (sym is) (each_can_begin 0 len len first FIRST_OF_LENGTH (omega arith) (grind (arith, nat_tests)) refl) in
-    let parts = and_parts (nat_le first 60) _ here in
-    let low : nat_le first 60 ≡ true = parts.0 in
+    let parts = and_parts (nat_le first (length name_lengths)) _ here in
+    let low : nat_le first (length name_lengths) ≡ true = parts.0 in
     (grind (arith, nat_tests), parts.1)
 
 -- a text is not a name of another length

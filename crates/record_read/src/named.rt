@@ -153,10 +153,10 @@ pub fn find_service(text: &[u8]) -> Option<Service>
     service_from(first_of_length(text.len()), &SERVICES, text)
 }
 
-// The place in the table of the first name of each length, or 60 for a length that no name has.
+// The place in the table of the first name of each length, or 62 for a length that no name has.
 const FIRST_OF_LENGTH: [u8; 33] = [
-    60, 60, 60, 60, 3, 2, 7, 5, 12, 4, 10, 15, 6, 11, 0, 19, 20, 17, 13, 34, 31, 33, 32, 36, 48,
-    60, 58, 60, 60, 60, 60, 60, 1,
+    62, 62, 62, 62, 3, 2, 7, 5, 12, 4, 10, 15, 6, 11, 0, 19, 20, 17, 13, 34, 31, 33, 32, 36, 48,
+    62, 58, 62, 62, 62, 62, 62, 1,
 ];
 
 // The place at which the search for a name of this length begins, so that few names are compared.

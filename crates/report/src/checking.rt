@@ -18,13 +18,12 @@ use core_intake::Intake;
 use csv_rows::TextSource;
 use module_config::Config;
 use order_cert::CertSource;
-use partition_workers::Gate;
 use placement::Placer;
 use std::alloc::Global;
 use std::sync::Wait;
 use std::thread::Threads;
 use user_rules::{Relation, Rule, Test};
-use verdict_merge::Verdict;
+use verdict_merge::{Gate, Verdict};
 
 /// Checks the recordings against the configuration, the order that the certificate proposes, and the user's rules.
 ///

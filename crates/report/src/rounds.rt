@@ -18,14 +18,13 @@ use crate::witness::{Witness, tell};
 use apex_types::Ordered;
 use csv_rows::TextSource;
 use module_config::Config;
-use partition_workers::{Gate, Judge};
 use placement::{Filled, InputFault, Placer};
 use std::alloc::Global;
 use std::mem;
 use std::sync::Wait;
 use std::thread::{Threads, join_mut};
 use user_rules::Rule;
-use verdict_merge::{Memory, Verdict};
+use verdict_merge::{Gate, Judge, Memory, Verdict};
 
 /// What records are judged under: the configuration and the rules, and how the check is carried out.
 #[derive(Drop)]

@@ -11,10 +11,9 @@ ghost use Rattle.report.specs.Shown.{IsReachedBefore, IsSeenAt, StillBreaks, Sti
 use crate::fault::CheckFault;
 use apex_types::{Cause, Ordered, Place, View};
 use module_config::Config;
-use partition_workers::Judge;
 use piece_check::Piece;
 use user_rules::Rule;
-use verdict_merge::Verdict;
+use verdict_merge::{Judge, Verdict};
 
 /// Who receives what is at the place of a No or of a broken rule, to explain it to a person. No answer hangs on a witness.
 pub trait Witness {

@@ -1,10 +1,11 @@
 // What shows that a demand of a piece fails.
 
+use crate::records::config_of;
+use crate::texts::MODULE;
 use apex_types::{Body, Cause, CoreId, Ordered, PartId, Place, ProcId, Record, Who};
 use piece_check::Evidence;
 use std::alloc::Global;
 use std::test::Fail;
-use test_runs::{MODULE, config_of};
 use verdict_merge::start_pieces;
 
 // A process of partition 1.

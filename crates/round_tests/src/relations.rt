@@ -1,9 +1,9 @@
 // Which views meet a relation, and the first view that breaks a rule, found by several threads and by one.
 
+use crate::rule;
 use apex_types::{Field, View};
 use std::alloc::Global;
 use std::test::Fail;
-use test_runs::rule;
 use user_rules::{Broken, Relation, first_broken, first_broken_in_turn, first_rule_broken};
 
 fn view_of_kind(kind: i64) -> View {

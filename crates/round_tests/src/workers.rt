@@ -3,22 +3,25 @@
 ghost use Rattle.std.specs.Prelude.{◌≡◌, [], IfOk, IfSome};
 ghost use Rattle.apex_machine.specs.Runs.{ArePlaced, AreOfCores};
 ghost use Rattle.piece_check.specs.Touching.{AreSortedOut, indices_of};
-ghost use Rattle.partition_workers.specs.Contents.{AreGoingFrom, IsOpen, content_of, parts_held};
+ghost use Rattle.verdict_merge.specs.Contents.{AreGoingFrom, IsOpen, content_of, parts_held};
 
+use crate::gates::Meeting;
+use crate::records::{config_of, records_of};
+use crate::rule;
+use crate::texts::{BOTH, MODULE, RECEIVER, SENDER};
 use apex_types::{Body, Cause, CoreId, Field, Ordered, PartId, Place, ProcId, Record, Who, Woken};
 use module_config::Config;
-use partition_workers::{
-    Board, Done, Gate, Naming, Open, PostFault, PostRefusal, Round, RoundFault, run_round,
-};
 use piece_check::{Piece, Touched};
 use std::alloc::{AllocError, Global};
 use std::marker::Brand;
 use std::sync::Wait;
 use std::test::Fail;
 use std::thread::Threads;
-use test_runs::{BOTH, MODULE, Meeting, RECEIVER, SENDER, config_of, records_of, rule};
 use user_rules::{Relation, Rule};
-use verdict_merge::{Judged, Lent, Refused, start_pieces};
+use verdict_merge::{
+    Board, Done, Gate, Judged, Lent, Naming, Open, PostFault, PostRefusal, Refused, Round,
+    RoundFault, run_round, start_pieces,
+};
 
 // A record at its place.
 fn ordered(pos: Place, core: u8, body: Body) -> Ordered

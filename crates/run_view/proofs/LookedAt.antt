@@ -6,7 +6,7 @@ use Rattle.apex_machine.specs.Configuration.{Configuration}
 use Rattle.apex_machine.specs.Pieces.{Part, ChannelPart, ModulePart, PartitionPart, touches}
 use Rattle.apex_machine.specs.State.{Partition}
 use Rattle.channel.specs.Held.{Held}
-use Rattle.dispatch_rule.specs.Clocks.{Clocks}
+use Rattle.scheduling.specs.Clocks.{Clocks}
 use Rattle.piece_check.specs.declared.seen.Seen.TheVariants as seen
 use Rattle.piece_check.specs.Parts.{holder}
 use Rattle.piece_check.specs.Seen.{IsSeen}

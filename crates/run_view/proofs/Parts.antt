@@ -5,7 +5,7 @@ use Rattle.std.specs.List.{Contains, slice_get}
 use Rattle.apex_machine.specs.Pieces.{Part, ChannelPart, ModulePart, PartitionPart}
 use Rattle.apex_machine.specs.State.{Partition}
 use Rattle.channel.specs.Held.{Held}
-use Rattle.dispatch_rule.specs.Clocks.{Clocks}
+use Rattle.scheduling.specs.Clocks.{Clocks}
 use Rattle.piece_check.specs.declared.seen.Seen.TheVariants as seen
 use Rattle.piece_check.specs.Seen.{IsSeen}
 

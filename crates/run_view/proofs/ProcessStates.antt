@@ -15,3 +15,4 @@ waiting_is_not_ready (wait.Until due) waits = refl
 waiting_is_not_ready (wait.PeriodicRelease due) waits = refl
 waiting_is_not_ready (wait.Suspended due) waits = refl
 waiting_is_not_ready (wait.At set due) waits = refl
+waiting_is_not_ready wait.ForLock waits = refl

@@ -7,7 +7,7 @@ use Rattle.apex_types.specs.declared.record.Who.{Who}
 use Rattle.apex_machine.specs.Answer.{NamesExactly}
 use Rattle.apex_machine.specs.Pieces.{Part, ChannelPart, ModulePart, PartitionPart}
 use Rattle.apex_machine.specs.State.{Partition, Table}
-use Rattle.dispatch_rule.specs.Clocks.{Clocks}
+use Rattle.scheduling.specs.Clocks.{Clocks}
 use Rattle.piece_check.specs.declared.seen.Seen.{Seen}
 use Rattle.piece_check.specs.declared.seen.Seen.TheVariants as seen
 use Rattle.piece_check.specs.Seen.{IsSeen}

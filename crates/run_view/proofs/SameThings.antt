@@ -13,7 +13,7 @@ use Rattle.run_view.specs.contracts.seen_object.SeenObjectPartialEq.TheImpl as s
 use Rattle.run_view.specs.contracts.thing.ContentsPartialEq.TheImpl as contents
 use Rattle.run_view.specs.contracts.thing.ThingViewPartialEq.TheImpl as thing_views
 use Rattle.run_view.specs.contracts.waiter.WaiterPartialEq.TheImpl as waiters
-use Rattle.run_view.specs.Plain.{PlainContents, PlainObject, PlainThing, board, event, mutex, plain, plain_contents, plain_object, queue, sampled, semaphore}
+use Rattle.run_view.specs.Plain.{PlainContents, PlainObject, PlainThing, board, event, lock, mutex, plain, plain_contents, plain_object, queue, sampled, semaphore}
 use Rattle.run_view.proofs.SameViews.{same_waiter}
 use Rattle.run_view.proofs.SameWaits.{same_option, same_shown_option}
 
@@ -74,6 +74,12 @@ mutex_of {o} {p} {c} {d} {k} {l} parts = ap (λ one. mutex one c k) parts.0 ∙ 
 of_mutex : (o p : Option ℕ) (c d k l : ℕ) → mutex o c k ≡ mutex p d l → (o ≡ p) × ((c ≡ d) × (k ≡ l))
 of_mutex o p c d k l same = (cc, (cc, cc))
 
+lock_of : {o p : Option ℕ} {k l : ℕ} → (o ≡ p) × (k ≡ l) → lock o k ≡ lock p l
+lock_of {o} {p} {k} {l} parts = ap (λ one. lock one k) parts.0 ∙ ap (λ one. lock p one) parts.1
+
+of_lock : (o p : Option ℕ) (k l : ℕ) → lock o k ≡ lock p l → (o ≡ p) × (k ≡ l)
+of_lock o p k l same = (cc, cc)
+
 of_sampled : (o p : Option (List ℕ × ℕ)) → sampled o ≡ sampled p → o ≡ p
 of_sampled o p same = cc
 
@@ -94,6 +100,9 @@ same_contents (held.Event up) (held.Event other) = same_flag up other
 same_contents (held.Mutex owner count priority) (held.Mutex other times ceiling) =
     let all = Decides-and _ _ (same_option ◌==◌ Decides-eqb owner other) (Decides-and _ _ (Decides-eqb count times) (Decides-eqb priority ceiling)) in
     (λ holds. mutex_of (all.0 holds), λ same. all.1 (of_mutex owner other count times priority ceiling same))
+same_contents (held.Lock owner level) (held.Lock other depth) =
+    let all = Decides-and _ _ (same_option ◌==◌ Decides-eqb owner other) (Decides-eqb level depth) in
+    (λ holds. lock_of (all.0 holds), λ same. all.1 (of_lock owner other level depth same))
 same_contents (held.Sampled written) (held.Sampled other) =
     let sample = same_shown_option samples_alike plain_sample same_sample written other in
     (λ holds. ap sampled (sample.0 holds), λ same. sample.1 (of_sampled (option_map plain_sample written) (option_map plain_sample other) same))

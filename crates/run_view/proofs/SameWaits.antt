@@ -73,6 +73,7 @@ same_set a b =
 -- waits are equal exactly if they are the same
 pub same_wait : (a b : Wait) → Decides (waits.eq-value.it a b) (a ≡ b)
 same_wait wait.Nothing wait.Nothing = (λ _. refl, λ _. refl)
+same_wait wait.ForLock wait.ForLock = (λ _. refl, λ _. refl)
 same_wait (wait.NormalMode a) (wait.NormalMode b) = (λ holds. ap wait.NormalMode ((Decides-int_eq a b).0 holds), λ same. (Decides-int_eq a b).1 cc)
 same_wait (wait.FirstRelease a) (wait.FirstRelease b) = (λ holds. ap wait.FirstRelease ((Decides-eqb a b).0 holds), λ same. (Decides-eqb a b).1 cc)
 same_wait (wait.Delay a) (wait.Delay b) = (λ holds. ap wait.Delay ((Decides-eqb a b).0 holds), λ same. (Decides-eqb a b).1 cc)

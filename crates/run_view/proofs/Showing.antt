@@ -10,7 +10,7 @@ use Rattle.run_view.specs.Waiters.{in_turn}
 use Rattle.partition_objects.specs.Buffers.{buffer_of}
 use Rattle.channel.specs.Held.{Held}
 use Rattle.channel.specs.Kinds.{is_sampled, last_written, queuing_held}
-use Rattle.message_queue.specs.Queues.{Queue}
+use Rattle.wait_set.specs.Queues.{Queue}
 use Rattle.piece_check.specs.Parts.{Holding}
 use Rattle.run_view.specs.declared.thing.ThingKey.{ThingKey}
 use Rattle.run_view.specs.declared.thing.ThingView.{ThingView}
@@ -19,13 +19,13 @@ use Rattle.std.specs.Result.{IfOk}
 use Rattle.apex_types.specs.declared.object_kind.ObjectKind.{ObjectKind}
 use Rattle.apex_machine.specs.Pieces.{ChannelPart, ModulePart, OfChannel, OfPartition, Part, PartitionPart}
 use Rattle.apex_machine.specs.State.{Partition}
-use Rattle.dispatch_rule.specs.Clocks.{Clocks}
+use Rattle.scheduling.specs.Clocks.{Clocks}
 use Rattle.piece_check.specs.declared.seen.Seen.TheVariants as seen
 use Rattle.piece_check.specs.Parts.{holder}
 use Rattle.piece_check.specs.Seen.{IsSeen}
 use Rattle.run_view.specs.declared.thing.ThingKey.TheVariants as key
 use Rattle.run_view.proofs.Parts.{channel_seen, partition_seen}
-use Rattle.run_view.specs.Things.{AreAll, Shows, ShowsBuffer, ShowsChannel, ShowsHeld, ShowsIn, ShowsInOne, ShowsObject, ShowsQueued, ShowsSample, ShowsThing, all_in_turn, holds}
+use Rattle.run_view.specs.Things.{AreAll, Shows, ShowsBuffer, ShowsChannel, ShowsHeld, ShowsIn, ShowsInOne, ShowsLock, ShowsObject, ShowsQueued, ShowsSample, ShowsThing, all_in_turn, holds}
 
 -- nothing is shown of an object that does not exist
 pub shows_none : {Object : Type 0} (Shown : Object → ThingView → Type 0) (found : Option Object) → None ≡ found → Shows Shown found None
@@ -75,24 +75,34 @@ sampling_shown held view sampled named shown no_senders nobody = (named, by held
     by (Sampled last) is_it sample = (sample, no_senders, nobody)
     by (Queued messages) is_it sample = cc
 
--- which part an object or a channel is in
+-- which part an object, a lock or a channel is in
 
 pub holds_object : (part : Part) (number chosen : ℕ) (kind : ObjectKind) (object : ℕ) → OfPartition number ≡ holder part → nat_eq number chosen ≡ holds part (key.Object chosen kind object)
 holds_object (ModulePart cores) number chosen kind object is = cc
 holds_object (PartitionPart other cores partition) number chosen kind object is = (let same : number ≡ other = cc in ap (λ one. nat_eq one chosen) same)
 holds_object (ChannelPart other times channel) number chosen kind object is = cc
 
+pub holds_lock : (part : Part) (number chosen : ℕ) → OfPartition number ≡ holder part → nat_eq number chosen ≡ holds part (key.Lock chosen)
+holds_lock (ModulePart cores) number chosen is = cc
+holds_lock (PartitionPart other cores partition) number chosen is = (let same : number ≡ other = cc in ap (λ one. nat_eq one chosen) same)
+holds_lock (ChannelPart other times channel) number chosen is = cc
+
 pub holds_channel : (part : Part) (number chosen : ℕ) → OfChannel number ≡ holder part → nat_eq number chosen ≡ holds part (key.Channel chosen)
 holds_channel (ModulePart cores) number chosen is = cc
 holds_channel (PartitionPart other cores partition) number chosen is = cc
 holds_channel (ChannelPart other times channel) number chosen is = (let same : number ≡ other = cc in ap (λ one. nat_eq one chosen) same)
 
--- what is shown of an object or a channel that is in a part
+-- what is shown of an object, a lock or a channel that is in a part
 
 pub object_in : {Error : Type 0} (part : Part) (number : ℕ) (clock : Bor Clocks) (state : Bor Partition) (chosen : ℕ) (kind : ObjectKind) (object : ℕ) (result : Result (Option ThingView) Error)
     → IsSeen part (seen.Partition number clock state) → IfOk result (ShowsObject kind object state.now) → IfOk result (ShowsIn part (key.Object chosen kind object))
 object_in part number clock state chosen kind object result is shown =
     subst (λ (one : Part). IfOk result (ShowsIn one (key.Object chosen kind object))) (sym (partition_seen part number clock state is)) shown
+
+pub lock_in : (part : Part) (number : ℕ) (clock : Bor Clocks) (state : Bor Partition) (chosen : ℕ) (view : ThingView) → IsSeen part (seen.Partition number clock state)
+    → ShowsLock state.now.lock view → ShowsIn part (key.Lock chosen) (Some view)
+lock_in part number clock state chosen view is shown =
+    subst (λ (one : Part). ShowsIn one (key.Lock chosen) (Some view)) (sym (partition_seen part number clock state is)) shown
 
 pub channel_in : (part : Part) (times : Bor (List ℕ)) (channel : Bor Held) (chosen : ℕ) (view : ThingView) → IsSeen part (seen.Channel times channel) → ShowsChannel channel.now view
     → ShowsIn part (key.Channel chosen) (Some view)

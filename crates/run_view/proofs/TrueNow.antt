@@ -86,7 +86,8 @@ true_of_partition : (number : ℕ) (partition : Partition) (before after : Piece
 true_of_partition number partition before after change sees (inl found) = true_of_mode number partition before.mode after.mode change sees.mode found
 true_of_partition number partition before after change sees (inr (inl (inl found))) = true_of_change number partition before.processes after.processes change sees.processes found
 true_of_partition number partition before after change sees (inr (inl (inr found))) = true_of_end number partition before.processes after.processes change sees.processes found
-true_of_partition number partition before after change sees (inr (inr found)) =
+true_of_partition number partition before after change sees (inr (inr (inl found))) = subst (λ one. IsOfPartition number partition one) (sym found.1) refl
+true_of_partition number partition before after change sees (inr (inr (inr found))) =
     true_of_object number found.0 partition (objects_of before found.0) (objects_of after found.0) change (sees.objects found.0) found.1
 
 -- what is found in a part that is seen as it is is true of it

@@ -19,7 +19,7 @@ IsOfCores configuration cores (change.Core view) = view ≡ shown_core configura
 IsOfCores configuration cores other = ⊥
 
 -- a change of a partition: its mode; a process as it is in its table, or the end of one that is not in it; an object that is in its table,
--- or the end of one that is not in it
+-- or the end of one that is not in it; its lock
 abbrev pub IsOfPartition : ℕ → Partition → Change → Type 0
 IsOfPartition number partition (change.Mode part mode) = (part ≡ number) × (mode ≡ partition.mode)
 IsOfPartition number partition (change.Process who view) =
@@ -27,6 +27,7 @@ IsOfPartition number partition (change.Process who view) =
 IsOfPartition number partition (change.Ended who) = (who.part ≡ number) × ¬ Contains (numbers_in partition.table) who.proc
 IsOfPartition number partition (change.Thing (key.Object part kind object)) = (part ≡ number) × Contains (numbers_of kind partition) object
 IsOfPartition number partition (change.Removed (key.Object part kind object)) = (part ≡ number) × ¬ Contains (numbers_of kind partition) object
+IsOfPartition number partition (change.Thing (key.Lock part)) = part ≡ number
 IsOfPartition number partition other = ⊥
 
 -- a change of a channel

@@ -13,6 +13,7 @@ pub data PlainContents : Type 0 where
   semaphore : (value maximum : ℕ) → PlainContents
   event : (is_up : Bool) → PlainContents
   mutex : (owner : Option ℕ) (count priority : ℕ) → PlainContents
+  lock : (owner : Option ℕ) (level : ℕ) → PlainContents
   sampled : (written : Option (List ℕ × ℕ)) → PlainContents
 
 -- an object or a channel: its name, what it holds, and who waits there
@@ -33,6 +34,7 @@ plain_contents (contents.Board shown) = board (option_map (λ bytes. bytes.items
 plain_contents (contents.Semaphore value maximum) = semaphore value maximum
 plain_contents (contents.Event is_up) = event is_up
 plain_contents (contents.Mutex owner count priority) = mutex owner count priority
+plain_contents (contents.Lock owner level) = lock owner level
 plain_contents (contents.Sampled written) = sampled (option_map (λ sample. (sample.0.items, sample.1)) written)
 
 abbrev pub plain : ThingView → PlainThing

@@ -8,7 +8,7 @@ use Rattle.apex_types.specs.declared.record.Ordered.{Ordered}
 use Rattle.apex_machine.specs.declared.state.Mode.{Mode}
 use Rattle.apex_machine.specs.Configuration.{Configuration}
 use Rattle.apex_machine.specs.Pieces.{Part, ChannelPart, ModulePart, PartitionPart, touches}
-use Rattle.apex_machine.specs.State.{Channel, Partition}
+use Rattle.apex_machine.specs.State.{Channel, Lock, Partition}
 use Rattle.piece_check.specs.Parts.{Holding, holder}
 use Rattle.run_view.specs.declared.change.Change.{Change}
 use Rattle.run_view.specs.declared.change.Change.TheVariants as variant
@@ -26,13 +26,14 @@ use Rattle.run_view.specs.Objects.{ShowsKind}
 use Rattle.run_view.specs.Plain.{PlainObject, PlainThing, plain, plain_objects}
 use Rattle.run_view.specs.ProcessChanges.{IsFoundInProcesses}
 use Rattle.run_view.specs.Processes.{shown_entry}
-use Rattle.run_view.specs.Things.{ShowsPlain}
+use Rattle.run_view.specs.Things.{ShowsLock, ShowsPlain}
 
--- what is seen of a piece: the cores of the module; the mode, the processes and the objects of a partition; a channel
+-- what is seen of a piece: the cores of the module; the mode, the processes, the lock and the objects of a partition; a channel
 pub record PieceSeen : Type 0 where
   pub cores : List CoreView
   pub mode : Option Mode
   pub processes : List SeenProcess
+  pub lock : Option PlainThing
   pub buffers : List PlainObject
   pub blackboards : List PlainObject
   pub semaphores : List PlainObject
@@ -52,9 +53,9 @@ objects_of seen kind.QueuingPort = []
 
 -- nothing is seen
 abbrev pub nothing_seen : PieceSeen
-nothing_seen = record { cores = []; mode = None; processes = []; buffers = []; blackboards = []; semaphores = []; events = []; mutexes = []; channel = None }
+nothing_seen = record { cores = []; mode = None; processes = []; lock = None; buffers = []; blackboards = []; semaphores = []; events = []; mutexes = []; channel = None }
 
--- a channel that is seen, if there is one
+-- a channel or a lock that is seen, if one is
 abbrev pub option_plain : Option ThingView → Option PlainThing
 option_plain view = option_map plain view
 
@@ -63,6 +64,7 @@ piece_seen piece = record {
   cores = piece.cores.items;
   mode = piece.mode;
   processes = piece.processes.items;
+  lock = option_plain piece.lock;
   buffers = plain_objects piece.buffers.items;
   blackboards = plain_objects piece.blackboards.items;
   semaphores = plain_objects piece.semaphores.items;
@@ -79,10 +81,15 @@ seen_of seen number = slice_index_or (map piece_seen seen.pieces.items) number n
 abbrev pub room_of : LastSeen → ℕ
 room_of seen = length seen.pieces.items
 
+-- a lock is seen as it is; one that is free may be unseen
+abbrev pub SeesLock : Lock → Option PlainThing → Type 0
+SeesLock lock seen = ((lock.owner ≡ None) × (seen ≡ None)) ⊎ ((view : ThingView) × ShowsLock lock view × (seen ≡ Some (plain view)))
+
 -- a partition is seen as it is
 pub record SeesPartition (partition : Partition) (seen : PieceSeen) : Type 0 where
   pub mode : seen.mode ≡ Some partition.mode
   pub processes : seen.processes ≡ map shown_entry partition.table
+  pub lock : SeesLock partition.lock seen.lock
   pub objects : (kind : ObjectKind) → ShowsKind kind partition (objects_of seen kind)
 
 -- a channel is seen as it is
@@ -99,11 +106,16 @@ Sees configuration (ChannelPart number times channel) seen = SeesChannel channel
 abbrev pub IsFoundInMode : ℕ → Option Mode → Option Mode → Change → Type 0
 IsFoundInMode part before after change = (mode : Mode) × (after ≡ Some mode) × (¬ (before ≡ after)) × (change ≡ variant.Mode part mode)
 
--- a change of what a partition holds: of its mode, of its processes, or of its objects of some kind
+-- the change of a lock, if it was not seen as it is now
+abbrev pub IsFoundInLock : ℕ → Option PlainThing → Option PlainThing → Change → Type 0
+IsFoundInLock part before after change = (¬ (before ≡ after)) × (change ≡ variant.Thing (key.Lock part))
+
+-- a change of what a partition holds: of its mode, of its processes, of its lock, or of its objects of some kind
 abbrev pub IsFoundInPartition : ℕ → PieceSeen → PieceSeen → Change → Type 0
 IsFoundInPartition part before after change =
     IsFoundInMode part before.mode after.mode change
     ⊎ IsFoundInProcesses part before.processes after.processes change
+    ⊎ IsFoundInLock part before.lock after.lock change
     ⊎ ((kind : ObjectKind) × IsFoundInKind part kind (objects_of before kind) (objects_of after kind) change)
 
 -- the change of a channel, if it was not seen as it is now

@@ -2,13 +2,14 @@
 use Rattle.std.specs.Prelude.{◌≡◌, ℕ, List, [], Option, Some, None, Bool, false, nat_eq, length, option_map, slice_get}
 use Rattle.std.specs.List.{find}
 use Rattle.apex_types.specs.declared.discipline.Discipline.{Discipline}
+use Rattle.apex_types.specs.declared.discipline.Discipline.TheVariants.{Priority}
 use Rattle.apex_types.specs.declared.object_kind.ObjectKind.{ObjectKind}
 use Rattle.apex_types.specs.declared.object_kind.ObjectKind.TheVariants as kind
 use Rattle.apex_machine.specs.declared.state.Entry.{Entry}
 use Rattle.apex_machine.specs.Pieces.{Part, ChannelPart, PartitionPart}
-use Rattle.apex_machine.specs.State.{Blackboard, Buffer, Channel, Content, Event, Mutex, Partition, Queued, Sampled, Semaphore, Stamped, item_at}
+use Rattle.apex_machine.specs.State.{Blackboard, Buffer, Channel, Content, Event, Lock, Mutex, Partition, Queued, Sampled, Semaphore, Stamped, item_at}
 use Rattle.channel.specs.Held.{Held, Settings, ForQueuing, ForSampling}
-use Rattle.message_queue.specs.Queues.{Queue}
+use Rattle.wait_set.specs.Queues.{Queue}
 use Rattle.piece_check.specs.Parts.{Holding}
 use Rattle.run_view.specs.declared.thing.Contents.{Contents}
 use Rattle.run_view.specs.declared.thing.Contents.TheVariants as contents
@@ -77,6 +78,14 @@ ShowsMutex mutex view =
     × (view.senders.items ≡ [])
     × (view.waiters.items ≡ all_in_turn mutex.discipline mutex.waiters)
 
+-- what is shown of the lock of a partition, which has no name: its owner, its level, and the processes that wait
+abbrev pub ShowsLock : Lock → ThingView → Type 0
+ShowsLock lock view =
+    (view.name.items ≡ [])
+    × (view.contents ≡ contents.Lock lock.owner lock.level)
+    × (view.senders.items ≡ [])
+    × (view.waiters.items ≡ all_in_turn Priority lock.waiters)
+
 -- an object is shown if it exists
 abbrev pub Shows : {Object : Type 0} → (Object → ThingView → Type 0) → Option Object → Option ThingView → Type 0
 Shows shows None None = Unit {0}
@@ -117,15 +126,17 @@ abbrev pub ShowsPlain : Channel → ThingView → Type 0
 ShowsPlain channel view =
     (settings : Settings) × (view.name.items ≡ []) × ShowsHeld channel.content settings channel.senders channel.receivers view
 
--- whether an object or a channel is in this part: an object is in that of its partition
+-- whether an object, a lock or a channel is in this part: an object and a lock are in that of their partition
 abbrev pub holds : Part → ThingKey → Bool
 holds (PartitionPart number cores partition) (key.Object part kind object) = nat_eq number part
+holds (PartitionPart number cores partition) (key.Lock part) = nat_eq number part
 holds (ChannelPart number times channel) (key.Channel chosen) = nat_eq number chosen
 holds part key = false
 
 -- what is shown of an object or a channel that is in this part
 abbrev pub ShowsIn : Part → ThingKey → Option ThingView → Type 0
 ShowsIn (PartitionPart number cores partition) (key.Object part kind object) view = ShowsObject kind object partition view
+ShowsIn (PartitionPart number cores partition) (key.Lock part) view = Shows ShowsLock (Some partition.lock) view
 ShowsIn (ChannelPart number times channel) (key.Channel chosen) view = Shows ShowsPlain (Some channel) view
 ShowsIn part key view = view ≡ None
 

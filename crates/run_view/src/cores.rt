@@ -4,8 +4,8 @@ ghost use Rattle.std.specs.Prelude.{◌≡◌};
 ghost use Rattle.run_view.specs.Cores.{shown_core};
 
 use apex_types::{CoreId, PartId, Who};
-use dispatch_rule::Clock;
 use module_config::Config;
+use scheduling::Clock;
 
 /// A core: its time in ticks, the process to which the last dispatch gave it, and the partition whose window it is in.
 #[derive(Clone, Copy, Debug, PartialEq, Eq)]

@@ -4,14 +4,14 @@ ghost use Rattle.std.specs.Prelude.{◌≡◌, ◌≢◌, ◌<◌, ◌≤◌, �
 ghost use Rattle.std.specs.Option.{option_copied};
 ghost use Rattle.run_view.specs.Adds.{Adds};
 ghost use Rattle.run_view.specs.Changes.{AddsOnly, IsOfOne};
-ghost use Rattle.run_view.specs.Seen.{IsFound, IsFoundAt, IsFoundInChannel, IsFoundInMode, IsFoundInPart, IsFoundInPartition, Sees, SeesAfter, SeesAllAfter, SeesChannel, SeesPartition, ends_no_wait, is_module, looks_at, nothing_seen, option_plain, piece_seen, room_of, seen_of};
+ghost use Rattle.run_view.specs.Seen.{IsFound, IsFoundAt, IsFoundInChannel, IsFoundInLock, IsFoundInMode, IsFoundInPart, IsFoundInPartition, Sees, SeesAfter, SeesAllAfter, SeesChannel, SeesLock, SeesPartition, ends_no_wait, is_module, looks_at, nothing_seen, option_plain, piece_seen, room_of, seen_of};
 
 use crate::change::{Change, add};
 use crate::cores::CoreView;
 use crate::seen_core::look_at_cores;
 use crate::seen_object::{SeenObject, look_at_kind};
 use crate::seen_process::{SeenProcess, look_at_processes};
-use crate::thing::{ThingKey, ThingView, channel_view};
+use crate::thing::{ThingKey, ThingView, channel_view, lock_view};
 use apex_machine::Mode;
 use apex_types::{Body, ObjectKind, Ordered, PartId};
 use channel::Channel;
@@ -28,13 +28,14 @@ pub struct LastSeen {
     pieces: Vec<SeenPiece>,
 }
 
-// What was last seen of a piece: of the module its cores, of a partition its mode, its processes and its objects of each kind in the order
-// of their creation, or a channel.
+// What was last seen of a piece: of the module its cores, of a partition its mode, its processes, its lock once a process has owned it, and
+// its objects of each kind in the order of their creation, or a channel.
 #[derive(Drop)]
 struct SeenPiece {
     cores: Vec<CoreView>,
     mode: Option<Mode>,
     processes: Vec<SeenProcess>,
+    lock: Option<ThingView>,
     buffers: Vec<SeenObject>,
     blackboards: Vec<SeenObject>,
     semaphores: Vec<SeenObject>,
@@ -160,6 +161,7 @@ impl SeenPiece {
             cores: Vec::new(alloc),
             mode: None,
             processes: Vec::new(alloc),
+            lock: None,
             buffers: Vec::new(alloc),
             blackboards: Vec::new(alloc),
             semaphores: Vec::new(alloc),
@@ -204,6 +206,7 @@ impl SeenPiece {
     {
         look_at_mode(&mut self.mode, part, state, changes)?;
         look_at_processes(alloc, &mut self.processes, part, state, changes)?;
+        look_at_lock(alloc, &mut self.lock, part, state, changes)?;
         let buffer = ObjectKind::Buffer;
         look_at_kind(alloc, &mut self.buffers, buffer, part, state, changes)?;
         let blackboard = ObjectKind::Blackboard;
@@ -241,6 +244,31 @@ fn look_at_mode(
     } else {
         Ok(())
     }
+}
+
+// Adds the lock of a partition, if it is no longer as it was seen. It is then seen as it is. A free lock that was not seen stays unseen, so
+// that a partition that never uses its lock has no lane for it.
+fn look_at_lock(
+    alloc: Global,
+    seen: &mut Option<ThingView>,
+    part: PartId,
+    state: &PartitionState,
+    changes: &mut Vec<Change>,
+) -> Result<(), AllocError>
+    ensures seen { OnOk result (SeesLock state.now.lock (option_plain seen.new)) }
+    ensures changes { OnOk result (Adds (IsFoundInLock part (option_plain seen.old) (option_plain seen.new)) changes.old.items changes.new.items) }
+{
+    let lock = state.lock();
+    if seen.is_none() && lock.owner().is_none() {
+        return Ok(());
+    }
+    let view = Some(lock_view(alloc, lock)?);
+    let is_new = *seen != view;
+    *seen = view;
+    if !is_new {
+        return Ok(());
+    }
+    add(changes, Change::Thing(ThingKey::Lock(part)))
 }
 
 // Adds a channel, if it no longer holds what was seen. It is then seen as it is.

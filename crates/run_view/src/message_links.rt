@@ -339,7 +339,7 @@ fn is_waiting(senders: &[Waiter], sent: &Sent) -> bool {
 fn is_object_of(key: &ThingKey, part: PartId) -> bool {
     match key {
         ThingKey::Object { part: other, .. } => *other == part,
-        ThingKey::Channel(_) => false,
+        ThingKey::Lock(_) | ThingKey::Channel(_) => false,
     }
 }
 

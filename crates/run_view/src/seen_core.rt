@@ -9,8 +9,8 @@ use crate::among::is_among;
 use crate::change::{Change, add};
 use crate::cores::{CoreView, core_view};
 use apex_types::CoreId;
-use dispatch_rule::Clock;
 use module_config::Config;
+use scheduling::Clock;
 use std::alloc::{AllocError, Global};
 
 // Adds the cores that are no longer as they were seen. They are then seen as they are.

@@ -1,22 +1,22 @@
-// What an object or a channel holds, and who waits there.
+// What an object, a lock or a channel holds, and who waits there.
 
 ghost use Rattle.std.specs.Prelude.{◌≡◌, ℕ, IfOk, option_map};
 ghost use Rattle.std.specs.List.{find};
 ghost use Rattle.std.specs.Option.{option_copied};
 ghost use Rattle.piece_check.specs.Parts.{Holding};
 ghost use Rattle.apex_machine.specs.State.{item_at};
-ghost use Rattle.run_view.specs.Things.{Shows, ShowsBlackboard, ShowsBuffer, ShowsChannel, ShowsEvent, ShowsIn, ShowsMutex, ShowsObject, ShowsQueued, ShowsSample, ShowsSemaphore, ShowsThing, holds};
+ghost use Rattle.run_view.specs.Things.{Shows, ShowsBlackboard, ShowsBuffer, ShowsChannel, ShowsEvent, ShowsIn, ShowsLock, ShowsMutex, ShowsObject, ShowsQueued, ShowsSample, ShowsSemaphore, ShowsThing, holds};
 
 use crate::waiter::{Waiter, waiters_of};
 use apex_types::{ChanId, Message, ObjectKind, PartId, ProcId};
 use channel::{Channel, Stamped};
-use message_queue::MessageQueue;
+use partition_objects::PreemptionLock;
 use partition_state::PartitionState;
 use piece_check::{Piece, Seen, Subject};
 use std::alloc::{AllocError, Global};
-use wait_set::Named;
+use wait_set::{MessageQueue, Named};
 
-/// What can hold messages or values, and where processes wait: an object of a partition, or a channel.
+/// What can hold messages or values, and where processes wait: an object or the lock of a partition, or a channel.
 #[derive(Clone, Copy, Debug, PartialEq, Eq)]
 pub enum ThingKey {
     Object {
@@ -24,10 +24,11 @@ pub enum ThingKey {
         kind: ObjectKind,
         number: u32,
     },
+    Lock(PartId),
     Channel(ChanId),
 }
 
-/// What an object or a channel holds. A message is seen as its bytes.
+/// What an object, a lock or a channel holds. A message is seen as its bytes.
 #[derive(Debug, Drop, PartialEq, Eq)]
 pub enum Contents {
     /// A buffer or a queuing channel: its messages, how many it can hold, and the oldest of them.
@@ -53,13 +54,18 @@ pub enum Contents {
         count: u64,
         priority: u8,
     },
+    /// The lock of a partition: who owns it, and its level.
+    Lock {
+        owner: Option<ProcId>,
+        level: u8,
+    },
     /// A sampling channel: the message that was last written, and when, in ticks of the writer's core.
     Sampled {
         written: Option<(Vec<u8>, u64)>,
     },
 }
 
-/// An object or a channel: its name, if it has one; what it holds; and who waits there, to send and for anything else.
+/// An object, a lock or a channel: its name, if it has one; what it holds; and who waits there, to send and for anything else.
 #[derive(Debug, Drop, PartialEq, Eq)]
 pub struct ThingView {
     pub name: Vec<u8>,
@@ -89,7 +95,7 @@ pub fn thing_view(
     }
 }
 
-/// What an object or a channel holds, which is one of these pieces or is in one of them. None if it is in none of them.
+/// What an object, a lock or a channel holds, which is one of these pieces or is in one of them. None if it is in none of them.
 ///
 /// `AllocError` if memory is refused.
 pub fn view_of(
@@ -117,14 +123,15 @@ fn holds(piece: &Piece, key: &ThingKey) -> bool
     ensures { result ≡ holds piece.now.part key.now }
 {
     match key {
-        ThingKey::Object { part, .. } => is_partition(piece, *part),
+        ThingKey::Object { part, .. } | ThingKey::Lock(part) => is_partition(piece, *part),
         ThingKey::Channel(channel) => is_channel(piece, *channel),
     }
 }
 
-// Whether a piece is this partition, in which its objects are.
+// Whether a piece is this partition, in which its objects and its lock are.
 fn is_partition(piece: &Piece, part: PartId) -> bool
-    ensures { (kind : ObjectKind) (number : ℕ) → result ≡ holds piece.now.part (ThingKey.Object part kind number) }
+    ensures objects { (kind : ObjectKind) (number : ℕ) → result ≡ holds piece.now.part (ThingKey.Object part kind number) }
+    ensures lock { result ≡ holds piece.now.part (ThingKey.Lock part) }
 {
     match piece.subject() {
         Subject::Partition(number) => number.number() == part.number(),
@@ -148,6 +155,7 @@ fn view_in(alloc: Global, piece: &Piece, key: &ThingKey) -> Result<Option<ThingV
 {
     match key {
         ThingKey::Object { kind, number, .. } => object_view(alloc, piece, *kind, *number),
+        ThingKey::Lock(_) => owned_view(alloc, piece),
         ThingKey::Channel(_) => whole_view(alloc, piece),
     }
 }
@@ -163,6 +171,16 @@ fn object_view(
 {
     match piece.seen() {
         Seen::Partition { state, .. } => thing_view(alloc, state, kind, number),
+        Seen::Module { .. } | Seen::Channel { .. } => Ok(None),
+    }
+}
+
+// What the lock of this piece holds.
+fn owned_view(alloc: Global, piece: &Piece) -> Result<Option<ThingView>, AllocError>
+    ensures { (part : ℕ) → IfOk result (ShowsIn piece.now.part (ThingKey.Lock part)) }
+{
+    match piece.seen() {
+        Seen::Partition { state, .. } => Ok(Some(lock_view(alloc, state.lock())?)),
         Seen::Module { .. } | Seen::Channel { .. } => Ok(None),
     }
 }
@@ -270,6 +288,23 @@ fn mutex_view(
         senders: Vec::new(alloc),
         waiters: waiters_of(alloc, mutex.waiters())?,
     }))
+}
+
+/// What the lock of a partition holds.
+///
+/// `AllocError` if memory is refused.
+pub fn lock_view(alloc: Global, lock: &PreemptionLock) -> Result<ThingView, AllocError>
+    ensures { IfOk result (ShowsLock lock.now) }
+{
+    Ok(ThingView {
+        name: Vec::new(alloc),
+        contents: Contents::Lock {
+            owner: lock.owner(),
+            level: lock.level(),
+        },
+        senders: Vec::new(alloc),
+        waiters: waiters_of(alloc, lock.waiters())?,
+    })
 }
 
 /// What a channel holds.

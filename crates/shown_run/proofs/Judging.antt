@@ -17,7 +17,7 @@ use Rattle.report.specs.declared.fault.CheckFault.{CheckFault}
 use Rattle.report.specs.Outcome.{answer_with}
 use Rattle.report.specs.Rounds.{IsDecided}
 use Rattle.report.specs.Shown.{StillBreaks, StillRejects}
-use Rattle.run_walk.specs.Walks.{EachRuns}
+use Rattle.shown_run.specs.Walks.{EachRuns}
 use Rattle.user_rules.specs.declared.relation.Relation.{Relation}
 use Rattle.verdict_merge.proofs.Rounds.{all_run_on, runs_on}
 use Rattle.verdict_merge.proofs.Verdicts.{no_at, runs_up_to}

@@ -1,2 +1,6 @@
+mod Copies
+pub mod Kept
+pub mod Taking
 pub mod Judging
-pub mod Keeping
+pub mod FewerRecords
+mod Answering

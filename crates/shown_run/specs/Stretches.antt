@@ -4,8 +4,8 @@ use Rattle.apex_types.specs.declared.record.Ordered.{Ordered}
 use Rattle.apex_machine.specs.Configuration.{Configuration}
 use Rattle.piece_check.specs.Parts.{Holding}
 use Rattle.report.specs.declared.fault.CheckFault.{CheckFault}
-use Rattle.run_walk.specs.Kept.{AreRecent, IsBegun, IsKept}
-use Rattle.run_walk.specs.Walks.{EachRuns}
+use Rattle.shown_run.specs.Kept.{AreRecent, IsBegun, IsKept}
+use Rattle.shown_run.specs.Walks.{EachRuns}
 use Rattle.verdict_merge.specs.declared.verdict.Verdict.{Verdict}
 use Rattle.verdict_merge.specs.declared.verdict.Verdict.TheVariants.{Yes, No, Broken}
 use Rattle.verdict_merge.specs.Rounds.{AllRun, AreGoing, cold_parts, parts_in}

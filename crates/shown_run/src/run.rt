@@ -8,11 +8,12 @@ ghost use Rattle.verdict_merge.specs.Rounds.{AllRun, AreGoing, cold_parts, parts
 ghost use Rattle.verdict_merge.specs.Verdicts.{ViewsMeet};
 ghost use Rattle.shown_run.specs.Judged.{judging_of};
 
+use crate::rounds::{Rounds, Taken};
+use crate::walk::Walk;
 use crate::witness::tell;
 use apex_types::Ordered;
 use module_config::Config;
 use report::{Verdict, Witness};
-use run_walk::{Rounds, Taken, Walk};
 use std::alloc::{AllocError, Global};
 use user_rules::Rule;
 

@@ -1,7 +1,7 @@
 // The stretch of a run that a picture shows.
 
+use crate::walk::Walk;
 use apex_types::{Cause, Ordered};
-use run_walk::Walk;
 use std::collections::VecDeque;
 
 /// Which stretch is asked for.

@@ -6,11 +6,11 @@ ghost use Rattle.report.specs.Shown.{StillBreaks, StillRejects};
 ghost use Rattle.user_rules.specs.Rules.{relations_of};
 ghost use Rattle.shown_run.specs.Judged.{judging_of};
 
+use crate::walk::Walk;
 use apex_types::{Ordered, Place};
 use module_config::Config;
 use piece_check::Piece;
 use report::{Verdict, Witness};
-use run_walk::Walk;
 use user_rules::Rule;
 use verdict_merge::Breach;
 

@@ -1,2 +1,5 @@
 pub mod SoFar
 pub mod Walks
+pub mod Escapes
+pub mod Parts
+pub mod Tags

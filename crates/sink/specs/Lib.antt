@@ -1,3 +1,6 @@
 pub mod Taken
 pub mod Writer
 pub mod Written
+pub mod Escapes
+pub mod Markup
+pub mod Own

@@ -21,3 +21,6 @@ pub mod Breaking
 pub mod Gathered
 pub mod Untested
 pub mod Keeping
+pub mod Histories
+pub mod Steps
+pub mod RoundPieces

@@ -4,3 +4,6 @@ pub mod Verdicts
 pub mod Refusals
 pub mod Views
 pub mod Keeping
+pub mod Logs
+pub mod Contents
+pub mod Boards

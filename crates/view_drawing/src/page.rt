@@ -6,14 +6,14 @@ ghost use Rattle.apex_types.specs.declared.record.Ordered.{Ordered};
 ghost use Rattle.placement.specs.Lanes.{AreHonest};
 ghost use Rattle.user_rules.specs.Rules.{relations_of};
 ghost use Rattle.verdict_merge.specs.Rounds.{AllRun, AreGoing, parts_in};
-ghost use Rattle.run_walk.specs.Kept.{IsKept};
-ghost use Rattle.run_walk.specs.Walks.{EachRuns};
+ghost use Rattle.shown_run.specs.Kept.{IsKept};
+ghost use Rattle.shown_run.specs.Walks.{EachRuns};
 ghost use Rattle.shown_run.specs.Stretches.{IsWhole};
 ghost use Rattle.program_ends.specs.declared.ending.Ending.TheVariants.{Own};
 ghost use Rattle.program_ends.specs.Endings.{out_of_memory};
-ghost use Rattle.shown_files.specs.declared.ending.ViewEnd.TheVariants.{Checked, Unwritten};
-ghost use Rattle.shown_files.specs.Endings.{refusing};
-ghost use Rattle.shown_files.specs.Shown.{IsShown};
+ghost use Rattle.shown_run.specs.declared.ending.ViewEnd.TheVariants.{Checked, Unwritten};
+ghost use Rattle.shown_run.specs.Endings.{refusing};
+ghost use Rattle.shown_run.specs.Shown.{IsShown};
 
 use crate::picture_witness::PictureWitness;
 use crate::rows::ShownRows;
@@ -27,10 +27,8 @@ use placement::Placer;
 use program_ends::{Ending, Line, out_of_memory};
 use report::{CheckFault, Verdict};
 use run_view::{Change, Followed, LastSeen, Lawful, MessageLinks, Received, Sent};
-use run_walk::Walk;
 use sarif_report::name_of_cause;
-use shown_files::{Shown, ViewEnd};
-use shown_run::{Asked, Stretch, gather};
+use shown_run::{Asked, Shown, Stretch, ViewEnd, Walk, gather};
 use sink::Sink;
 use std::alloc::{AllocError, Global};
 use std::collections::VecDeque;
@@ -359,7 +357,7 @@ impl<'a> Drawing<'a> {
     }
 
     // Adds records that follow one another and were accepted. The last of them may break a rule.
-    #[tactic(auto, using(run_walk::proofs::Kept::first_going, run_walk::proofs::Kept::first_core, run_walk::proofs::Kept::first_taken, run_walk::proofs::Kept::kept_on))]
+    #[tactic(auto, using(shown_run::proofs::Kept::first_going, shown_run::proofs::Kept::first_core, shown_run::proofs::Kept::first_taken, shown_run::proofs::Kept::kept_on))]
     fn accept_all(
         &mut self,
         rows: &ShownRows<'_>,

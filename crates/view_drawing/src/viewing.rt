@@ -4,7 +4,7 @@ ghost use Rattle.std.specs.Prelude.{◌≡◌, false, length};
 ghost use Rattle.order_cert.specs.Kept.{place_of};
 ghost use Rattle.placement.specs.Lanes.{AreHonest};
 ghost use Rattle.user_rules.specs.Rules.{relations_of};
-ghost use Rattle.shown_files.specs.Shown.{IsShown};
+ghost use Rattle.shown_run.specs.Shown.{IsShown};
 
 use crate::page::show_picture;
 use crate::traced::show_trace;
@@ -12,7 +12,7 @@ use answer_words::Explainer;
 use csv_rows::TextSource;
 use placement::Placer;
 use program_ends::Ending;
-use shown_files::{Shown, ViewEnd, Viewer};
+use shown_run::{Shown, ViewEnd, Viewer};
 use sink::Sink;
 use std::alloc::Global;
 use std::fs::{File, Files};

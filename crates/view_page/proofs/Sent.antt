@@ -1,7 +1,7 @@
 -- Markup that goes to a sink, piece after piece.
 use Rattle.std.proofs.Common.{◌≡◌, ◌<◌, ℕ, List, ◌++◌, Option, Some, None, Result, Ok, Err, subst, refl, sym, ap, ◌∙◌, append_assoc}
 use Rattle.sink.specs.Taken.{with_more}
-use Rattle.markup.proofs.Parts.{IsMarkup-append}
+use Rattle.sink.proofs.Parts.{IsMarkup-append}
 use Rattle.view_page.specs.Sent.{Ends, Sends, SendsFront, Taken}
 use Rattle.view_page.specs.declared.fault.PageFault.{PageFault}
 use Rattle.view_page.specs.declared.fault.PageFault.TheVariants.{Memory, Unwritten}

@@ -1,7 +1,7 @@
 -- What a sink takes of a picture or a page.
 use Rattle.std.specs.Prelude.{◌≡◌, ◌<◌, ℕ, List, Option, Result, Ok, Err}
 use Rattle.sink.specs.Written.{IsWritten, IsCut}
-use Rattle.markup.specs.Markup.{IsMarkup}
+use Rattle.sink.specs.Markup.{IsMarkup}
 use Rattle.view_page.specs.declared.fault.PageFault.{PageFault}
 use Rattle.view_page.specs.declared.fault.PageFault.TheVariants.{Memory, Unwritten}
 

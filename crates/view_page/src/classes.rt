@@ -1,10 +1,9 @@
 // The classes by which the style names what is shown.
 
 ghost use Rattle.std.specs.Prelude.{◌≡◌, IfSome, true};
-ghost use Rattle.markup.specs.Own.{is_own};
+ghost use Rattle.sink.specs.Own.{is_own};
 
-use view_picture::{ArrowKind, MarkKind, Status};
-use view_words::{LaneKey, Look};
+use view_picture::{ArrowKind, LaneKey, Look, MarkKind, Status};
 
 // The classes of a bar. Each look has a colour, and a pattern if two looks could be confused.
 pub(crate) fn classes_of_look(look: Look) -> &'static str

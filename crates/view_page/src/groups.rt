@@ -2,8 +2,7 @@
 
 use crate::layout::Strip;
 use std::alloc::AllocError;
-use view_picture::{Lane, Picture};
-use view_words::LaneKey;
+use view_picture::{Lane, LaneKey, Picture};
 
 /// How many lanes a lawful picture may have before its last strip shows only those that change in it.
 const MANY_LANES: usize = 60;

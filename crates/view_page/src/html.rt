@@ -3,10 +3,9 @@
 use crate::classes::{classes_of_look, pattern_of};
 use crate::layout::Strip;
 use crate::style::{DEFINITIONS, PAGE_STYLE, STYLE};
-use markup::Markup;
+use sink::Markup;
 use std::alloc::AllocError;
-use view_picture::{Column, Picture};
-use view_words::Look;
+use view_picture::{Column, Look, Picture};
 
 /// What a page says in addition to its picture.
 #[derive(Clone, Copy)]

@@ -7,8 +7,7 @@ ghost use Rattle.view_picture.specs.Records.{record_count};
 use crate::groups::{Group, all_groups, near_groups};
 use crate::rows::{Heading, Row, Rows};
 use std::alloc::AllocError;
-use view_picture::{Column, Picture, Status};
-use view_words::LaneKey;
+use view_picture::{Column, LaneKey, Picture, Status};
 
 /// The width of the labels of lanes, in pixels like all lengths here.
 pub const LABELS: u64 = 186;

@@ -5,12 +5,11 @@ use crate::groups::Group;
 use crate::layout::{LABELS, Layout};
 use crate::rows::{Heading, Row};
 use crate::shapes::{CHARACTER, Shortened, tell_text};
-use markup::Markup;
 use run_view::ThingKey;
+use sink::Markup;
 use std::alloc::AllocError;
 use std::fmt::Display;
-use view_picture::{Lane, Picture};
-use view_words::LaneKey;
+use view_picture::{Lane, LaneKey, Picture};
 
 /// The free width to the right of a name.
 const AFTER_NAME: u64 = 20;
@@ -63,7 +62,9 @@ impl Display for OthersOf {
 fn tell_name(out: &mut Markup, row: Row, lane: &Lane) -> Result<(), AllocError> {
     begin_lane(out, lane)?;
     let x = match &lane.key {
-        LaneKey::Process(_) | LaneKey::Thing(ThingKey::Object { .. }) => 18,
+        LaneKey::Process(_)
+        | LaneKey::Thing(ThingKey::Object { .. })
+        | LaneKey::Thing(ThingKey::Lock(_)) => 18,
         LaneKey::Core(_) | LaneKey::Partition(_) | LaneKey::Thing(ThingKey::Channel(_)) => 6,
     };
     let most = ((LABELS - AFTER_NAME) / CHARACTER) as usize;

@@ -3,8 +3,7 @@
 use crate::groups::{Group, count_in, is_in};
 use crate::layout::Strip;
 use std::alloc::{AllocError, Global};
-use view_picture::{Lane, Picture};
-use view_words::LaneKey;
+use view_picture::{Lane, LaneKey, Picture};
 
 /// The height of the ticks and dispatches of a core, which are below its bars.
 pub const MARKS: u64 = 12;

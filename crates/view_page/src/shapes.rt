@@ -1,9 +1,9 @@
 // The shapes of which a strip is made.
 
 ghost use Rattle.std.specs.Prelude.{◌≡◌, true};
-ghost use Rattle.markup.specs.Own.{is_own};
+ghost use Rattle.sink.specs.Own.{is_own};
 
-use markup::Markup;
+use sink::Markup;
 use std::alloc::AllocError;
 use std::fmt::Display;
 

@@ -10,7 +10,7 @@ use crate::strip_bars::{tell_bar_texts, tell_bars};
 use crate::strip_marks::{tell_arrow, tell_boxes, tell_points};
 use crate::style::{DEFINITIONS, STYLE};
 use crate::wrapped::{longest, wrapped_lines};
-use markup::Markup;
+use sink::Markup;
 use std::alloc::AllocError;
 use view_picture::{Column, Picture, Status};
 

@@ -1,16 +1,15 @@
 // The bars of a strip, and their texts.
 
 ghost use Rattle.std.specs.Prelude.{◌≡◌, true};
-ghost use Rattle.markup.specs.Own.{is_own};
+ghost use Rattle.sink.specs.Own.{is_own};
 
 use crate::classes::{classes_of_look, pattern_of};
 use crate::layout::Layout;
 use crate::rows::{MARKS, Row};
 use crate::shapes::{BAND, BEFORE_TEXT, CHARACTER, Fitted, INSIDE, tell_box, tell_text};
-use markup::Markup;
+use sink::Markup;
 use std::alloc::AllocError;
-use view_picture::{Bar, Lane, Picture};
-use view_words::{LaneKey, Saying};
+use view_picture::{Bar, Lane, LaneKey, Picture, Saying};
 
 /// The fewest characters of a text that are worth showing.
 const LEAST_ROOM: usize = 9;

@@ -6,7 +6,7 @@ use crate::classes::{
 use crate::layout::{LABELS, Layout};
 use crate::rows::{ABOVE_FOOT, MARKS, Row};
 use crate::shapes::{CHARACTER, Fitted, INSIDE, tell_box, tell_line};
-use markup::Markup;
+use sink::Markup;
 use std::alloc::AllocError;
 use std::fmt::Display;
 use view_picture::{Arrow, ArrowEnd, ArrowKind, Lane, Mark, MarkKind, Picture};

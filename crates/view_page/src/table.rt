@@ -2,7 +2,7 @@
 
 use crate::classes::tag_of_row;
 use crate::layout::Strip;
-use markup::Markup;
+use sink::Markup;
 use std::alloc::AllocError;
 use view_picture::{Column, Picture, Status};
 

@@ -7,8 +7,7 @@ use crate::html::{PageTexts, page_foot, page_head, strip_heading, tell_key};
 use crate::layout::Strip;
 use crate::strip::{svg_foot, svg_head, tell_elsewhere, tell_near, tell_strip};
 use crate::table::{table_foot, table_head, tell_rows};
-use markup::Markup;
-use sink::Sink;
+use sink::{Markup, Sink};
 use std::alloc::Global;
 use view_picture::Picture;
 

@@ -1,6 +1,6 @@
 // The arrows between lanes.
 
-use view_words::LaneKey;
+use crate::lane_key::LaneKey;
 
 /// What an arrow shows.
 #[derive(Clone, Copy, Debug, PartialEq, Eq)]

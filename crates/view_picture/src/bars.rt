@@ -1,7 +1,8 @@
 // The bars of a lane.
 
+use crate::look::Look;
+use crate::saying::Saying;
 use std::alloc::{AllocError, Global};
-use view_words::{Look, Saying};
 
 /// A bar from one column to another, without that one.
 #[derive(Debug, Drop)]

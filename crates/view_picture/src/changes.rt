@@ -1,15 +1,17 @@
 // The changes of a record, shown in a picture.
 
+use crate::labels::{add_words, process_name, quoted};
+use crate::lane_key::LaneKey;
 use crate::picture::{Picture, ProcessNow};
+use crate::process_bars::{
+    Hold, mode_saying, occupant_saying, process_saying, verb_of, window_saying,
+};
+use crate::thing_bars::{KeyName, thing_saying};
 use apex_machine::Mode;
 use apex_types::{PartId, Who};
 use piece_check::Piece;
 use run_view::{Change, CoreView, ProcessState, ProcessView, ThingKey, view_of};
 use std::alloc::AllocError;
-use view_words::{
-    Hold, KeyName, LaneKey, add_words, mode_saying, occupant_saying, process_name, process_saying,
-    quoted, thing_saying, verb_of, window_saying,
-};
 use wording::Numbered;
 
 impl Picture {

@@ -1,8 +1,8 @@
 // A lane of a picture.
 
 use crate::bars::Bars;
+use crate::lane_key::LaneKey;
 use std::alloc::Global;
-use view_words::LaneKey;
 
 /// What is in a lane at a column.
 #[derive(Clone, Copy, Debug, PartialEq, Eq)]

@@ -1,14 +1,16 @@
 // The marks and arrows of a record in a picture.
 
 use crate::arrow::{Arrow, ArrowEnd, ArrowKind};
+use crate::labels::{ShortOccupant, words_of};
 use crate::lane::{Mark, MarkKind};
+use crate::lane_key::LaneKey;
 use crate::picture::Picture;
+use crate::process_bars::mode_saying;
 use apex_machine::Mode;
 use apex_types::{Body, Ordered, PartId};
 use partition_state::restart_of;
 use run_view::{Lawful, Sent, ThingKey};
 use std::alloc::AllocError;
-use view_words::{LaneKey, ShortOccupant, mode_saying, words_of};
 use wording::out_name;
 
 impl Picture {

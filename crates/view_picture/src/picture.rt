@@ -5,14 +5,16 @@ ghost use Rattle.view_picture.specs.Records.{record_count};
 
 use crate::arrow::Arrow;
 use crate::column::{Column, Source, Status, location_text, source_text};
+use crate::labels::{label_of, label_of_lane, words_of};
 use crate::lane::{Lane, MarkKind};
+use crate::lane_key::LaneKey;
 use crate::marks::actor_of;
+use crate::process_bars::Hold;
 use crate::touched::{is_at_core, names};
 use apex_types::{Body, CoreId, Ordered, Who};
 use piece_check::Piece;
 use run_view::{Change, CoreView, Followed, Lawful, ProcessView};
 use std::alloc::{AllocError, Global};
-use view_words::{Hold, LaneKey, label_of, label_of_lane, words_of};
 
 /// A stretch of a run as a picture.
 #[derive(Drop)]

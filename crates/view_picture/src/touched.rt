@@ -1,10 +1,10 @@
 // What a record touches, by the record itself and by what is on its core. No rule of the machine is asked.
 
+use crate::lane_key::LaneKey;
 use apex_types::{Body, Call, MutexOperation, NamedKind, ObjectOperation, Ordered, Request, Who};
 use run_view::{CoreView, ThingKey};
-use view_words::LaneKey;
 
-// Whether a record is of this core, or names this process, object or channel.
+// Whether a record is of this core, or names this process, object, lock or channel.
 pub(crate) fn names(ordered: &Ordered, key: &LaneKey) -> bool {
     match key {
         LaneKey::Core(core) => *core == ordered.core,
@@ -71,14 +71,18 @@ fn process_of(call: &Call) -> Option<i64> {
         | Request::GetId(..)
         | Request::GetStatus(..)
         | Request::ReportMessage { .. }
-        | Request::CreateErrorHandler => None,
+        | Request::CreateErrorHandler
+        | Request::Preemption(_) => None,
     }
 }
 
-// Whether a call uses, creates or looks up this object, or goes through this channel.
+// Whether a call uses, creates or looks up this object, uses this lock, or goes through this channel.
 fn names_thing(call: &Call, key: &ThingKey) -> bool {
     match key {
         ThingKey::Channel(channel) => call.claim.chan == Some(*channel),
+        ThingKey::Lock(part) => {
+            call.who.part == *part && matches!(call.request, Request::Preemption(_))
+        }
         ThingKey::Object { part, kind, number } => {
             let named = match &call.request {
                 Request::Object(number, operation) if operation.kind() == *kind => Some(*number),

@@ -32,6 +32,7 @@ impl fmt::Display for Waits {
             Wait::PeriodicRelease(_) => write!(f, "waits for its release"),
             Wait::Suspended(_) => write!(f, "suspended itself"),
             Wait::At(set, _) => write!(f, "waits {}", Set(set)),
+            Wait::ForLock => write!(f, "waits for the lock"),
         }
     }
 }
@@ -43,7 +44,7 @@ pub fn due_text(alloc: Global, view: &ProcessView) -> Result<String, AllocError>
         ProcessState::Dormant | ProcessState::Ready => Wait::Nothing,
     };
     let due = match wait {
-        Wait::Nothing | Wait::NormalMode(_) => None,
+        Wait::Nothing | Wait::NormalMode(_) | Wait::ForLock => None,
         Wait::FirstRelease(time)
         | Wait::Delay(time)
         | Wait::Until(time)
@@ -72,11 +73,13 @@ pub fn counter_name(alloc: Global, key: &ThingKey) -> Result<String, AllocError>
         ThingKey::Object { kind, number, .. } => {
             format!(in alloc; "{} {number}", kind_name(*kind))
         }
+        ThingKey::Lock(_) => format!(in alloc; "the lock"),
         ThingKey::Channel(channel) => format!(in alloc; "channel {}", channel.number()),
     }
 }
 
-/// What an object or a channel holds, as a number: its messages, its value, 1 for an event that is up, or the lock count of a mutex.
+/// What an object or a channel holds, as a number: its messages, its value, 1 for an event that is up, or how often the
+/// owner of a mutex or a lock has acquired it.
 pub fn held_number(contents: &Contents) -> u64 {
     match contents {
         Contents::Queue { count, .. } => *count as u64,
@@ -86,5 +89,6 @@ pub fn held_number(contents: &Contents) -> u64 {
         Contents::Event { is_up: true } => 1,
         Contents::Event { is_up: false } => 0,
         Contents::Mutex { count, .. } => *count,
+        Contents::Lock { level, .. } => u64::from(*level),
     }
 }

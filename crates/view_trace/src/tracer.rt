@@ -568,7 +568,7 @@ impl<'a, W: Sink> Tracer<'a, W> {
             return Ok(());
         };
         let process = match key {
-            ThingKey::Object { part, .. } => process_of(*part),
+            ThingKey::Object { part, .. } | ThingKey::Lock(part) => process_of(*part),
             ThingKey::Channel(_) => CHANNELS,
         };
         let name = counter_name(self.alloc, key)?;

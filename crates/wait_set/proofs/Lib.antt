@@ -13,3 +13,5 @@ pub mod Last
 pub mod Failing
 pub mod Calls
 pub mod FirstRanks
+pub mod Receiving
+pub mod Clearing

@@ -6,3 +6,4 @@ pub mod GivenNumbers
 pub mod Givens
 pub mod Ranks
 pub mod Laws
+pub mod Queues

@@ -6,6 +6,7 @@ ghost use Rattle.apex_types.specs.declared.record.Out.TheVariants as out;
 ghost use Rattle.apex_machine.specs.Answer as answer;
 ghost use Rattle.apex_machine.specs.Answer.{HasNoValues, HasValue, HasValues, Nothing, Number, Value};
 ghost use Rattle.apex_machine.specs.Demands.{Judges, answer_demands};
+ghost use Rattle.apex_machine.specs.Locks as locks;
 ghost use Rattle.apex_machine.specs.Statuses.{reporting, telling};
 ghost use Rattle.apex_machine.specs.Waiting.{first_waiters, is_waiting};
 ghost use Rattle.wait_set.specs.declared.ended.Ended.TheVariants.{Nobody};
@@ -77,6 +78,13 @@ impl<'a> Given<'a> {
         if has_come {
             return Given::done();
         }
+        Given::waiting()
+    }
+
+    /// The caller waits.
+    pub fn waiting() -> Given<'a>
+        ensures { answer_given result ≡ answer.waiting }
+    {
         Given::leaving(Out::Waits)
     }
 
@@ -87,7 +95,7 @@ impl<'a> Given<'a> {
         if time_out == 0 {
             return Given::answering(Code::NotAvailable);
         }
-        Given::leaving(Out::Waits)
+        Given::waiting()
     }
 
     /// The operation is done at once, and the wait of this process ends, if there is one.
@@ -95,6 +103,34 @@ impl<'a> Given<'a> {
         ensures { answer_given result ≡ answer.waking (option_to_list woken) }
     {
         Given::giving(&[], woken)
+    }
+
+    /// The call does not return, and the wait of this process ends, if there is one.
+    pub fn never_waking(woken: Option<Who>) -> Given<'a>
+        ensures { answer_given result ≡ answer.never_waking (option_to_list woken) }
+    {
+        Given {
+            out: Out::Never,
+            val: None,
+            val2: None,
+            val3: None,
+            bytes: &[],
+            woken: Ended::at_most_one(woken),
+        }
+    }
+
+    /// The operation of the lock is done at once: the caller's level is this one, and the wait of this process ends, if there is one.
+    pub fn at_level(level: u64, woken: Option<Who>) -> Given<'a>
+        ensures { answer_given result ≡ locks.at_level level (option_to_list woken) }
+    {
+        Given {
+            out: Out::Answer(Code::NoError),
+            val: Some(GivenValue::Natural(level)),
+            val2: None,
+            val3: None,
+            bytes: &[],
+            woken: Ended::at_most_one(woken),
+        }
     }
 
     /// The operation is done at once, and all waits in a set end.

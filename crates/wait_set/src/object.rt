@@ -86,7 +86,7 @@ pub trait ApexObject {
     // What an operation requires of its caller and the object: nothing by default.
     ghost owes: { ActorValue → Self.Operation → Self → Type 0 } = { OwesNothing };
 
-    // What an operation gives its caller. It has no value.
+    // What an operation gives its caller.
     ghost answer: { ActorValue → Self.Operation → Self → Answer };
 
     // The object after an accepted operation, including its waiting sets.

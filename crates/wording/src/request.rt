@@ -44,7 +44,7 @@ pub fn tell_request(words: &mut Words, request: &Request) {
             " with {} and length {length}",
             Bytes(message.as_bytes())
         )),
-        Request::CreateErrorHandler => {}
+        Request::CreateErrorHandler | Request::Preemption(_) => {}
     }
 }
 

@@ -87,6 +87,11 @@ fn rules_of(service: Service) -> Rules {
         Service::DelayedStart => row(ANSWER, "delayed_start_conditions"),
         Service::ReportApplicationMessage => row(ANSWER, "report_conditions"),
         Service::CreateErrorHandler => row(ANSWER, "create_handler_conditions"),
+        Service::LockPreemption => row("part 4, LOCK_PREEMPTION (IsLocking)", "lock_conditions"),
+        Service::UnlockPreemption => row(
+            "part 4, UNLOCK_PREEMPTION (IsUnlocking)",
+            "unlock_conditions",
+        ),
         Service::ResetMutex => row("part 4, RESET_MUTEX (handed_on)", "reset_conditions"),
         Service::GetPartitionStatus => row(
             "part 7, the status of a partition (partition_status)",
@@ -97,7 +102,7 @@ fn rules_of(service: Service) -> Rules {
             "named_conditions",
         ),
         Service::GetProcessMutexState => row(
-            "part 7, the mutex of a process (mutex_owned)",
+            "part 7, the mutex of a process (mutex_state)",
             "named_conditions",
         ),
         Service::GetProcessId

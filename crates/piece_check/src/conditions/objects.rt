@@ -180,7 +180,7 @@ fn message(size: Option<u16>, length: i64) -> Conditions
 }
 
 // ACQUIRE_MUTEX: a created mutex whose priority is not below the caller's current one; a time-out in range; a caller that is neither the
-// initialising process nor the owner of another mutex.
+// initialising process nor the owner of another mutex or of the lock.
 fn acquire_mutex(who: Who, state: &PartitionState, mutex: i64, time_out: i64) -> Conditions
     ensures { result ≡ objects.acquire_conditions who state.now mutex time_out }
 {
@@ -198,6 +198,7 @@ fn acquire_mutex(who: Who, state: &PartitionState, mutex: i64, time_out: i64) ->
         .with(!is_time_out(time_out), Condition::TimeOutOutOfRange)
         .with(who.proc.number() == 0, Condition::InitialisingCaller)
         .with(state.owns_another(mutex, who.proc), Condition::OwnsAnother)
+        .with(state.owns_lock(who.proc), Condition::OwnsLock)
 }
 
 // RESET_MUTEX: a created mutex, and a created process, which owns it.

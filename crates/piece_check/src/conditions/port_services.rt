@@ -8,12 +8,12 @@ ghost use Rattle.apex_machine.specs.Configuration.{Configuration};
 ghost use Rattle.apex_machine.specs.PortConditions as meets;
 ghost use Rattle.apex_machine.specs.ServiceConditions.{conditions_of};
 ghost use Rattle.apex_machine.specs.State.{given_object};
-ghost use Rattle.ports.specs.Guards.{IsGuard};
+ghost use Rattle.partition_objects.specs.Guards.{IsGuard};
 
 use super::with_wait;
 use apex_types::{QueuingOperation, SamplingOperation, Who};
+use partition_objects::{Guard, PortTable};
 use partition_state::PartitionState;
-use ports::{Guard, PortTable};
 use wait_set::Conditions;
 
 /// WRITE_SAMPLING_MESSAGE and READ_SAMPLING_MESSAGE: a created port; to write, a source port whose size is enough for the message; to read,

@@ -38,7 +38,7 @@ pub(super) fn process_conditions(
         ProcessOperation::Start => start(target),
         ProcessOperation::DelayedStart { delay } => delayed_start(target, *delay),
         ProcessOperation::Stop => stop(who, target, process),
-        ProcessOperation::Suspend => suspend(who, target, process),
+        ProcessOperation::Suspend => suspend(who, state, process),
         ProcessOperation::Resume => resume(who, target, process),
         ProcessOperation::SetPriority { priority } => set_priority(target, *priority),
         ProcessOperation::GetStatus | ProcessOperation::GetMutexState => named(target),
@@ -182,12 +182,17 @@ fn suspension(process: &Process) -> Conditions
         .with(is_periodic(process), Condition::Periodic)
 }
 
-// SUSPEND: a created process, other than the caller, that is neither dormant nor periodic and not yet suspended.
-fn suspend(who: Who, target: Option<&Process>, process: i64) -> Conditions
-    ensures { result ≡ processes.suspend_conditions who (option_copied target.entry) process }
+// SUSPEND: a created process, other than the caller, that is neither dormant nor periodic, not yet suspended, and not the owner of the lock.
+fn suspend(who: Who, state: &PartitionState, process: i64) -> Conditions
+    ensures { result ≡ processes.suspend_conditions who state.now process }
 {
-    let of_target = match target {
-        Some(found) => suspension(found).with(is_suspended(found), Condition::AlreadySuspended),
+    let of_target = match state.processes().created(process) {
+        Some(found) => suspension(found)
+            .with(is_suspended(found), Condition::AlreadySuspended)
+            .with(
+                state.numbered_owns_lock(process),
+                Condition::ProcessOwnsLock,
+            ),
         None => Conditions::none().with(true, Condition::NotCreated),
     };
     of_target.with(is_process(process, who.proc), Condition::NamesItself)
@@ -314,6 +319,7 @@ fn suspends_itself(wait: Wait) -> bool
         | Wait::Delay(_)
         | Wait::Until(_)
         | Wait::PeriodicRelease(_)
-        | Wait::At(..) => false,
+        | Wait::At(..)
+        | Wait::ForLock => false,
     }
 }

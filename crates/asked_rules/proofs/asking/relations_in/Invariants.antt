@@ -1,5 +1,5 @@
 use Rattle.std.proofs.Common.{map, take}
-use Rattle.rules_file.specs.Reading.{said}
+use Rattle.asked_rules.specs.Reading.{said}
 use Rattle.asked_rules.specs.Asked.{HoldInTurn}
 use Rattle.asked_rules.proofs.asking.relations_in.Given as goal
 

@@ -16,3 +16,6 @@ returns-in-QueuingPort c = search (rules, c.queuing_conditions.ensures c.args.co
 
 pub returns-in-SamplingPort : goal.returns-in-SamplingPort
 returns-in-SamplingPort c = search (rules, c.sampling_conditions.ensures c.args.config.now c.args.call.now.who)
+
+pub returns-in-Preemption : goal.returns-in-Preemption
+returns-in-Preemption c = search (rules, c.preemption_conditions.ensures c.args.config.now)

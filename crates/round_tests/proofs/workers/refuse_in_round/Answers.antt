@@ -1,6 +1,6 @@
 use Rattle.std.proofs.Common.{◌∙◌, [], sym, ap, arith}
-use Rattle.partition_workers.specs.Contents.{content_of}
-use Rattle.partition_workers.proofs.Going.{all_going, same_parts}
+use Rattle.verdict_merge.specs.Contents.{content_of}
+use Rattle.verdict_merge.proofs.RoundPieces.{all_going, same_parts}
 use Rattle.round_tests.proofs.workers.refuse_in_round.Goals as goal
 
 pub refuse_all-requires-clause-other_named : goal.refuse_all-requires-clause-other_named

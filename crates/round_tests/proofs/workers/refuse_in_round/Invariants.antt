@@ -1,5 +1,5 @@
 use Rattle.std.proofs.Common.{[]}
-use Rattle.partition_workers.specs.Contents.{content_of, parts_held}
+use Rattle.verdict_merge.specs.Contents.{content_of, parts_held}
 use Rattle.round_tests.proofs.workers.refuse_in_round.Given as goal
 
 -- the round is of what is lent to these pieces

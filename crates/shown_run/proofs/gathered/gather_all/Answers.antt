@@ -5,8 +5,8 @@ use Rattle.report.proofs.Going.{filled_on}
 use Rattle.report.specs.Rounds.{IsDecided}
 use Rattle.user_rules.specs.Rules.{relations_of}
 use Rattle.verdict_merge.specs.Rounds.{AreGoing}
-use Rattle.run_walk.specs.Kept.{AreRecent}
-use Rattle.run_walk.specs.declared.recent.Recent.{Recent}
+use Rattle.shown_run.specs.Kept.{AreRecent}
+use Rattle.shown_run.specs.declared.recent.Recent.{Recent}
 use Rattle.shown_run.specs.declared.gathering.Gathering.{Gathering}
 use Rattle.shown_run.specs.Judged.{IsAnswerOf, answer_after, filled_of, judging_of}
 use Rattle.shown_run.specs.Stretches.{GoesOn, IsGathered, KeepsSame}

@@ -4,9 +4,9 @@ use Rattle.report.specs.declared.fault.CheckFault.{CheckFault}
 use Rattle.report.specs.declared.last.LastItem.{LastItem}
 use Rattle.report.specs.declared.settings.Settings.{Settings}
 use Rattle.report.specs.Answers.{Given}
-use Rattle.rule_options.specs.declared.option.RuleOption.{RuleOption}
-use Rattle.rule_options.specs.Options.{in_order}
-use Rattle.rules_file.specs.Reading.{SaidRule, said, without_key}
+use Rattle.asked_rules.specs.declared.option.RuleOption.{RuleOption}
+use Rattle.asked_rules.specs.Options.{in_order}
+use Rattle.asked_rules.specs.Reading.{SaidRule, said, without_key}
 use Rattle.verdict_merge.specs.declared.verdict.Verdict.{Verdict}
 use Rattle.apexcheck.specs.declared.ending.CheckEnd.{CheckEnd}
 use Rattle.apexcheck.specs.Endings.{end_of_check}

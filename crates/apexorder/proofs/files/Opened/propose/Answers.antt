@@ -1,5 +1,5 @@
 use Rattle.std.proofs.Common.{◌∙◌, ap, map, sym}
-use Rattle.rules_file.specs.Reading.{said, without_key}
+use Rattle.asked_rules.specs.Reading.{said, without_key}
 use Rattle.asked_rules.specs.Asked.{rules_given, walk_given}
 use Rattle.apexorder.proofs.Ended.{memory_ended, refused_ended, search_ended}
 use Rattle.apexorder.proofs.files.Opened.propose.Goals as goal

@@ -2,7 +2,7 @@
 use Rattle.std.proofs.Common.{◌<◌, ap, sym, ◌∙◌, arith}
 use Rattle.apex_types.specs.declared.limits.TheConstants.{PLACE_COUNT}
 use Rattle.apex_machine.specs.Demands.{AllHold}
-use Rattle.process_state.specs.Processes.{Processes, processes_of}
+use Rattle.scheduling.specs.Processes.{Processes, processes_of}
 use Rattle.partition_state.specs.Calls.{served_demands}
 use Rattle.partition_state.proofs.Served.{is_called, served_is_called, served_keeps}
 use Rattle.partition_state.proofs.Sounds.{sound_served}

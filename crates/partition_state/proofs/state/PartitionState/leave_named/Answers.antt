@@ -10,13 +10,13 @@ use Rattle.partition_state.proofs.state.PartitionState.leave_named.Goals.{then-e
 pub leave-requires-clause-objects : goal.leave-requires-clause-objects
 leave-requires-clause-objects c =
     let sound = c.requires.sound in
-    rw c.loop-who.invariant (named_distinct c.args.part (take c.loop-who.who-index c.as_slice-named.result.now) c.args.self.now sound.objects sound.is_member)
+    rw c.loop-who.invariant (named_distinct c.args.part c.args.place (take c.loop-who.who-index c.as_slice-named.result.now) c.args.self.now sound)
 
 pub leave-requires-clause-alone : goal.leave-requires-clause-alone
 leave-requires-clause-alone c =
     let sound = c.requires.sound in
     rw c.loop-who.invariant
-    (named_where c.args.part (take c.loop-who.who-index c.as_slice-named.result.now) c.args.self.now c.who-item.result sound.objects sound.is_member)
+    (named_where c.args.part c.args.place (take c.loop-who.who-index c.as_slice-named.result.now) c.args.self.now c.who-item.result sound)
 
 pub loop-who-preserved : goal.loop-who-preserved
 loop-who-preserved c =
@@ -29,7 +29,7 @@ loop-who-preserved c =
     let named = take c.loop-who.who-index woken in
     elim c.if-eq.branch [
       | then-eq w ↦ rw (w.self-is, w.leave.ensures, c.loop-who.invariant, more, ← c.who-item.is)
-          (next_leaves a.part named a.self.now who sound.objects sound.is_member (sym c.eq.ensures ∙ w.if-eq.true))
+          (next_leaves a.part a.place named a.self.now who sound (sym c.eq.ensures ∙ w.if-eq.true))
       | else-eq w ↦ rw (w.self-is, c.loop-who.invariant, more, ← c.who-item.is)
           (next_stays a.part named a.self.now who (sym c.eq.ensures ∙ w.if-eq.false))
     ]

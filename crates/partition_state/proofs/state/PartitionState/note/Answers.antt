@@ -2,7 +2,7 @@
 use Rattle.std.proofs.Common.{◌<◌, ap, refl, sym, ◌∙◌, arith}
 use Rattle.apex_types.specs.declared.limits.TheConstants.{PLACE_COUNT}
 use Rattle.apex_laws.specs.PartLaws.{IsOwnCall}
-use Rattle.process_state.specs.Processes.{processes_of}
+use Rattle.scheduling.specs.Processes.{processes_of}
 use Rattle.partition_state.specs.Calls.{objects_noted}
 use Rattle.partition_state.proofs.Clear.{port_found}
 use Rattle.partition_state.proofs.Served.{is_called, noted_with, reads_with}

@@ -2,7 +2,7 @@
 use Rattle.std.proofs.Common.{◌+◌, ◌++◌, Option, None, length, subst}
 use Rattle.verdict_merge.specs.declared.verdict.Verdict.{Verdict}
 use Rattle.shown_run.specs.Stretches.{HaveTaken}
-use Rattle.shown_run.proofs.Keeping.{none_of}
+use Rattle.shown_run.proofs.FewerRecords.{none_of}
 use Rattle.shown_run.proofs.gathering.Gathering.add.Goals as goal
 
 pub returns-then-len-asked : goal.returns-then-len-asked

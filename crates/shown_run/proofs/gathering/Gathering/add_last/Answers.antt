@@ -1,10 +1,10 @@
 -- The records that are kept of the last round are some of those that are accepted.
 use Rattle.std.proofs.Common.{◌≡◌, ◌≤◌, ◌++◌, ◌∙◌, ℕ, arith, length, subst, sym, take}
-use Rattle.run_walk.specs.Kept.{AreRecent}
-use Rattle.run_walk.specs.declared.recent.Recent.{Recent}
+use Rattle.shown_run.specs.Kept.{AreRecent}
+use Rattle.shown_run.specs.declared.recent.Recent.{Recent}
 use Rattle.shown_run.specs.Stretches.{accepted_by}
 use Rattle.shown_run.proofs.Judging.{whenever}
-use Rattle.shown_run.proofs.Keeping.{run_over_kept}
+use Rattle.shown_run.proofs.FewerRecords.{run_over_kept}
 use Rattle.shown_run.proofs.gathering.Gathering.add_last.Goals as goal
 
 pub returns-clause-gathered : goal.returns-clause-gathered

@@ -1,7 +1,7 @@
 use Rattle.std.proofs.Common.{◌∷◌, List, subst}
 use Rattle.apex_types.specs.declared.record.Ordered.{Ordered}
-use Rattle.run_walk.specs.Kept.{IsKept}
-use Rattle.run_walk.proofs.Kept.{first_taken, kept_on}
+use Rattle.shown_run.specs.Kept.{IsKept}
+use Rattle.shown_run.proofs.Kept.{first_taken, kept_on}
 use Rattle.view_drawing.proofs.page.Drawing.accept_all.Goals as goal
 
 pub accept-requires-clause-accepted : goal.accept-requires-clause-accepted

@@ -1,6 +1,6 @@
 use Rattle.std.proofs.Common.{List}
 use Rattle.apex_types.specs.declared.record.Ordered.{Ordered}
-use Rattle.run_walk.specs.Kept.{IsKept}
+use Rattle.shown_run.specs.Kept.{IsKept}
 use Rattle.view_drawing.proofs.page.Drawing.accept_all.Given as goal
 
 abbrev pub invariant-records : goal.invariant-records

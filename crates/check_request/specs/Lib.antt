@@ -1,5 +1,0 @@
-pub mod CommandLine
-pub mod Requests
-pub mod Settings
-pub mod Words
-pub mod Wrong

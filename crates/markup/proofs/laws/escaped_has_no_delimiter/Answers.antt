@@ -1,5 +1,0 @@
-use Rattle.markup.proofs.Escapes.{escaped_has_no_delimiter}
-use Rattle.markup.proofs.laws.escaped_has_no_delimiter.Goals as goal
-
-pub returns : goal.returns
-returns c = escaped_has_no_delimiter

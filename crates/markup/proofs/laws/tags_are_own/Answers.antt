@@ -1,5 +1,0 @@
-use Rattle.markup.proofs.Tags.{tags_are_own}
-use Rattle.markup.proofs.laws.tags_are_own.Goals as goal
-
-pub returns : goal.returns
-returns c = tags_are_own

@@ -1,3 +1,0 @@
-pub mod Escapes
-pub mod Markup
-pub mod Own

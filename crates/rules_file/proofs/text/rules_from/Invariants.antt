@@ -1,5 +1,0 @@
-use Rattle.rules_file.proofs.Fronts.{KeepsReading}
-use Rattle.rules_file.proofs.text.rules_from.Given as goal
-
-abbrev pub invariant-loop-number : goal.invariant-loop-number
-invariant-loop-number l = KeepsReading l.items l.number l.rules

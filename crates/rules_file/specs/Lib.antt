@@ -1,5 +1,0 @@
-pub mod Names
-pub mod Keys
-pub mod Relations
-pub mod Joins
-pub mod Reading

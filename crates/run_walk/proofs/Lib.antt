@@ -1,3 +1,0 @@
-mod Copies
-pub mod Kept
-pub mod Taking

@@ -1,5 +1,0 @@
-use Rattle.run_walk.proofs.Kept.{joined}
-use Rattle.run_walk.proofs.recent.Recent.into_span.Goals as goal
-
-pub returns : goal.returns
-returns c = λ configuration taken are. joined configuration taken c.args.self c.append.new.self.items c.in_ok-append.ensures.items are

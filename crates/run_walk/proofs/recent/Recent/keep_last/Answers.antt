@@ -1,9 +1,0 @@
--- The first records of a round are kept after those of the earlier span.
-use Rattle.std.proofs.Common.{◌∙◌, refl}
-use Rattle.run_walk.proofs.Kept.{recent_last}
-use Rattle.run_walk.proofs.recent.Recent.keep_last.Goals as goal
-
-pub returns-clause-recent : goal.returns-clause-recent
-returns-clause-recent c = λ configuration taken are placed cores run.
-    recent_last configuration c.args.self.now _ taken c.args.count c.args.records.items refl refl (c.from.ensures.0 ∙ c.in_ok-left.ensures.items) c.requires.begun are placed cores
-    run

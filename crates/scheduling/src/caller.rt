@@ -1,0 +1,125 @@
+// What becomes of a caller after its call.
+
+ghost use Rattle.std.specs.Prelude.{◌≡◌, ◌<◌, ◌&&◌, ℕ, IsTrue, true, if◌then◌else◌};
+ghost use Rattle.apex_types.specs.declared.limits.TheConstants.{PLACE_COUNT};
+ghost use Rattle.apex_machine.specs.declared.state.Process.{Process as ProcessValue};
+ghost use Rattle.apex_machine.specs.DueTimes.{next_release};
+ghost use Rattle.apex_machine.specs.Processes as processes;
+ghost use Rattle.apex_machine.specs.Waiting.{is_no_error, is_waiting};
+ghost use Rattle.apex_types.specs.declared.record.Out.TheVariants as out;
+ghost use Rattle.scheduling.specs.Changes.{given_or};
+ghost use Rattle.apex_machine.specs.After as after;
+ghost use Rattle.scheduling.specs.Prepared.{outcome_due};
+ghost use Rattle.scheduling.specs.Settled.{settled};
+ghost use Rattle.scheduling.specs.Sound as sound;
+ghost use Rattle.scheduling.specs.Sound.{WaitsSoundly};
+
+use crate::peer::answers_no_error;
+use crate::waiting::{is_periodic_wait, wait_of};
+use apex_machine::{Outcome, Wait};
+use apex_types::{Call, CallerOperation, Code, Out, Place, Request};
+
+/// What becomes of a caller after its call.
+#[derive(Drop)]
+pub enum Settling {
+    /// It waits.
+    Waits(Wait),
+    /// It is dormant.
+    Stops,
+    /// The outcome is due to it. If its ready position is renewed, it is the given place; if a release is reached, that is its time, in
+    /// ticks.
+    Owed {
+        outcome: Outcome,
+        renewed: Option<Place>,
+        reached: Option<u64>,
+    },
+}
+
+/// Whether a call was carried out: it waits, it does not return, or it answered NO_ERROR.
+pub fn is_done(out: Out) -> bool
+    ensures { result ≡ after.is_done out }
+{
+    match out {
+        Out::Waits | Out::Never | Out::Answer(Code::NoError) => true,
+        Out::Answer(_) => false,
+    }
+}
+
+/// What becomes of the caller of this call, at this place and at its core's time `now`. `next` is its next release, in ticks, which only
+/// PERIODIC_WAIT uses. `outcome` is the one that becomes due to it, if one does.
+pub fn settling_of(
+    place: Place,
+    now: u64,
+    next: u64,
+    call: &Call,
+    outcome: Option<Outcome>,
+) -> Settling
+    requires time { now < PLACE_COUNT }
+    requires waits { IsTrue (is_waiting call.now.claim.out) → WaitsSoundly call.now.request }
+    requires outcome { outcome ≡ outcome_due call.now call.now.claim.out }
+    ensures { (process : ProcessValue) → (sound.is_periodic_wait call.now.request ≡ true → next_release process ≡ next) → settled now result process ≡ after.caller_after place now call.now process }
+{
+    match outcome {
+        Some(outcome) => {
+            let renewed = renewed_by(place, outcome.code, &call.request);
+            let reached = reached_by(next, outcome.code, &call.request);
+            Settling::Owed {
+                outcome,
+                renewed,
+                reached,
+            }
+        }
+        None => match call.claim.out {
+            Out::Waits => { Settling::Waits(wait_of(&call.request, call.claim.chan, now, next)) }
+            // An answer has an outcome.
+            Out::Never | Out::Answer(_) => Settling::Stops,
+        },
+    }
+}
+
+// The new ready position of the caller, if the call renews it.
+fn renewed_by(place: Place, code: Code, request: &Request) -> Option<Place>
+    ensures { (old : ℕ) → given_or result old ≡ (if processes.renews request.now && is_no_error (out.Answer code) then place else old) }
+{
+    if renews_with(code, request) {
+        Some(place)
+    } else {
+        None
+    }
+}
+
+// The release that the call reaches, if it reaches one. `next` is the caller's next release, in ticks.
+fn reached_by(next: u64, code: Code, request: &Request) -> Option<u64>
+    ensures { (process : ProcessValue) → (sound.is_periodic_wait request.now ≡ true → next_release process ≡ next) → given_or result process.last_release ≡ (if is_no_error (out.Answer code) then processes.release_taken request.now process else process.last_release) }
+{
+    if takes_release(code, request) {
+        Some(next)
+    } else {
+        None
+    }
+}
+
+// Whether an answer with this code renews its caller's ready position.
+fn renews_with(code: Code, request: &Request) -> bool
+    ensures { result ≡ processes.renews request.now && is_no_error (out.Answer code) }
+{
+    renews(request) && answers_no_error(Out::Answer(code))
+}
+
+// Whether an answer with this code has reached its caller's next release.
+fn takes_release(code: Code, request: &Request) -> bool
+    ensures { result ≡ is_no_error (out.Answer code) && sound.is_periodic_wait request.now }
+{
+    answers_no_error(Out::Answer(code)) && is_periodic_wait(request)
+}
+
+// Whether the request renews its caller's ready position: TIMED_WAIT with a delay of 0, and PERIODIC_WAIT.
+fn renews(request: &Request) -> bool
+    ensures { result ≡ processes.renews request.now }
+{
+    match request {
+        Request::Caller(CallerOperation::TimedWait { delay }) => *delay == 0,
+        Request::Caller(CallerOperation::PeriodicWait) => true,
+        _ => false,
+    }
+}
