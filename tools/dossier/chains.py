@@ -98,7 +98,7 @@ class Chains:
 
     def of(self, definitions: list[Definition], laws: list[tuple[Definition, list[str]]]) -> Chain | None:
         """The chain of a rule with these definitions, and with laws that each end a way that begins at a definition."""
-        own = {it.key for it in definitions}
+        own = [it.key for it in definitions]
         for definition in definitions:
             found = self._chain([], definition.key)
             if found:
@@ -109,12 +109,12 @@ class Chains:
                     return found
         return next((found for law, way in laws if (found := self._by_law(law, way, own))), None)
 
-    def _by_law(self, law: Definition, way: list[str], own: set[str]) -> Chain | None:
+    def _by_law(self, law: Definition, way: list[str], own: list[str]) -> Chain | None:
         """The chain through a law: by a definition that the rule names too, by the function beside the sentence, or by the first one
         of a law that says that sentences and functions are the same."""
-        names = {key: self.index.all[key].name for key in law.mentions if not key.startswith(LAWS) and ".antt:" in key}
+        names = {key: self.index.all[key].name for key in sorted(law.mentions) if not key.startswith(LAWS) and ".antt:" in key}
         side = beside(law.text, self.index.all[way[-2]].name) if len(way) > 1 else ""
-        ranked = [key for key in names if key in own]
+        ranked = [key for key in own if key in names]
         ranked += sorted((key for key in names if place_of(names[key], side) >= 0), key=lambda key: place_of(names[key], side))
         if SAME.search(law.name):
             functions = [key for key in names if self.index.all[key].kind == "definition" and names[key][0].islower()]
