@@ -5,7 +5,7 @@
 
 writes config.toml, a recording for each core (core0.csv and on) and order.csv to FOLDER. A seed gives the same module and the same
 recordings each time. The recordings have at most RECORDS records together. They are in format 1, or in format 3 if FORMAT is 3: the module
-then also has channels that lead outside, and its processes call the services that are in format 3 alone.
+then also has channels that lead outside, its processes call the services that are in format 3 alone, and deadlines that they miss are reported.
 """
 import os
 import random
@@ -22,6 +22,8 @@ class Proc:
         self.pos = 0
         self.due = None             # (service, code, val, data, val2, val3)
         self.delay = 0              # of a start before NORMAL
+        self.capacity = None        # None | ticks
+        self.deadline = None        # None | time
         self.release = 0
         self.retained = None
         self.service = None
@@ -33,6 +35,9 @@ class Proc:
         if self.wait is None or self.wait[0] == 'normal':
             return None
         return self.wait[-1]
+
+    def set_deadline(self, time, ticks):
+        self.deadline = None if ticks is None else time + ticks
 
 
 class Part:
@@ -157,7 +162,7 @@ class Sim:
         names = "part proc service n1 n2 n3 name msg prio out val data chan".split()
         g = [str(f.get(n, "")) for n in names]
         w = ";".join("%d:%d" % x for x in sorted(woken))
-        later = ",%s,%s," % (f.get("val2", ""), f.get("val3", "")) if self.is_format_3 else ""
+        later = ",%s,%s,%s" % (f.get("val2", ""), f.get("val3", ""), f.get("err", "")) if self.is_format_3 else ""
         self.rows[core].append("%d,%s,%s,%s%s" % (self.seq[core], kind, ",".join(g), w, later))
         self.order.append("%d,%d" % (core, self.seq[core]))
         self.seq[core] += 1
@@ -270,6 +275,7 @@ class Sim:
                 capacity = r.choice(["", -1, r.randint(1, period or 100)]) if self.is_format_3 else ""
                 emit("CREATE_PROCESS", "NO_ERROR", n1=prio, n2=period or -1, n3=capacity, name="P%d" % n, val=n)
                 p.procs[n] = Proc(p.number, n, p.cores[0], prio, period)
+                p.procs[n].capacity = None if capacity in ("", -1) else capacity
                 answer("CREATE_PROCESS", val=n)
                 if c != p.cores[0]:
                     p.plan.insert(0, ('affinity', n, c))
@@ -342,7 +348,7 @@ class Sim:
         options += ['board'] * 3 * bool(p.boards) + ['port'] * 5 * bool(p.ports) + ['mutex'] * 3 * bool(p.mutexes)
         options += ['start', 'stop', 'suspend', 'resume', 'selfsus', 'prio', 'periodic', 'status']
         if self.is_format_3:
-            options += ['delayed', 'delayed', 'state', 'state', 'owned', 'named', 'mode', 'report', 'reset', 'clear', 'clear', 'port status']
+            options += ['delayed', 'delayed', 'state', 'state', 'budget', 'owned', 'named', 'mode', 'report', 'reset', 'clear', 'clear', 'port status']
         o = r.choice(options)
         if self.call_of_format_3(o, core, q, emit, answer):
             return
@@ -356,6 +362,7 @@ class Sim:
             else:
                 emit("PERIODIC_WAIT", "wait")
                 q.wait = ('rel', nxt)
+            q.set_deadline(nxt, q.capacity)
             return
         if o == 'wait' and not own:
             d = r.choice([1, 1, 2, 3, 5])
@@ -387,7 +394,7 @@ class Sim:
                 t = r.choice(c)
                 emit("STOP", "NO_ERROR", n1=t.number)
                 self.leave(t)
-                t.alive, t.suspended, t.wait, t.due = False, False, None, None
+                t.alive, t.suspended, t.wait, t.due, t.deadline = False, False, None, None, None
                 answer("STOP")
                 return
         if o == 'suspend':
@@ -584,9 +591,17 @@ class Sim:
             self.tell_partition(p, emit, answer)
         elif o == 'state':
             t = r.choice(procs)
-            told = dict(val=self.state_of(t), val2=t.prio, val3=-1)
+            told = dict(val=self.state_of(t), val2=t.prio, val3=-1 if t.deadline is None else t.deadline)
             emit("GET_PROCESS_STATUS", "NO_ERROR", n1=t.number, **told)
             answer("GET_PROCESS_STATUS", **told)
+        elif o == 'budget':
+            most = q.release + q.period - self.time[core] if q.period else 20
+            if most < 1:
+                return False
+            budget = r.randint(1, most) if q.period else r.choice([-1, r.randint(1, most)])
+            emit("REPLENISH", "NO_ERROR", n1=budget)
+            q.set_deadline(self.time[core], None if budget < 0 else budget)
+            answer("REPLENISH")
         elif o == 'owned':
             t = r.choice(procs)
             owned = next((n for n, m in p.mutexes.items() if m['owner'] is t), -2)
@@ -747,13 +762,29 @@ class Sim:
     def enter_normal(self, p, t, place):
         t.pos = place
         if t.period:
-            t.wait = ('first', (self.time[t.core] // p.period + 1) * p.period + t.delay)
+            entry = (self.time[t.core] // p.period + 1) * p.period + t.delay
+            t.wait = ('first', entry)
         else:
-            t.wait = ('delay', self.time[t.core] + t.delay) if t.delay else None
+            entry = self.time[t.core] + t.delay
+            t.wait = ('delay', entry) if t.delay else None
+        t.set_deadline(entry, t.capacity)
         t.delay = 0
+
+    def report_missed(self, core):
+        """Reports a deadline that is missed in the window of the core, if there is one. Returns whether there is."""
+        p = self.window(core)
+        missed = [q for q in p.procs.values() if q.core == core and q.deadline is not None and q.deadline <= self.time[core]] if p else []
+        if not missed:
+            return False
+        q = self.r.choice(missed)
+        self.put(core, "err", part=q.part, proc=q.number, err="DEADLINE_MISSED")
+        q.deadline = None
+        return True
 
     def step(self, core):
         if self.is_format_3 and self.r.random() < self.crossing_rate and self.cross(core):
+            return
+        if self.report_missed(core):
             return
         q = self.choice(core)
         num = (q.part, q.number) if q else None

@@ -44,10 +44,11 @@ struct recorder {
     uint64_t rows;
 };
 
-enum kind { DISP, TICK, CALL, RET, ARRIVE, DEPART, LOST };
+enum kind { DISP, TICK, CALL, RET, ARRIVE, DEPART, ERROR, LOST };
 
 static const char *const KINDS[] = {
-    [DISP] = "disp", [TICK] = "tick", [CALL] = "call", [RET] = "ret", [ARRIVE] = "arrive", [DEPART] = "depart", [LOST] = "lost",
+    [DISP] = "disp",     [TICK] = "tick",     [CALL] = "call", [RET] = "ret",
+    [ARRIVE] = "arrive", [DEPART] = "depart", [ERROR] = "err", [LOST] = "lost",
 };
 
 /* The fields that an entry has, beside those whose length says so. */
@@ -62,7 +63,8 @@ enum field {
     HAS_PRIORITY = 128,
     HAS_OUTCOME = 256,
     HAS_CHANNEL = 512,
-    HAS_N3_LATER = 1024 /* a third number from format 3 on */
+    HAS_N3_LATER = 1024, /* a third number from format 3 on */
+    HAS_ERROR = 2048
 };
 
 /* An entry before it is in the ring. */
@@ -70,7 +72,7 @@ struct entry {
     enum kind kind;
     unsigned fields;
     struct rec_process process;
-    unsigned service, outcome;
+    unsigned service, outcome, error;
     uint8_t priority, channel;
     int64_t numbers[3];
     const int64_t *values;
@@ -91,7 +93,7 @@ union head {
         uint8_t kind, service, outcome, priority, channel, partition, value_count, name_length;
         uint32_t process;
         uint16_t fields, woken_count, message_length, data_length;
-        uint32_t unused;
+        uint8_t error, unused[3];
     } is;
     uint64_t words[3];
 };
@@ -113,6 +115,8 @@ static const char *const OUTCOMES[REC_OUTCOMES] = {
     [REC_INVALID_PARAM] = "INVALID_PARAM", [REC_INVALID_CONFIG] = "INVALID_CONFIG", [REC_INVALID_MODE] = "INVALID_MODE",
     [REC_TIMED_OUT] = "TIMED_OUT",         [REC_WAIT] = "wait",                 [REC_NONE] = "none",
 };
+
+static const char *const ERRORS[REC_ERRORS] = {[REC_DEADLINE_MISSED] = "DEADLINE_MISSED"};
 
 /* Opening. */
 
@@ -198,7 +202,7 @@ static bool exceeds_limits(const struct entry *entry)
 {
     return entry->name_length > REC_NAME_BYTES || entry->message_length > REC_MESSAGE_BYTES ||
            entry->data_length > REC_MESSAGE_BYTES || entry->woken_count > REC_WOKEN || entry->value_count > 3 ||
-           entry->service >= REC_SERVICES || entry->outcome >= REC_OUTCOMES;
+           entry->service >= REC_SERVICES || entry->outcome >= REC_OUTCOMES || entry->error >= REC_ERRORS;
 }
 
 static union head head_of(const struct entry *entry)
@@ -217,6 +221,7 @@ static union head head_of(const struct entry *entry)
                             .woken_count = (uint16_t)entry->woken_count,
                             .message_length = (uint16_t)entry->message_length,
                             .data_length = (uint16_t)entry->data_length,
+                            .error = (uint8_t)entry->error,
                         }};
 }
 
@@ -355,6 +360,13 @@ void rec_depart(struct recorder *recorder, const struct rec_crossing *crossing)
         .woken = crossing->woken,
         .woken_count = crossing->woken_count,
     };
+
+    put(recorder, &entry);
+}
+
+void rec_error(struct recorder *recorder, struct rec_process process, enum rec_error_code error)
+{
+    struct entry entry = {.kind = ERROR, .fields = HAS_PROCESS | HAS_ERROR, .process = process, .error = (unsigned)error};
 
     put(recorder, &entry);
 }
@@ -542,8 +554,8 @@ static void add_next_field(struct text *text, bool is_filled, struct reader *rea
         add_integer(text, (int64_t)next_word(reader));
 }
 
-/* Writes the row of a record, and moves the reader past its entry. Its second and third value come after the woken processes, and then the
- * error, which no record here has. */
+/* Writes the row of a record, and moves the reader past its entry. Its second and third value come after the woken processes, and then its
+ * error. */
 static bool write_record(struct text *text, struct reader *reader)
 {
     union head head;
@@ -575,7 +587,7 @@ static bool write_record(struct text *text, struct reader *reader)
     for (i = 1; i < 3 && reader->recorder->format >= REC_FORMAT_2; i++)
         add_next_field(text, head.is.value_count > i, &values);
     if (reader->recorder->format >= REC_FORMAT_3)
-        add(text, ',');
+        add_text_field(text, head.is.fields & HAS_ERROR, ERRORS[head.is.error]);
     return end_row(text, reader->recorder);
 }
 

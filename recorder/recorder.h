@@ -26,7 +26,7 @@
 
 /*
  * The format of the rows: format 2 also has the services that return the number of a name, or the status of an object or a port. Format 3
- * has all services, and messages from and to the outside of the module.
+ * has all services, messages from and to the outside of the module, and errors.
  */
 enum rec_format { REC_FORMAT_1 = 1, REC_FORMAT_2 = 2, REC_FORMAT_3 = 3 };
 
@@ -97,7 +97,8 @@ enum rec_format { REC_FORMAT_1 = 1, REC_FORMAT_2 = 2, REC_FORMAT_3 = 3 };
     service(REPORT_APPLICATION_MESSAGE, HAS_N2 | HAS_MESSAGE)                     \
     service(CREATE_ERROR_HANDLER, 0)                                              \
     service(LOCK_PREEMPTION, 0)                                                   \
-    service(UNLOCK_PREEMPTION, 0)
+    service(UNLOCK_PREEMPTION, 0)                                                 \
+    service(REPLENISH, HAS_N1)
 
 /* REC_CREATE_PROCESS, and so on. */
 enum rec_service {
@@ -167,6 +168,12 @@ struct rec_crossing {
     size_t woken_count;
 };
 
+/* The errors that a record reports. */
+enum rec_error_code {
+    REC_DEADLINE_MISSED,
+    REC_ERRORS /* how many there are */
+};
+
 /* A recorder of one core. It is in the memory that its opener gave. */
 struct recorder;
 
@@ -193,6 +200,9 @@ void rec_ret(struct recorder *recorder, const struct rec_return *ret);
 /* A message that arrives from outside at a channel, and one that departs from a channel to the outside. Only format 3 has their rows. */
 void rec_arrive(struct recorder *recorder, const struct rec_crossing *crossing);
 void rec_depart(struct recorder *recorder, const struct rec_crossing *crossing);
+
+/* An error of a process, when it is detected. Only format 3 has its row. */
+void rec_error(struct recorder *recorder, struct rec_process process, enum rec_error_code error);
 
 /* Takes all of a text, or answers false. */
 typedef bool rec_sink(void *to, const char *text, size_t length);

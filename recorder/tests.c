@@ -214,6 +214,7 @@ static const struct {
     {REC_CREATE_ERROR_HANDLER, "CREATE_ERROR_HANDLER,,,,,"},
     {REC_LOCK_PREEMPTION, "LOCK_PREEMPTION,,,,,"},
     {REC_UNLOCK_PREEMPTION, "UNLOCK_PREEMPTION,,,,,"},
+    {REC_REPLENISH, "REPLENISH,1,,,,"},
 };
 
 static void services(void)
@@ -239,7 +240,7 @@ static void services(void)
     }
 }
 
-/* What only format 3 has: a time capacity, and messages from and to the outside. */
+/* What only format 3 has: a time capacity, messages from and to the outside, and errors. */
 
 static void create_process(struct recorder *recorder)
 {
@@ -270,12 +271,14 @@ static void later_fields(void)
                                                 .woken = woken,
                                                 .woken_count = 2});
     rec_depart(recorder, &(struct rec_crossing){.channel = 255, .message = (const uint8_t *)"\xff", .message_length = 1});
+    rec_error(recorder, (struct rec_process){31, 6}, REC_DEADLINE_MISSED);
     rec_disp(recorder, NULL);
     expect("the records of format 3", recorder,
            "0,call,1,0,CREATE_PROCESS,5,20,10,N,,0,NO_ERROR,7,,,,,,\n"
            "1,arrive,,,,,,,,0abc,,,,,4,0:2;1:3,,,\n"
            "2,depart,,,,,,,,,,,,ff,255,,,,\n"
-           "3,disp,,,,,,,,,,,,,,,,,\n");
+           "3,err,31,6,,,,,,,,,,,,,,,DEADLINE_MISSED\n"
+           "4,disp,,,,,,,,,,,,,,,,,\n");
 }
 
 /* Fields at their edges. */

@@ -11,11 +11,11 @@ use Rattle.apex_laws.proofs.Common.{initialising_process, is_done, is_in, is_nam
 use Rattle.apex_laws.proofs.Common.{objects_by, outcome_demands, partition_by, partition_demands, period_given, period_of, release_after, release_reached, release_taken, released, released_once, returned, set_after, set_by, stopped, stops}
 use Rattle.apex_laws.proofs.Common.{ticked, time_of, waiting, waits_at, waits_for_normal, with_sets, woken_by, woken_if_named}
 use Rattle.apex_laws.proofs.Common.{Arrive, Depart, Receivers, Senders, channel_set, time_of}
-use Rattle.apex_laws.proofs.Common.{is_for_lock, waits_for_lock}
+use Rattle.apex_laws.proofs.Common.{is_for_lock, waits_for_lock, Error, deadline_taken, reported}
 use Rattle.apex_laws.proofs.Booleans.{by_test, either_way, impossible, never_found, one_item}
 use Rattle.apex_laws.proofs.Codes.{no_error_is_done, not_done}
 use Rattle.apex_laws.proofs.Keeps.{set_by_wait, set_case}
-use Rattle.apex_laws.proofs.Restarts.{call_case, done_case, return_case, woken_table}
+use Rattle.apex_laws.proofs.Restarts.{call_case, done_case, return_case, woken_table, error_case}
 use Rattle.apex_laws.proofs.SoundParts.{named_across, named_wait, own_holds, WaitsInSet, WaitsForLock}
 use Rattle.apex_laws.proofs.Tables.{at_each}
 use Rattle.apex_laws.proofs.Waiters.{all_weaker}
@@ -122,6 +122,8 @@ counts_after configuration cores place core number (Ret ret) partition all =
     return_case (λ next. AllFound (CountsTo (place + 1)) next.mutexes) configuration cores place core number ret partition (counts_later place partition.mutexes all) (counts_later place partition.mutexes all)
 counts_after configuration cores place core number (Arrive crossing) partition all = counts_later place partition.mutexes all
 counts_after configuration cores place core number (Depart crossing) partition all = counts_later place partition.mutexes all
+counts_after configuration cores place core number (Error report) partition all =
+    error_case (λ next. AllFound (CountsTo (place + 1)) next.mutexes) configuration cores place core number report partition (counts_later place partition.mutexes all) (counts_later place partition.mutexes all)
 counts_after configuration cores place core number (Call call) partition all =
     call_case (λ next. AllFound (CountsTo (place + 1)) next.mutexes) configuration cores place core number call partition
     (λ own none. sets_count (place + 1) (set_after place (Call call)) (cond (is_done call.claim.out) (objects_by configuration call.who call.claim.val call.request partition) partition)
@@ -260,7 +262,7 @@ next_kept old new keeps = λ i. release_after (keeps.0 i) (keeps.1 i)
 -- what is demanded of its outcome
 abbrev OutcomeHolds : Configuration → ℕ → List CoreState → ℕ → Partition → CallRecord → Request → Type 0
 OutcomeHolds configuration number cores core partition call asked =
-    AllHold (outcome_demands (conditions_of configuration call.who partition asked) (channel_of partition asked) number asked (answer_of cores core call.who partition asked) call.claim)
+    AllHold (outcome_demands (conditions_of configuration (time_of cores core) call.who partition asked) (channel_of partition asked) number asked (answer_of cores core call.who partition asked) call.claim)
 
 -- the release that its caller takes is one that was reached
 caller_takes : (configuration : Configuration) (number place : ℕ) (cores : List CoreState) (core : ℕ) (partition : Partition) (call : CallRecord) (x new : Process) → time_of cores core ≤ place → KeepsRelease x new
@@ -270,7 +272,7 @@ caller_takes configuration number place cores core partition call x new most kee
     taken_bounded place call.request new bounded.0
     (λ asked.
     (let own : OutcomeHolds configuration number cores core partition call (Request.Caller CallerOperation.PeriodicWait) = subst (OutcomeHolds configuration number cores core partition call) asked hold in
-    let reached = release_found (conditions_of configuration call.who partition (Request.Caller CallerOperation.PeriodicWait)) number cores core partition call.who call.claim
+    let reached = release_found (conditions_of configuration (time_of cores core) call.who partition (Request.Caller CallerOperation.PeriodicWait)) number cores core partition call.who call.claim
     own no_error in
     let here : is_released (time_of cores core) (Some x) ≡ true = subst (λ one. is_released (time_of cores core) one ≡ true) at reached in
     let before : next_release x ≤ time_of cores core = leb-true (next_release x) (time_of cores core) here in
@@ -291,7 +293,7 @@ called_bounded configuration number place core cores partition call sound own mo
     (caller_takes configuration number place cores core partition call x changed most keeps there hold kept) in
     rw caller after))
     (λ other. (let ends : is_named who call.claim.woken ≡ true → EndsNoRelease changed.wait = λ named.
-    (let both = own_ends number place core period cores partition call.who call.request call.claim sound (conditions_of configuration call.who partition call.request)
+    (let both = own_ends number place core period cores partition call.who call.request call.claim sound (conditions_of configuration (time_of cores core) call.who partition call.request)
     (channel_of partition call.request) hold who own named x at in
     by_test (λ (one : Process). EndsNoRelease one.wait) (is_done call.claim.out) (set_by place period cores partition call.who.proc call.request process x) x
     (λ done. subst EndsNoRelease (sym both.1) both.0) (λ not_done. both.0)) in
@@ -369,12 +371,19 @@ bounded_after : (configuration : Configuration) (number : ℕ) (cores : List Cor
 bounded_after configuration number cores partition place core (Disp who) sound most fits hold all = λ process x at. bounded_later place x (all process x at)
 bounded_after configuration number cores partition place core (Tick woken) sound most fits hold all =
     each_has (IsBounded (place + 1)) (ticked place number woken) partition.table
-    (λ process x at. ticked_bounded place (time_of cores core) core number partition.table woken most hold.1.0 process x at (all process x at))
+    (λ process x at. ticked_bounded place (time_of cores core) core number partition.table woken most hold.1.1.0 process x at (all process x at))
 bounded_after configuration number cores partition place core (Ret ret) sound most fits hold all =
     return_case (λ next. AllFound (IsBounded (place + 1)) next.table) configuration cores place core number ret partition
     (each_has (IsBounded (place + 1)) (returned ret.who.proc) partition.table
     (λ process x at. bounded_kept (place + 1) x (returned ret.who.proc process x)
     (by_test (KeepsRelease x) (nat_eq process ret.who.proc) (record x { due = None }) x (λ own. (refl, refl)) (λ other. (refl, refl)))
+    (bounded_later place x (all process x at))))
+    (λ process x at. bounded_later place x (all process x at))
+bounded_after configuration number cores partition place core (Error report) sound most fits hold all =
+    error_case (λ next. AllFound (IsBounded (place + 1)) next.table) configuration cores place core number report partition
+    (each_has (IsBounded (place + 1)) (deadline_taken report.who.proc) partition.table
+    (λ process x at. bounded_kept (place + 1) x (deadline_taken report.who.proc process x)
+    (by_test (KeepsRelease x) (nat_eq process report.who.proc) (reported x) x (λ own. (refl, refl)) (λ other. (refl, refl)))
     (bounded_later place x (all process x at))))
     (λ process x at. bounded_later place x (all process x at))
 bounded_after configuration number cores partition place core (Call call) sound most fits hold all =
@@ -386,13 +395,13 @@ bounded_after configuration number cores partition place core (Call call) sound 
     (let demands = own_holds configuration number core cores partition call own hold in
     joined_has Fact (each_item (called place now period cores partition call) partition.table) (created_by (first_core configuration call.who.part) call call.request)
     (each_has Fact (called place now period cores partition call) partition.table
-    (λ process x at. called_bounded configuration number place core cores partition call sound (eqb-true call.who.part number own) most demands.1.1.1.1.1 period process x at (all process x at)))
+    (λ process x at. called_bounded configuration number place core cores partition call sound (eqb-true call.who.part number own) most demands.1.1.1.1.1.1 period process x at (all process x at)))
     (created_bounded (place + 1) (first_core configuration call.who.part) call call.request fits)))
     (λ own mode is. start_bounded mode (first_core configuration call.who.part) place (place + 1))
     (λ elsewhere.
     (let demands = subst (λ one. AllHold (call_demands one configuration number cores partition core call)) elsewhere hold in
     woken_bounded place number (message_of call.request) call.claim.woken partition.table
-    (λ who here named x at. foreign_ends call.request call.claim.chan number partition.table call.claim.woken demands.1.0 who here named x at) all))
+    (λ who here named x at. foreign_ends call.request call.claim.chan number partition.table call.claim.woken demands.1.1.0 who here named x at) all))
 bounded_after configuration number cores partition place core (Arrive crossing) sound most fits hold all =
     woken_bounded place number crossing.message crossing.woken partition.table
     (λ who here named x at. waiter_ends partition.table (channel_set crossing.chan Receivers) who.proc x

@@ -57,6 +57,8 @@ of_error Condition.OwnsMutex = refl
 of_error Condition.NotLockOwner = refl
 of_error Condition.OwnsLock = refl
 of_error Condition.ProcessOwnsLock = refl
+of_error Condition.BudgetOutOfRange = refl
+of_error Condition.BudgetAboveRelease = refl
 
 of_errors : (conditions : List Condition) (one : Code) → IsCodeOf conditions one → is_done (Out.Answer one) ≡ false
 of_errors [] one is = absurd is

@@ -1,5 +1,5 @@
 -- Which facts the tests of the error conditions decide.
-use Rattle.std.proofs.Common.{◌≡◌, ◌⊎◌, ℕ, zero, suc, ◌+◌, ◌*◌, ◌/◌, ◌%◌, ◌<◌, ◌≤◌, ℤ, pos, negsuc, List, [], ◌∷◌, Option, Some, None, Bool, true, false, not, ◌&&◌, ◌||◌, nat_eq, nat_lt, nat_le, is_none, is_some, refl, sym, ap, subst, ◌∙◌, inl, inr, arith, true≢false, length, IsFalse}
+use Rattle.std.proofs.Common.{◌≡◌, ◌⊎◌, ℕ, zero, suc, ◌+◌, ◌-◌, ◌*◌, ◌/◌, ◌%◌, ◌<◌, ◌≤◌, ℤ, pos, negsuc, List, [], ◌∷◌, Option, Some, None, Bool, true, false, cond, not, ◌&&◌, ◌||◌, nat_eq, nat_lt, nat_le, is_none, is_some, refl, sym, ap, subst, ◌∙◌, inl, inr, arith, true≢false, length, IsFalse}
 use Rattle.std.proofs.Math.Nat.{mul-mod_left}
 use Rattle.std.proofs.lemmas.Bool.{and_from, and_parts, eqb-true, eq-eqb, leb-true}
 use Rattle.std.proofs.lemmas.List.Elements.{All-cons, All-contains, All-contains_itself, All-weaker}
@@ -18,8 +18,8 @@ use Rattle.apex_laws.proofs.Common.{is_normal_mode, is_number, is_over, is_owner
 use Rattle.apex_laws.proofs.Common.{item_at, limits_of, may_not_wait, name_in, number_named, number_of, object_limit, objects_of, of_caller, owns_another, owns_mutex, queuing_port, sampling_port, suits_maximum, suits_period, suits_refresh}
 use Rattle.apex_laws.proofs.Common.{NamedKind, OneHasName}
 use Rattle.apex_laws.proofs.Common.{is_above_period, is_at_least, reaches_period}
-use Rattle.apex_laws.proofs.Common.{natural_of}
-use Rattle.apex_laws.proofs.Booleans.{either_way, first_holds, impossible, is_itself, later_holds, member_first, member_later, never_found, one_item, other_holds}
+use Rattle.apex_laws.proofs.Common.{natural_of, EndsAfter, ends_after, next_release, replenishes_beyond}
+use Rattle.apex_laws.proofs.Booleans.{cannot_hold, either_way, first_holds, impossible, is_itself, later_holds, member_first, member_later, never_found, one_item, other_holds}
 
 -- a test decides a fact: it holds exactly if the fact does
 abbrev pub Tells : Bool → Type 0 → Type 0
@@ -385,6 +385,42 @@ caller_tells test Fact tells found = found_tells (of_caller test) Fact refl tell
 
 pub periodic_caller_tells : (who : Who) (partition : Partition) → Tells (of_caller is_periodic (item_at partition.table who.proc)) (IsCalledByPeriodic who partition)
 periodic_caller_tells who partition = caller_tells is_periodic IsPeriodic periodic_tells (item_at partition.table who.proc)
+
+-- a number below a difference, which is below 0 if the test holds
+below_if : (test : Bool) (one under over : ℕ) → pos one <ℤ cond test (negsuc under) (pos over) → (test ≡ false) × (one < over)
+below_if true one under over fact = absurd fact.lt
+below_if false one under over fact = (refl, (below_tells one over).0 ((below one over).1 fact))
+
+if_below : (test : Bool) (one under over : ℕ) → test ≡ false → one < over → pos one <ℤ cond test (negsuc under) (pos over)
+if_below true one under over fails less = impossible (sym fails)
+if_below false one under over fails less = (below one over).0 ((below_tells one over).1 less)
+
+-- a budget that counts from this time and ends after a release
+ends_after_tells : (now : ℕ) (budget : ℤ) (release : ℕ) → Tells (ends_after now budget release) (EndsAfter now budget release)
+ends_after_tells now (pos budget) release = (
+  λ holds. inr ((below release (now + budget)).0 holds),
+  elim [ inl no_end ↦ (let one : ◌≡◌ {A = ℤ} (pos budget) (negsuc 0) = no_end in cc) | inr later ↦ (below release (now + budget)).1 later ],
+)
+ends_after_tells now (negsuc zero) release = (λ holds. inl refl, λ fact. refl)
+ends_after_tells now (negsuc (suc n)) release =
+    let taken = suc (suc n) in (
+      λ holds. let less : release + taken < now = (below_tells (release + taken) now).0 holds in
+          inr (if_below (nat_lt now taken) release (taken - suc now) (now - taken)
+          (cannot_hold (nat_lt now taken) (λ under. let below_none : now < taken = (below_tells now taken).0 under in omega arith)) (omega arith)),
+      elim [
+        | inl no_end ↦ (let one : ◌≡◌ {A = ℤ} (negsuc (suc n)) (negsuc 0) = no_end in cc)
+        | inr later ↦ (let parts = below_if (nat_lt now taken) release (taken - suc now) (now - taken) later in
+            let less : release < now - taken = parts.1 in
+            (below_tells (release + taken) now).1 (omega arith))
+      ],
+    )
+
+-- a caller that is periodic and whose budget does not end by its next release
+pub beyond_tells : (now : ℕ) (budget : ℤ) (who : Who) (partition : Partition) → Tells (of_caller (replenishes_beyond now budget) (item_at partition.table who.proc))
+    ((process : Process) × (item_at partition.table who.proc ≡ Some process) × (IsPeriodic process × EndsAfter now budget (next_release process)))
+beyond_tells now budget who partition =
+    caller_tells (replenishes_beyond now budget) (λ process. IsPeriodic process × EndsAfter now budget (next_release process))
+    (λ process. tells_both (periodic_tells process) (ends_after_tells now budget (next_release process))) (item_at partition.table who.proc)
 
 -- what the configuration says
 

@@ -9,7 +9,7 @@ use Rattle.apex_laws.proofs.Common.{WakesHere, Who, WindowsAreConfigured, Write,
 use Rattle.apex_laws.proofs.Common.{conditions_of, demands, due_of, first_waiter, has_channel, has_entry_in, has_partition, is_channel, is_configured, is_named, is_over, is_receiver, is_sender, item_at, module_demands, names_one_of, not_yet}
 use Rattle.apex_laws.proofs.Common.{occupant_of, outcome_demands, outcome_returned, own_call_demands, part, partition_demands, reading_of, received, receiving_discipline, refresh_of, sending_discipline, sent, suits_use, time_of, touched_by}
 use Rattle.apex_laws.proofs.Common.{touches, unmet, use_of, used, used_demands, waiting, waits_at, window_now}
-use Rattle.apex_laws.proofs.Common.{Arrive, Clear, Crossing, Demand, Depart, IsLawfulArrival, IsLawfulDeparture, arrival_demands, departure_demands, where_named}
+use Rattle.apex_laws.proofs.Common.{Arrive, Clear, Crossing, Demand, Depart, Error, ErrorReport, IsLawfulArrival, IsLawfulDeparture, IsLawfulError, MissesNone, NoneMissed, NoneMissedIn, arrival_demands, departure_demands, error_demands, where_named}
 use Rattle.apex_laws.proofs.Wakes.{WaitsThere, arrival_wakes, departure_wakes}
 use Rattle.apex_laws.proofs.Booleans.{by_test, cannot_hold, first_holds, impossible, is_itself, later_holds, neither, never_found, one_item}
 use Rattle.apex_laws.proofs.Choices.{choice_from, choice_is, chosen_exists, idle_choice, IsChoice, joined_choice, not_idle, own_choice, ready_waits_not}
@@ -168,6 +168,25 @@ choice_of_all : (configuration : Configuration) (state : State) (core : ℕ) (wh
 choice_of_all configuration state core who windows idle own =
     joined_choice (window_now configuration state.cores core) state.partitions core who idle (λ number is. own number (windows core _ number is))
 
+-- no missed deadline is left to report on a core, if the partition of its window has none left
+joined_missed : (window : Option ℕ) (state : State) (core : ℕ)
+    → ((number : ℕ) → window ≡ Some number → InWindowOf number window (NoneMissed state.cores core (state.partitions number))) → NoneMissedIn window state core
+joined_missed None state core own = tt
+joined_missed (Some number) state core own = own number refl refl
+
+missed_of_all : (configuration : Configuration) (state : State) (core : ℕ) → WindowsAreConfigured configuration
+    → ((number : ℕ) → IsTrue (has_partition configuration number)
+    → InWindowOf number (window_now configuration state.cores core) (NoneMissed state.cores core (state.partitions number)))
+    → MissesNone configuration state core
+missed_of_all configuration state core windows own =
+    joined_missed (window_now configuration state.cores core) state core (λ number is. own number (windows core _ number is))
+
+-- a partition has no missed deadline left in its windows, if none is left on the core
+own_missed : (window : Option ℕ) (state : State) (core number : ℕ) → NoneMissedIn window state core
+    → InWindowOf number window (NoneMissed state.cores core (state.partitions number))
+own_missed None state core number none = tt
+own_missed (Some partition) state core number none = λ same. subst (λ of. NoneMissed state.cores core (state.partitions of)) same none
+
 -- what a channel says of a call through it
 says : (configuration : Configuration) (state : State) (core : ℕ) (call : CallRecord) (channel : ℕ) → call.claim.chan ≡ Some channel
     → AllHold (used_demands (is_channel channel call.claim.chan) configuration (time_of state.cores core) channel (state.channels channel) call)
@@ -191,14 +210,15 @@ lawful_call : (configuration : Configuration) (state : State) (core : ℕ) (call
     → IsLawfulCall configuration state core call
 lawful_call configuration state core call of_module own of_channel = record {
   names = of_module.0;
-  occupant = own.1.0.0;
-  choice = choice_from (window_now configuration state.cores core) state.partitions core call.who own.0 own.1.0.1;
-  due = own.1.1.0;
-  profile = own.1.1.1.0;
-  prio = own.1.1.1.1.0;
-  outcome = has_outcome (conditions_of configuration call.who (state.partitions call.who.part) call.request)
+  deadlines = subst (λ window. NoneMissedIn window state core) (sym own.0) own.1.0;
+  occupant = own.1.1.0.0;
+  choice = choice_from (window_now configuration state.cores core) state.partitions core call.who own.0 own.1.1.0.1;
+  due = own.1.1.1.0;
+  profile = own.1.1.1.1.0;
+  prio = own.1.1.1.1.1.0;
+  outcome = has_outcome (conditions_of configuration (time_of state.cores core) call.who (state.partitions call.who.part) call.request)
       (channel_of (state.partitions call.who.part) call.request) call.who.part call.request
-      (answer_of state.cores core call.who (state.partitions call.who.part) call.request) _ _ call.claim own.1.1.1.1.1 of_channel;
+      (answer_of state.cores core call.who (state.partitions call.who.part) call.request) _ _ call.claim own.1.1.1.1.1.1 of_channel;
 }
 
 -- a return that the module and the returner's partition agree to
@@ -208,9 +228,10 @@ lawful_return : (configuration : Configuration) (state : State) (core : ℕ) (re
     → IsLawfulReturn configuration state core ret
 lawful_return configuration state core ret of_module own = record {
   names = of_module.0;
-  occupant = own.1.0.0;
-  choice = choice_from (window_now configuration state.cores core) state.partitions core ret.who own.0 own.1.0.1;
-  due = returned_is_due (due_of (item_at (state.partitions ret.who.part).table ret.who.proc)) ret own.1.1.0 own.1.1.1.0 own.1.1.1.1.0 own.1.1.1.1.1.0;
+  deadlines = subst (λ window. NoneMissedIn window state core) (sym own.0) own.1.0;
+  occupant = own.1.1.0.0;
+  choice = choice_from (window_now configuration state.cores core) state.partitions core ret.who own.0 own.1.1.0.1;
+  due = returned_is_due (due_of (item_at (state.partitions ret.who.part).table ret.who.proc)) ret own.1.1.1.0 own.1.1.1.1.0 own.1.1.1.1.1.0 own.1.1.1.1.1.1.0;
 }
 
 -- what the channel that a record names finds of it
@@ -226,19 +247,26 @@ lawful_departure : (configuration : Configuration) (state : State) (core : ℕ) 
     → AllHold (departure_demands configuration (time_of state.cores core) crossing.chan (state.channels crossing.chan) crossing) → IsLawfulDeparture configuration state core crossing
 lawful_departure configuration state core crossing of_module of_channel = record { names = of_module.0; chan = of_channel.0; message = of_channel.1.0; woken = of_channel.1.1.0 }
 
+-- an error that the module and its partition agree to
+lawful_error : (configuration : Configuration) (state : State) (core : ℕ) (report : ErrorReport) → AllHold (module_demands configuration state.cores core (Error report))
+    → AllHold (error_demands configuration report.who.part state.cores (state.partitions report.who.part) core report) → IsLawfulError configuration state core report
+lawful_error configuration state core report of_module own = record { names = of_module.0; window = own.0; missed = own.1.0; goes_on = own.1.1.0 }
+
 -- any record
 lawful_body : (configuration : Configuration) (state : State) (core : ℕ) (body : Body) → WindowsAreConfigured configuration
     → AllHold (module_demands configuration state.cores core body) → PartitionsAgree configuration state core body
     → ChannelsAgree configuration state core body → IsLawfulBody configuration state core body
 lawful_body configuration state core (Disp who) windows of_module agree channels = record {
   names = of_module.0;
-  choice = choice_of_all configuration state core who windows of_module.1.0 (λ number is. (agree number is refl).0);
+  deadlines = missed_of_all configuration state core windows (λ number is. (agree number is refl).0);
+  choice = choice_of_all configuration state core who windows of_module.1.0 (λ number is. (agree number is refl).1.0);
 }
 lawful_body configuration state core (Tick woken) windows of_module agree channels = record {
   names = of_module.0;
   skew = of_module.1.0;
-  choice = choice_of_all configuration state core (occupant_of state.cores core) windows of_module.1.1.0 (λ number is. (agree number is refl).0);
-  due = λ number is. (agree number is refl).1.0;
+  deadlines = missed_of_all configuration state core windows (λ number is. (agree number is refl).0);
+  choice = choice_of_all configuration state core (occupant_of state.cores core) windows of_module.1.1.0 (λ number is. (agree number is refl).1.0);
+  due = λ number is. (agree number is refl).1.1.0;
 }
 lawful_body configuration state core (Ret ret) windows of_module agree channels =
     lawful_return configuration state core ret of_module (agree ret.who.part of_module.0 (is_itself ret.who.part))
@@ -246,6 +274,8 @@ lawful_body configuration state core (Arrive crossing) windows of_module agree c
     lawful_arrival configuration state core crossing of_module (named_demands crossing.chan _ (channels crossing.chan of_module.0.1 (is_itself crossing.chan)))
 lawful_body configuration state core (Depart crossing) windows of_module agree channels =
     lawful_departure configuration state core crossing of_module (named_demands crossing.chan _ (channels crossing.chan of_module.0.1 (is_itself crossing.chan)))
+lawful_body configuration state core (Error report) windows of_module agree channels =
+    lawful_error configuration state core report of_module (agree report.who.part of_module.0 (is_itself report.who.part))
 lawful_body configuration state core (Call call) windows of_module agree channels =
     let own = agree call.who.part of_module.0.0 (first_holds _ _ (is_itself call.who.part)) in
     lawful_call configuration state core call of_module
@@ -288,6 +318,7 @@ module_demanded configuration state core (Call call) law =
     (law.names, (not_idle (window_now configuration state.cores core) state.partitions core call.who chosen, tt))
 module_demanded configuration state core (Arrive crossing) law = (law.names, tt)
 module_demanded configuration state core (Depart crossing) law = (law.names, tt)
+module_demanded configuration state core (Error report) law = (law.names, tt)
 module_demanded configuration state core (Ret ret) law =
     let chosen = choice_is (window_now configuration state.cores core) state.partitions core ret.who law.choice in
     (law.names, (not_idle (window_now configuration state.cores core) state.partitions core ret.who chosen, tt))
@@ -336,21 +367,21 @@ other_end configuration partitions channel number _ who ends is_member waits sam
 
 -- so a call through a channel wakes no process of its own partition
 wakes_no_peer : (configuration : Configuration) (state : State) (now : ℕ) (who : Who) (asked : Request) (claim : Claim) (channel : ℕ) → EndsAreApart configuration
-    → AreTied configuration state → conditions_of configuration who (state.partitions who.part) asked ≡ [] → channel_of (state.partitions who.part) asked ≡ Some channel
+    → AreTied configuration state → conditions_of configuration now who (state.partitions who.part) asked ≡ [] → channel_of (state.partitions who.part) asked ≡ Some channel
     → IsThrough channel (suits_use configuration channel who.part (use_of asked) (state.channels channel)) (channel_answer configuration now who.part asked state.channels channel) claim
     → names_one_of who.part claim.woken ≡ false
 wakes_no_peer configuration state now who asked claim channel ends tied none of through =
     cannot_hold (names_one_of who.part claim.woken) (λ names.
     let one = some_named who.part claim.woken names in
     other_end configuration state.partitions channel who.part asked one.0 ends
-    (port_is_at_end configuration who (state.partitions who.part) asked channel (tied.ports who.part) of none)
+    (port_is_at_end configuration now who (state.partitions who.part) asked channel (tied.ports who.part) of none)
     (across configuration state now channel who.part asked tied through.kind one.0 (sym (through.woken one.0) ∙ one.1)) one.2)
 
 -- the partitions
 
 -- what a lawful call claims of its outcome meets the demands of the caller's partition
 peers : (configuration : Configuration) (state : State) (core : ℕ) (call : CallRecord) → EndsAreApart configuration → AreTied configuration state
-    → (conditions : List Condition) → conditions_of configuration call.who (state.partitions call.who.part) call.request ≡ conditions
+    → (conditions : List Condition) → conditions_of configuration (time_of state.cores core) call.who (state.partitions call.who.part) call.request ≡ conditions
     → (channel : Option ℕ) → channel_of (state.partitions call.who.part) call.request ≡ channel
     → ClaimsOutcome configuration state core call.who call.request call.claim conditions channel
     → AllHold (outcome_demands conditions channel call.who.part call.request
@@ -374,15 +405,18 @@ own_call_demanded configuration state core call ends tied law =
     let chosen = choice_is (window_now configuration state.cores core) state.partitions core call.who law.choice in (
       chosen.of,
       (
-        (law.occupant, chosen.choice),
+        subst (λ window. NoneMissedIn window state core) chosen.of law.deadlines,
         (
-          law.due,
+          (law.occupant, chosen.choice),
           (
-            law.profile,
+            law.due,
             (
-              law.prio,
-              peers configuration state core call ends tied (conditions_of configuration call.who (state.partitions call.who.part) call.request) refl
-                  (channel_of (state.partitions call.who.part) call.request) refl law.outcome,
+              law.profile,
+              (
+                law.prio,
+                peers configuration state core call ends tied (conditions_of configuration (time_of state.cores core) call.who (state.partitions call.who.part) call.request) refl
+                    (channel_of (state.partitions call.who.part) call.request) refl law.outcome,
+              ),
             ),
           ),
         ),
@@ -443,14 +477,17 @@ call_demanded configuration state core call ends tied law number true is touched
     subst (λ of. AllHold (own_call_demands configuration of state.cores (state.partitions of) core call))
     (eqb-true call.who.part number is) (own_call_demanded configuration state core call ends tied law)
 call_demanded configuration state core call ends tied law number false is touched = (
-  foreign_window (window_now configuration state.cores core) state.partitions core call.who number
-      (IsRunning number state.cores (state.partitions number) core call.who)
-      (choice_is (window_now configuration state.cores core) state.partitions core call.who law.choice) is,
+  own_missed (window_now configuration state.cores core) state core number law.deadlines,
   (
-    foreign_wakes configuration state core call number tied is touched
-        (conditions_of configuration call.who (state.partitions call.who.part) call.request)
-        (channel_of (state.partitions call.who.part) call.request) law.outcome,
-    tt,
+    foreign_window (window_now configuration state.cores core) state.partitions core call.who number
+        (IsRunning number state.cores (state.partitions number) core call.who)
+        (choice_is (window_now configuration state.cores core) state.partitions core call.who law.choice) is,
+    (
+      foreign_wakes configuration state core call number tied is touched
+          (conditions_of configuration (time_of state.cores core) call.who (state.partitions call.who.part) call.request)
+          (channel_of (state.partitions call.who.part) call.request) law.outcome,
+      tt,
+    ),
   ),
 )
 
@@ -462,14 +499,17 @@ return_demanded configuration state core ret law =
     let chosen = choice_is (window_now configuration state.cores core) state.partitions core ret.who law.choice in (
       chosen.of,
       (
-        (law.occupant, chosen.choice),
+        subst (λ window. NoneMissedIn window state core) chosen.of law.deadlines,
         (
-          if_due due (outcome_returned ret) (λ outcome. outcome.service ≡ ret.service) law.due refl,
+          (law.occupant, chosen.choice),
           (
-            if_due due (outcome_returned ret) (λ outcome. outcome.code ≡ ret.code) law.due refl,
+            if_due due (outcome_returned ret) (λ outcome. outcome.service ≡ ret.service) law.due refl,
             (
-              if_due due (outcome_returned ret) (λ outcome. ReturnsValues outcome ret) law.due (record { val = refl; val2 = refl; val3 = refl }),
-              (if_due due (outcome_returned ret) (λ outcome. outcome.bytes ≡ ret.bytes) law.due refl, tt),
+              if_due due (outcome_returned ret) (λ outcome. outcome.code ≡ ret.code) law.due refl,
+              (
+                if_due due (outcome_returned ret) (λ outcome. ReturnsValues outcome ret) law.due (record { val = refl; val2 = refl; val3 = refl }),
+                (if_due due (outcome_returned ret) (λ outcome. outcome.bytes ≡ ret.bytes) law.due refl, tt),
+              ),
             ),
           ),
         ),
@@ -482,15 +522,20 @@ partition_demanded : (configuration : Configuration) (state : State) (core : ℕ
     → (number : ℕ) → IsTrue (has_partition configuration number) → IsTrue (touched_by configuration body (OfPartition number))
     → AllHold (partition_demands configuration number state.cores (state.partitions number) core body)
 partition_demanded configuration state core (Disp who) ends tied law number is touched =
-    (own_choice (window_now configuration state.cores core) state.partitions core who number law.choice, tt)
-partition_demanded configuration state core (Tick woken) ends tied law number is touched =
-    (own_choice (window_now configuration state.cores core) state.partitions core (occupant_of state.cores core) number law.choice, (law.due number is, tt))
+    (own_missed (window_now configuration state.cores core) state core number law.deadlines, (own_choice (window_now configuration state.cores core) state.partitions core who number law.choice, tt))
+partition_demanded configuration state core (Tick woken) ends tied law number is touched = (
+  own_missed (window_now configuration state.cores core) state core number law.deadlines,
+  (own_choice (window_now configuration state.cores core) state.partitions core (occupant_of state.cores core) number law.choice, (law.due number is, tt)),
+)
 partition_demanded configuration state core (Call call) ends tied law number is touched =
     call_demanded configuration state core call ends tied law number (nat_eq call.who.part number) refl touched
 partition_demanded configuration state core (Arrive crossing) ends tied law number is touched =
     (all_wait state.partitions number (channel_set crossing.chan Receivers) crossing.woken (λ who named. (arrival_wakes configuration state core crossing tied law who named).1), tt)
 partition_demanded configuration state core (Depart crossing) ends tied law number is touched =
     (all_wait state.partitions number (channel_set crossing.chan Senders) crossing.woken (λ who named. (departure_wakes configuration state core crossing tied law who named).1), tt)
+partition_demanded configuration state core (Error report) ends tied law number is touched =
+    subst (λ of. AllHold (error_demands configuration of state.cores (state.partitions of) core report))
+    (eqb-true report.who.part number touched) (law.window, (law.missed, (law.goes_on, tt)))
 partition_demanded configuration state core (Ret ret) ends tied law number is touched =
     subst (λ of. AllHold (partition_demands configuration of state.cores (state.partitions of) core (Ret ret)))
     (eqb-true ret.who.part number touched) (return_demanded configuration state core ret law)

@@ -82,10 +82,10 @@ destination_at_end configuration who partition port channel all by none =
     let at = given_found (λ one. IsAtEnd configuration who.part one.direction one.channel) partition.queuing_ports port is.0 all is.1 in
     subst (λ one. IsTrue (is_receiver configuration one who.part)) (channel_is found is.0 channel is.1 by) (destination_end configuration who.part is.0.direction is.0.channel destination at)
 
-pub port_is_at_end : (configuration : Configuration) (who : Who) (partition : Partition) (asked : Request) (channel : ℕ)
+pub port_is_at_end : (configuration : Configuration) (now : ℕ) (who : Who) (partition : Partition) (asked : Request) (channel : ℕ)
     → AllPorts (λ port. IsAtEnd configuration who.part port.direction port.channel) partition.queuing_ports
-    → channel_of partition asked ≡ Some channel → conditions_of configuration who partition asked ≡ [] → WaitsAtEnd asked configuration channel who.part
-port_is_at_end configuration who partition (Request.QueuingPort port (QueuingOperation.Send length time_out message)) channel all by none =
+    → channel_of partition asked ≡ Some channel → conditions_of configuration now who partition asked ≡ [] → WaitsAtEnd asked configuration channel who.part
+port_is_at_end configuration now who partition (Request.QueuingPort port (QueuingOperation.Send length time_out message)) channel all by none =
     let found = given_object partition.queuing_ports port in
     let conditions : Port → List Condition = λ one. when (is_longer one.size length) Condition.LongerThanPort ++ when (not (is_source one.direction)) Condition.NotSource in
     let own = first_empty (source_conditions found length) (time_out_conditions time_out)
@@ -94,12 +94,12 @@ port_is_at_end configuration who partition (Request.QueuingPort port (QueuingOpe
     let source = no_condition (not (is_source is.0.direction)) Condition.NotSource (second_empty (when (is_longer is.0.size length) Condition.LongerThanPort) (when (not (is_source is.0.direction)) Condition.NotSource) is.2) in
     let at = given_found (λ one. IsAtEnd configuration who.part one.direction one.channel) partition.queuing_ports port is.0 all is.1 in
     subst (λ one. IsTrue (is_sender configuration one who.part)) (channel_is found is.0 channel is.1 by) (source_end configuration who.part is.0.direction is.0.channel source at)
-port_is_at_end configuration who partition (Request.QueuingPort port (QueuingOperation.Receive time_out)) channel all by none =
+port_is_at_end configuration now who partition (Request.QueuingPort port (QueuingOperation.Receive time_out)) channel all by none =
     let found = given_object partition.queuing_ports port in
     destination_at_end configuration who partition port channel all by (first_empty (destination_conditions found) (time_out_conditions time_out)
     (first_empty (destination_conditions found ++ time_out_conditions time_out) (waiting_conditions who partition time_out) none))
-port_is_at_end configuration who partition (Request.QueuingPort port QueuingOperation.Clear) channel all by none = destination_at_end configuration who partition port channel all by none
-port_is_at_end configuration who partition _ channel all by none = tt
+port_is_at_end configuration now who partition (Request.QueuingPort port QueuingOperation.Clear) channel all by none = destination_at_end configuration who partition port channel all by none
+port_is_at_end configuration now who partition _ channel all by none = tt
 
 -- The queuing ports of a partition are at their ends, when ports are created.
 

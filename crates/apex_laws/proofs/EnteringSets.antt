@@ -3,7 +3,7 @@
 use Rattle.std.proofs.Common.{◌≡◌, ℕ, List, [], ◌∷◌, ◌++◌, true, false, cond, nat_eq, ℤ, Option, Some, None, is_some, refl, sym, ap, subst, ◌∙◌, true≢false, ◌&&◌, ◌||◌}
 use Rattle.apex_laws.proofs.Common.{AllHold, Answer, Call, Claim, Condition, LetsGoAsAnswered, OnlyDoneLetsGo, Out, Partition, RefusedLeavesObjects, Request, WaitingSet, Who, answer_of, channel_of, conditions_of, each_set, ends_wait, enters}
 use Rattle.apex_laws.proofs.Common.{entries_at, entry_of, is_done, is_named, is_no_error, is_target, is_the_set, is_waiting, names_one_of, objects_by, outcome_demands, set_after, set_of, stop_of, stops, without}
-use Rattle.apex_laws.proofs.Common.{CoreState, IsSoundPart, item_at, waits_for_lock}
+use Rattle.apex_laws.proofs.Common.{CoreState, IsSoundPart, item_at, waits_for_lock, time_of}
 use Rattle.apex_laws.proofs.Booleans.{cannot_hold, impossible, never_found, not_first, or_false}
 use Rattle.apex_laws.proofs.Codes.{no_error_is_done}
 use Rattle.apex_laws.proofs.Objects.{Leaves, sets_stay}
@@ -45,8 +45,8 @@ only_done_lets_go configuration number place core cores partition call is not_do
     none_leaves (WaitsInSet number wanted partition) (ends_wait call)
     (λ entry is_member. goes_on call entry.who (restarts_none call entry.who.part no_restart)
     (cannot_hold (is_named entry.who call.claim.woken) (λ named. lock_waits_not wanted (item_at partition.table entry.who.proc)
-    (names_awaiting number place cores core partition call.who call.request call.claim is.sound (conditions_of configuration call.who partition call.request) (channel_of partition call.request)
-    is.demands.1.1.1.1.1 not_done entry.who is_member.0 named) is_member.1))
+    (names_awaiting number place cores core partition call.who call.request call.claim is.sound (conditions_of configuration (time_of cores core) call.who partition call.request) (channel_of partition call.request)
+    is.demands.1.1.1.1.1.1 not_done entry.who is_member.0 named) is_member.1))
     (not_first (is_no_error call.claim.out) (nat_eq entry.who.part call.who.part && is_target (stop_of call.request) entry.who.proc) not_done))
     (entries_at partition wanted) (is.sound.is_member wanted) in
     λ i. cond (enters call wanted) (stays i ++ entry_of place call ∷ []) (stays i)
@@ -60,14 +60,14 @@ not_waiting (Out.Answer code) is = refl
 pub lets_go_as_answered : LetsGoAsAnswered
 lets_go_as_answered configuration number place core cores partition call is no_error no_stop no_channel wanted =
     let answer = answer_of cores core call.who partition call.request in
-    let conditions = conditions_of configuration call.who partition call.request in
+    let conditions = conditions_of configuration (time_of cores core) call.who partition call.request in
     let none : conditions ≡ [] = demands_none conditions (channel_of partition call.request) number call.request answer call.claim
-    is.demands.1.1.1.1.1 (no_error_is_done call.claim.out no_error) in
+    is.demands.1.1.1.1.1.1 (no_error_is_done call.claim.out no_error) in
     let off : enters call wanted ≡ false = not_first (is_waiting call.claim.out) (is_the_set wanted (set_of call.request call.claim.chan)) (not_waiting call.claim.out no_error) in
     let stopped : (who : Who) → stops call who ≡ false = λ who. stops_nobody call who (ap (λ (one : Option ℤ). is_some one && is_no_error call.claim.out) no_stop) in
     let leave : (who : Who) → ends_wait call who ≡ is_named who answer.woken =
     λ who. (λ i. restarts_none call who.part (done_goes_on call no_error) i || (is_named who call.claim.woken || stopped who i)) ∙ or_false (is_named who call.claim.woken)
-    ∙ names_as_answered number call.request answer call.claim conditions (channel_of partition call.request) none no_channel is.demands.1.1.1.1.1 who in
+    ∙ names_as_answered number call.request answer call.claim conditions (channel_of partition call.request) none no_channel is.demands.1.1.1.1.1.1 who in
     rw off (without_same (ends_wait call) (λ who. is_named who answer.woken) leave (entries_at partition wanted))
 
 -- the objects

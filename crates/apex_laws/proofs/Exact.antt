@@ -6,14 +6,14 @@ use Rattle.apex_laws.proofs.Common.{WaitersHaveEntries, WaitingSet, WaitsIn, Who
 use Rattle.apex_laws.proofs.Common.{ends_wait, enters, entries_at, entries_at_channel, entries_at_end, entries_in, entries_of, entry_of, entry_wait, first_core, given_object, has_entry_in, is_done, is_named, is_no_error, is_normal}
 use Rattle.apex_laws.proofs.Common.{is_of_channel, is_same, is_target, is_the_set, is_waiting, item_at, message_of, natural_of, new_process, numbered, object_conditions, objects_by, objects_of, partition_by, period_of, released, restart_of}
 use Rattle.apex_laws.proofs.Common.{returned, set_after, set_by, set_of, stop_of, stopped, stops, ticked, time_of, wait_of, waits_at, without, woken_by, woken_if_named}
-use Rattle.apex_laws.proofs.Common.{Arrive, Depart, enters_lock, first_processes, is_of_lock, lock_left, lock_waiters_after, waits_for_lock}
+use Rattle.apex_laws.proofs.Common.{Arrive, Depart, enters_lock, first_processes, is_of_lock, lock_left, lock_waiters_after, waits_for_lock, Error, deadline_taken, reported}
 use Rattle.apex_laws.proofs.Booleans.{by_test, differs_back, either_way, first_holds, impossible, is_itself, later_holds, never_found, not_first, not_second, other_holds}
 use Rattle.apex_laws.proofs.Awaited.{Awaited, awaits, begins, for_none, goes_in, is_for, lock_awaits, ready_awaits_not, set_awaits}
 use Rattle.apex_laws.proofs.Ends.{first_empty}
-use Rattle.apex_laws.proofs.Keeps.{begun_for, called_sets, called_waiters, calls_ready, CallsReady, found_changed, IsReadyCall, leaves, same_sets, same_sets_with, set_case, used_sets}
+use Rattle.apex_laws.proofs.Keeps.{begun_for, called_sets, called_waiters, calls_ready, CallsReady, found_changed, IsReadyCall, leaves, same_sets, same_sets_with, set_case, used_sets, error_leaves_nobody}
 use Rattle.apex_laws.proofs.ObjectCalls.{message_there, mutex_there, object_there}
 use Rattle.apex_laws.proofs.Objects.{each_set_holds, is_created_at, none_there}
-use Rattle.apex_laws.proofs.Restarts.{call_case, goes_on, not_restarted, restarts_none, restarts_other, return_case, start_awaits_not, start_waits_not, waiting_goes_on, woken_table}
+use Rattle.apex_laws.proofs.Restarts.{call_case, goes_on, not_restarted, restarts_none, restarts_other, return_case, start_awaits_not, start_waits_not, waiting_goes_on, woken_table, error_case}
 use Rattle.apex_laws.proofs.SetNames.{channel_set_is, has_end}
 use Rattle.apex_laws.proofs.Stays.{run_keeps}
 use Rattle.apex_laws.proofs.Tables.{at_each}
@@ -177,6 +177,13 @@ who_waits configuration cores place core (Ret ret) partition who wanted ready wa
 who_waits configuration cores place core (Arrive crossing) partition who wanted ready waits =
     waits_after place crossing.message crossing.woken partition.table who wanted waits
 who_waits configuration cores place core (Depart crossing) partition who wanted ready waits = waits_after place [] crossing.woken partition.table who wanted waits
+who_waits configuration cores place core (Error report) partition who wanted ready waits =
+    let stays : leaves (Error report) who ≡ false = error_leaves_nobody report who ready in
+    let Fact : Type 0 = ((leaves (Error report) who ≡ false) × (awaits wanted (item_at partition.table who.proc) ≡ true)) ⊎ ⊥ in
+    error_case (λ next. awaits wanted (item_at next.table who.proc) ≡ true → Fact) configuration cores place core who.part report partition
+    (λ waits. each_back Fact (deadline_taken report.who.proc) partition.table who.proc wanted
+    (λ x at waits. inl (stays, subst (λ one. awaits wanted one ≡ true) (sym at) (by_test (WaitedBefore wanted x) (nat_eq who.proc report.who.proc) (reported x) x (λ own waits. waits) (λ other waits. waits) waits))) waits)
+    (λ waits. inl (stays, waits)) waits
 who_waits configuration cores place core (Call call) partition who wanted ready waits =
     let Fact : Type 0 = ((ends_wait call who ≡ false) × (awaits wanted (item_at partition.table who.proc) ≡ true)) ⊎ ((who ≡ call.who) × (goes_in wanted call ≡ true)) in
     let table = partition.table in
@@ -248,6 +255,10 @@ set_keeps place (Ret ret) who wanted entries stays is_member = is_member
 set_keeps place (Tick woken) who wanted entries stays is_member = has_entry_without (λ who. is_named who woken) who entries stays is_member
 set_keeps place (Arrive crossing) who wanted entries stays is_member = has_entry_without (λ who. is_named who crossing.woken) who entries stays is_member
 set_keeps place (Depart crossing) who wanted entries stays is_member = has_entry_without (λ who. is_named who crossing.woken) who entries stays is_member
+set_keeps place (Error report) who wanted entries stays is_member =
+    by_test (λ kept. has_entry_in who kept ≡ true) report.restarts (without (λ one. nat_eq one.part report.who.part) entries) entries
+    (λ restarts. has_entry_without (λ one. nat_eq one.part report.who.part) who entries (subst (λ test. (test && nat_eq who.part report.who.part) ≡ false) restarts stays) is_member)
+    (λ goes_on. is_member)
 set_keeps place (Call call) who wanted entries stays is_member =
     let rest = has_entry_without (ends_wait call) who entries stays is_member in
     by_test (λ kept. has_entry_in who kept ≡ true) (enters call wanted) (without (ends_wait call) entries ++ entry_of place call ∷ []) (without (ends_wait call) entries)
@@ -302,18 +313,18 @@ used_there : {Object : Type 0} (who : Who) (partition : Partition) (objects : Li
 used_there who partition objects given time_out change none =
     let there = object_there who partition (given_object objects given) time_out none in changed_there objects given there.0 change there.1
 
-waits_there : (configuration : Configuration) (who : Who) (claimed : Option ℤ) {asked : Request} {chan : Option ℕ} {wanted : WaitingSet} (partition : Partition) → WaitsIn asked chan wanted
-    → is_of_channel wanted ≡ false → conditions_of configuration who partition asked ≡ [] → is_created_at (objects_by configuration who claimed asked partition) wanted ≡ true
-waits_there configuration who claimed partition (WaitsIn.sends_to_buffer {buffer = buffer} {length = length}) off none =
+waits_there : (configuration : Configuration) (now : ℕ) (who : Who) (claimed : Option ℤ) {asked : Request} {chan : Option ℕ} {wanted : WaitingSet} (partition : Partition) → WaitsIn asked chan wanted
+    → is_of_channel wanted ≡ false → conditions_of configuration now who partition asked ≡ [] → is_created_at (objects_by configuration who claimed asked partition) wanted ≡ true
+waits_there configuration now who claimed partition (WaitsIn.sends_to_buffer {buffer = buffer} {length = length}) off none =
     let there = message_there (λ (found : Buffer). found.size) (given_object partition.buffers buffer) length (first_empty _ _ (first_empty _ _ none)) in
     changed_there partition.buffers buffer there.0 _ there.1
-waits_there configuration who claimed partition (WaitsIn.receives_from_buffer {buffer = buffer} {time_out = time_out}) off none = used_there who partition partition.buffers buffer time_out _ none
-waits_there configuration who claimed partition (WaitsIn.reads_blackboard {blackboard = blackboard} {time_out = time_out}) off none = used_there who partition partition.blackboards blackboard time_out _ none
-waits_there configuration who claimed partition (WaitsIn.waits_for_semaphore {semaphore = semaphore} {time_out = time_out}) off none = used_there who partition partition.semaphores semaphore time_out _ none
-waits_there configuration who claimed partition (WaitsIn.waits_for_event {event = event} {time_out = time_out}) off none = used_there who partition partition.events event time_out _ none
-waits_there configuration who claimed partition (WaitsIn.acquires_mutex {mutex = mutex} {time_out = time_out}) off none =
+waits_there configuration now who claimed partition (WaitsIn.receives_from_buffer {buffer = buffer} {time_out = time_out}) off none = used_there who partition partition.buffers buffer time_out _ none
+waits_there configuration now who claimed partition (WaitsIn.reads_blackboard {blackboard = blackboard} {time_out = time_out}) off none = used_there who partition partition.blackboards blackboard time_out _ none
+waits_there configuration now who claimed partition (WaitsIn.waits_for_semaphore {semaphore = semaphore} {time_out = time_out}) off none = used_there who partition partition.semaphores semaphore time_out _ none
+waits_there configuration now who claimed partition (WaitsIn.waits_for_event {event = event} {time_out = time_out}) off none = used_there who partition partition.events event time_out _ none
+waits_there configuration now who claimed partition (WaitsIn.acquires_mutex {mutex = mutex} {time_out = time_out}) off none =
     let there = mutex_there who partition mutex time_out none in changed_there partition.mutexes mutex there.0 _ there.1
-waits_there configuration who claimed partition _ off none = impossible (sym off)
+waits_there configuration now who claimed partition _ off none = impossible (sym off)
 
 waiting_is_done : (given : Out) → is_waiting given ≡ true → is_done given ≡ true
 waiting_is_done Out.Waits is = refl
@@ -329,7 +340,7 @@ own_takes configuration cores place core call partition ready wanted off here =
     let done = waiting_is_done call.claim.out parts.0 in
     let objects : Partition = cond (is_done call.claim.out) (objects_by configuration call.who call.claim.val call.request partition) partition in
     let there : is_created_at objects wanted ≡ true = rw done
-    (waits_there configuration call.who call.claim.val partition ((entering_is_the_sentence call wanted).0 here).1 off (ready.none done)) in
+    (waits_there configuration ready.now call.who call.claim.val partition ((entering_is_the_sentence call wanted).0 here).1 off (ready.none done)) in
     rw (is_itself call.who.part, waiting_goes_on call parts.0) (subst (λ entries. has_entry_in call.who entries ≡ true) (sym (called_sets configuration cores place core call partition wanted))
     (each_has_entry call.who (set_after place (Call call)) objects wanted there (set_takes place call wanted (entries_at objects wanted) here)))
 
@@ -360,6 +371,9 @@ object_has_entry configuration cores place core body partition who wanted ready 
         subst (λ entries. has_entry_in who entries ≡ true) (sym (same_sets partition (woken_table place who.part crossing.message crossing.woken partition.table) wanted)) has
     stays (Depart crossing) goes has =
         subst (λ entries. has_entry_in who entries ≡ true) (sym (same_sets partition (woken_table place who.part [] crossing.woken partition.table) wanted)) has
+    stays (Error report) goes has =
+        error_case Has configuration cores place core who.part report partition
+        (subst (λ entries. has_entry_in who entries ≡ true) (sym (same_sets partition (each_item (deadline_taken report.who.proc) partition.table) wanted)) has) has
     stays (Call call) goes has =
         let objects : Partition = cond (is_done call.claim.out) (objects_by configuration call.who call.claim.val call.request partition) partition in
         let used = used_sets (λ entries. has_entry_in who entries ≡ true) configuration call partition wanted has in
@@ -418,6 +432,7 @@ lock_has_entry configuration cores place core body partition who ready before wa
     stays (Tick woken) goes has = has_entry_without (λ who. is_named who woken) who partition.lock.waiters goes has
     stays (Arrive crossing) goes has = has
     stays (Depart crossing) goes has = has
+    stays (Error report) goes has = error_case Has configuration cores place core who.part report partition has has
     stays (Call call) goes has =
         call_case Has configuration cores place core who.part call partition
         (λ own none. subst (λ entries. has_entry_in who entries ≡ true) (sym (called_waiters place call partition.lock)) (lock_keeps place call who partition.lock.waiters goes has))

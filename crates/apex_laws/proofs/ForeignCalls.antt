@@ -42,7 +42,7 @@ goes_on_here configuration state core call tied law number elsewhere who here ap
     goes_on call who (restarts_other call who.part there)
     (cannot_hold (is_named who call.claim.woken) (λ named.
     not_named_here configuration state core call number tied elsewhere
-    (conditions_of configuration call.who (state.partitions call.who.part) call.request) (channel_of (state.partitions call.who.part) call.request) law.outcome
+    (conditions_of configuration (time_of state.cores core) call.who (state.partitions call.who.part) call.request) (channel_of (state.partitions call.who.part) call.request) law.outcome
     who here apart named))
     (not_second (is_no_error call.claim.out) (nat_eq who.part call.who.part && is_target (stop_of call.request) who.proc)
     (not_first (nat_eq who.part call.who.part) (is_target (stop_of call.request) who.proc) there))

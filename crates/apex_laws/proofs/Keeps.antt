@@ -9,14 +9,14 @@ use Rattle.apex_laws.proofs.Common.{Mutex, ObjectKind, Out, Partition, Process, 
 use Rattle.apex_laws.proofs.Common.{conditions_of, created, created_by, due_of_call, each_item, each_set, ends_wait, enters, entries_at, entries_at_end, entries_in, entry_of, entry_wait, first_core, given_object, is_done, is_free, is_in}
 use Rattle.apex_laws.proofs.Common.{is_named, is_new, is_number, is_owner, is_the_set, is_waiting, item_at, new_process, numbered, objects_by, objects_called, objects_of, on_ownership, partition_by, partition_called, period_of, returned}
 use Rattle.apex_laws.proofs.Common.{set_after, set_by, set_in, set_of, start_conditions, started, ticked, time_of, time_out_of, wait_in, wait_of, waits_at, waits_for_normal, window_now, without, woken_if_named}
-use Rattle.apex_laws.proofs.Common.{Arrive, Depart, Lock, StartCondition, delay_kept, Effect, LockOperation, enters_lock, first_for_lock, given_up, is_for_lock, is_of_lock, lock_by, lock_called, lock_effect, lock_left, lock_stopped, lock_waiters_after, locked_again, locked_from, natural_of, not_locked, passed_on, passed_to, unlocked_once, message_of, waits_for_lock}
+use Rattle.apex_laws.proofs.Common.{Arrive, Depart, Lock, StartCondition, delay_kept, Effect, LockOperation, enters_lock, first_for_lock, given_up, is_for_lock, is_of_lock, lock_by, lock_called, lock_effect, lock_left, lock_stopped, lock_waiters_after, locked_again, locked_from, natural_of, not_locked, passed_on, passed_to, unlocked_once, message_of, waits_for_lock, Error, ErrorReport, deadline_taken, entry_deadline, reported}
 use Rattle.apex_laws.proofs.Awaited.{Awaited, awaits, begins, goes_in, is_for, lock_awaits, not_for_normal, ready_awaits_not, set_awaits}
-use Rattle.apex_laws.proofs.Booleans.{by_test, cannot_hold, either_way, impossible, is_itself, never_found}
+use Rattle.apex_laws.proofs.Booleans.{by_test, cannot_hold, either_way, impossible, is_itself, never_found, not_first, not_second}
 use Rattle.apex_laws.proofs.Choices.{chosen_exists, FoundReady}
 use Rattle.apex_laws.proofs.Codes.{done_is_lawful}
 use Rattle.apex_laws.proofs.Ends.{first_empty, no_condition}
 use Rattle.apex_laws.proofs.Objects.{each_set_has, objects_have}
-use Rattle.apex_laws.proofs.Restarts.{call_case, done_case, not_named, not_restarted, not_stopped, return_case, start_distinct, start_set, waiting_goes_on, woken_table}
+use Rattle.apex_laws.proofs.Restarts.{call_case, done_case, not_named, not_restarted, not_stopped, return_case, start_distinct, start_set, waiting_goes_on, woken_table, error_case}
 use Rattle.apex_laws.proofs.Tables.{at_each, distinct_each, distinct_push, some_at_each, turns_each}
 use Rattle.apex_laws.proofs.Waiters.{all_push, all_weaker, all_without}
 use Rattle.apex_laws.proofs.WaitersOf.{same_who}
@@ -69,7 +69,7 @@ pub set_case : (Fact : Process → Type 0) (place period : ℕ) (cores : List Co
     → ((affinity current retained position : ℕ) (suspended : Bool)
     → Fact (record x { affinity = affinity; current_priority = current; retained_priority = retained; ready_position = position; suspended = suspended }))
     → ((now : ℕ) (delay : ℤ) → Fact (started place period now partition.mode delay x))
-    → ((now delay : ℕ) → Fact (record x { wait = entry_wait period now delay x.period; ready_position = place }))
+    → ((now delay : ℕ) → Fact (record x { wait = entry_wait period now delay x.period; deadline = entry_deadline period now delay x; ready_position = place }))
     → Fact (set_by place period cores partition caller asked number x)
 set_case Fact place period cores partition caller (Request.Process process operation) number x set starts enters =
     by_test Fact (is_number process number) (set_in place period (time_of cores x.affinity) partition.mode operation x) x (λ own. by operation) (λ other. set _ _ _ _ _)
@@ -79,7 +79,12 @@ set_case Fact place period cores partition caller (Request.Process process opera
     by (ProcessOperation.DelayedStart delay) = starts (time_of cores x.affinity) delay
     by _ = set _ _ _ _ _
 set_case Fact place period cores partition caller (Request.SetPartitionMode next) number x set starts enters =
-    by_test Fact (waits_for_normal x.wait) (record x { wait = entry_wait period (time_of cores x.affinity) (delay_kept x.wait) x.period; ready_position = place }) x
+    by_test Fact (waits_for_normal x.wait)
+    (record x {
+      wait = entry_wait period (time_of cores x.affinity) (delay_kept x.wait) x.period;
+      deadline = entry_deadline period (time_of cores x.affinity) (delay_kept x.wait) x;
+      ready_position = place;
+    }) x
     (λ waits. enters (time_of cores x.affinity) (delay_kept x.wait)) (λ stays. set _ _ _ _ _)
 set_case Fact place period cores partition caller (Request.Object mutex (on.Mutex operation)) number x set starts enters =
     mutex_case Fact (given_object partition.mutexes mutex) _ number x (λ current retained. set _ current retained _ _)
@@ -113,23 +118,25 @@ not_number table (pos (suc n)) number x at alive none =
     (let conditions : start_conditions (Some x) ≡ [] = subst (λ one. start_conditions one ≡ []) (subst (λ one. item_at table one ≡ Some x) (sym (eqb-true (suc n) number same)) at) none in
     true≢false (sym alive ∙ no_condition x.alive Condition.AlreadyStarted conditions)))
 
-not_started : (configuration : Configuration) (who : Who) (partition : Partition) (asked : Request) (number : ℕ) (x : Process) → item_at partition.table number ≡ Some x → x.alive ≡ true
-    → conditions_of configuration who partition asked ≡ [] → IsNotStarted asked number
-not_started configuration who partition (Request.Process process ProcessOperation.Start) number x at alive none = not_number partition.table process number x at alive none
-not_started configuration who partition (Request.Process process (ProcessOperation.DelayedStart delay)) number x at alive none =
+not_started : (configuration : Configuration) (now : ℕ) (who : Who) (partition : Partition) (asked : Request) (number : ℕ) (x : Process) → item_at partition.table number ≡ Some x → x.alive ≡ true
+    → conditions_of configuration now who partition asked ≡ [] → IsNotStarted asked number
+not_started configuration now who partition (Request.Process process ProcessOperation.Start) number x at alive none = not_number partition.table process number x at alive none
+not_started configuration now who partition (Request.Process process (ProcessOperation.DelayedStart delay)) number x at alive none =
     not_number partition.table process number x at alive (first_empty _ _ (first_empty _ _ none))
-not_started configuration who partition _ number x at alive none = tt
+not_started configuration now who partition _ number x at alive none = tt
 
 -- after a call
 
 -- a call of one of a partition's own processes: its caller is ready, and if it is done, no error condition holds
 pub record IsReadyCall (configuration : Configuration) (partition : Partition) (core : ℕ) (call : CallRecord) : Type 0 where
   pub ready : FoundReady core (item_at partition.table call.who.proc)
-  pub none : is_done call.claim.out ≡ true → conditions_of configuration call.who partition call.request ≡ []
+  pub now : ℕ
+  pub none : is_done call.claim.out ≡ true → conditions_of configuration now call.who partition call.request ≡ []
 
--- a record is such a call, if it is a call of one of this partition's processes
+-- a record is such a call, if it is a call of one of this partition's processes; and an error restarts no partition
 abbrev pub CallsReady : Configuration → ℕ → ℕ → Body → Partition → Type 0
 CallsReady configuration core number (Call call) partition = nat_eq call.who.part number ≡ true → IsReadyCall configuration partition core call
+CallsReady configuration core number (Error report) partition = report.restarts ≡ false
 CallsReady configuration core number _ partition = Unit {0}
 
 -- a lawful call is one
@@ -137,6 +144,7 @@ pub ready_call : (configuration : Configuration) (state : State) (core : ℕ) (c
     → IsLawfulCall configuration state core call → IsReadyCall configuration (state.partitions call.who.part) core call
 ready_call configuration state core call tied law = record {
   ready = chosen_exists (window_now configuration state.cores core) state.partitions core call.who (tied.distinct call.who.part) law.choice;
+  now = time_of state.cores core;
   none = done_is_lawful _ _ _ _ _ call.claim law.outcome;
 }
 
@@ -144,6 +152,7 @@ pub calls_ready : (configuration : Configuration) (state : State) (core : ℕ) (
     → IsLawfulBody configuration state core body → (number : ℕ) → CallsReady configuration core number body (state.partitions number)
 calls_ready configuration state core (Call call) tied law number =
     λ own. subst (λ part. IsReadyCall configuration (state.partitions part) core call) (eqb-true call.who.part number own) (ready_call configuration state core call tied law)
+calls_ready configuration state core (Error report) tied law number = law.goes_on
 calls_ready configuration state core _ tied law number = tt
 
 -- what such a call sets leaves a waiting process alive and waiting
@@ -152,7 +161,7 @@ adjusted_waits : (configuration : Configuration) (cores : List CoreState) (parti
     → ((adjusted place period cores partition call number x).alive ≡ true) × (is_for wanted (adjusted place period cores partition call number x).wait ≡ true)
 adjusted_waits configuration cores partition place period core call ready number x wanted at alive waits =
     by_test (λ (y : Process). (y.alive ≡ true) × (is_for wanted y.wait ≡ true)) (is_done call.claim.out) (set_by place period cores partition call.who.proc call.request number x) x
-    (λ done. (let starts = not_started configuration call.who partition call.request number x at alive (ready.none done) in (
+    (λ done. (let starts = not_started configuration ready.now call.who partition call.request number x at alive (ready.none done) in (
       set_by_alive place period cores partition call.who.proc call.request number x alive,
       ap (is_for wanted) (set_by_wait place period cores partition call.who.proc call.request number x starts (not_for_normal wanted x.wait waits)) ∙ waits,
     ))) (λ not_done. (alive, waits))
@@ -176,7 +185,12 @@ leaves (Ret ret) one = false
 leaves (Tick woken) one = is_named one woken
 leaves (Arrive crossing) one = is_named one crossing.woken
 leaves (Depart crossing) one = is_named one crossing.woken
+leaves (Error report) one = report.restarts && nat_eq one.part report.who.part
 leaves (Call call) one = ends_wait call one
+
+-- an error that restarts no partition ends no wait
+pub error_leaves_nobody : (report : ErrorReport) (one : Who) → report.restarts ≡ false → leaves (Error report) one ≡ false
+error_leaves_nobody report one goes_on = not_first report.restarts (nat_eq one.part report.who.part) goes_on
 
 -- a process of the caller's partition that the call doesn't wake or stop, and that isn't the caller
 called_waits : (configuration : Configuration) (cores : List CoreState) (partition : Partition) (place now core : ℕ) (call : CallRecord) → IsReadyCall configuration partition core call
@@ -214,6 +228,13 @@ keeps_awaiting configuration cores place core (Ret ret) partition who wanted rea
     let new = by_test (λ (y : Process). (y.alive ≡ true) × (is_for wanted y.wait ≡ true)) (nat_eq who.proc ret.who.proc) (record old.process { due = None }) old.process
     (λ own. (old.alive, old.waits)) (λ other. (old.alive, old.waits)) in
     return_case (λ next. awaits wanted (item_at next.table who.proc) ≡ true) configuration cores place core who.part ret partition
+    (goes_on wanted (item_at (each_item change partition.table) who.proc) (change who.proc old.process) (turns_each change partition.table who.proc old.process old.is_member) new.0 new.1) waits
+keeps_awaiting configuration cores place core (Error report) partition who wanted ready stays waits =
+    let old = waits_exists wanted (item_at partition.table who.proc) waits in
+    let change = deadline_taken report.who.proc in
+    let new = by_test (λ (y : Process). (y.alive ≡ true) × (is_for wanted y.wait ≡ true)) (nat_eq who.proc report.who.proc) (reported old.process) old.process
+    (λ own. (old.alive, old.waits)) (λ other. (old.alive, old.waits)) in
+    error_case (λ next. awaits wanted (item_at next.table who.proc) ≡ true) configuration cores place core who.part report partition
     (goes_on wanted (item_at (each_item change partition.table) who.proc) (change who.proc old.process) (turns_each change partition.table who.proc old.process old.is_member) new.0 new.1) waits
 keeps_awaiting configuration cores place core (Call call) partition who wanted ready stays waits =
     let old = waits_exists wanted (item_at partition.table who.proc) waits in
@@ -339,6 +360,10 @@ each_entry Fact Then place (Ret ret) wanted stays entering entries all = all_wea
 each_entry Fact Then place (Tick woken) wanted stays entering entries all = all_without Fact Then (λ who. is_named who woken) stays entries all
 each_entry Fact Then place (Arrive crossing) wanted stays entering entries all = all_without Fact Then (λ who. is_named who crossing.woken) stays entries all
 each_entry Fact Then place (Depart crossing) wanted stays entering entries all = all_without Fact Then (λ who. is_named who crossing.woken) stays entries all
+each_entry Fact Then place (Error report) wanted stays entering entries all =
+    by_test (AllEntries Then) report.restarts (without (λ who. nat_eq who.part report.who.part) entries) entries
+    (λ restarts. all_without Fact Then (λ who. nat_eq who.part report.who.part) (λ entry other is. stays entry (not_second report.restarts (nat_eq entry.who.part report.who.part) other) is) entries all)
+    (λ goes_on. all_weaker Fact Then (λ entry is. stays entry (error_leaves_nobody report entry.who goes_on) is) entries all)
 each_entry Fact Then place (Call call) wanted stays entering entries all =
     let rest : AllEntries Then (without (ends_wait call) entries) = all_without Fact Then (ends_wait call) stays entries all in
     by_test (AllEntries Then) (enters call wanted) (without (ends_wait call) entries ++ entry_of place call ∷ []) (without (ends_wait call) entries)
@@ -376,11 +401,12 @@ pub used_sets : (Holds : List Entry → Type 0) (configuration : Configuration) 
 used_sets Holds configuration call partition wanted has =
     done_case (λ next. Holds (entries_at next wanted)) configuration call partition (λ done. objects_have Holds configuration call.who call.claim.val call.request partition wanted has) has
 
--- a call of another partition, an arrival or a departure
+-- a call of another partition, an arrival, a departure or an error, which leaves all sets
 abbrev pub IsElsewhere : ℕ → Body → Type 0
 IsElsewhere number (Call call) = nat_eq call.who.part number ≡ false
 IsElsewhere number (Arrive crossing) = Unit {0}
 IsElsewhere number (Depart crossing) = Unit {0}
+IsElsewhere number (Error report) = Unit {0}
 IsElsewhere number _ = ⊥
 
 -- a set of a partition after a record, by the set before it: a call of another partition leaves it, and so do an arrival and a departure
@@ -404,6 +430,9 @@ one_set_after Before After configuration cores place core number (Call call) par
     (change (λ elsewhere. true≢false (sym own ∙ elsewhere)) (entries_at objects wanted) (used_sets Before configuration call partition wanted before))))
     (λ own mode is. subst After (sym (start_set StartCondition.PartitionRestart mode configuration call.who.part place wanted)) nobody)
     (λ elsewhere. subst After (sym (same_sets partition (woken_table place number (message_of call.request) call.claim.woken partition.table) wanted)) (foreign elsewhere before))
+one_set_after Before After configuration cores place core number (Error report) partition wanted nobody change foreign before =
+    error_case (λ next. After (entries_at next wanted)) configuration cores place core number report partition
+    (subst After (sym (same_sets partition (each_item (deadline_taken report.who.proc) partition.table) wanted)) (foreign tt before)) (foreign tt before)
 one_set_after Before After configuration cores place core number (Arrive crossing) partition wanted nobody change foreign before =
     subst After (sym (same_sets partition (woken_table place number crossing.message crossing.woken partition.table) wanted)) (foreign tt before)
 one_set_after Before After configuration cores place core number (Depart crossing) partition wanted nobody change foreign before =
@@ -460,6 +489,8 @@ lock_set_after Before After configuration cores place core number (Call call) pa
     call_case (λ next. After next.lock.waiters) configuration cores place core number call partition
     (λ own none. subst After (sym (called_waiters place call partition.lock)) (change (λ elsewhere. true≢false (sym own ∙ elsewhere)) before))
     (λ own mode is. nobody) (λ elsewhere. foreign elsewhere before)
+lock_set_after Before After configuration cores place core number (Error report) partition nobody change foreign before =
+    error_case (λ next. After next.lock.waiters) configuration cores place core number report partition (foreign tt before) (foreign tt before)
 lock_set_after Before After configuration cores place core number (Arrive crossing) partition nobody change foreign before = foreign tt before
 lock_set_after Before After configuration cores place core number (Depart crossing) partition nobody change foreign before = foreign tt before
 
@@ -531,6 +562,8 @@ distinct_by configuration cores place core number (Disp who) partition claims di
 distinct_by configuration cores place core number (Tick woken) partition claims distinct = distinct_each (ticked place number woken) partition.table ∙ distinct
 distinct_by configuration cores place core number (Ret ret) partition claims distinct =
     return_case (λ next. are_distinct next.table ≡ true) configuration cores place core number ret partition (distinct_each (returned ret.who.proc) partition.table ∙ distinct) distinct
+distinct_by configuration cores place core number (Error report) partition claims distinct =
+    error_case (λ next. are_distinct next.table ≡ true) configuration cores place core number report partition (distinct_each (deadline_taken report.who.proc) partition.table ∙ distinct) distinct
 distinct_by configuration cores place core number (Arrive crossing) partition claims distinct = distinct_each _ partition.table ∙ distinct
 distinct_by configuration cores place core number (Depart crossing) partition claims distinct = distinct_each _ partition.table ∙ distinct
 distinct_by configuration cores place core number (Call call) partition claims distinct =

@@ -6,11 +6,11 @@ use Rattle.apex_laws.proofs.Common.{AllEntries, AllHold, Call, CallRecord, Claim
 use Rattle.apex_laws.proofs.Common.{StoppedLeaves, Wait, WaitingSet, Who, answer_of, at_end, channel_of, conditions_of, each_set, ends_wait, entries_at, entries_at_end, is_done, is_in, is_named, is_no_error, is_of_object, is_same}
 use Rattle.apex_laws.proofs.Common.{is_same_end, is_same_set, is_set_used, is_target, item_at, left_by, natural_of, objects_by, objects_of, outcome_demands, partition_by, peer, restart_by, restart_of, set_after, set_at, stop_of}
 use Rattle.apex_laws.proofs.Common.{waits_at, with_ends, with_set, without_one}
-use Rattle.apex_laws.proofs.Common.{Lock, Table, enters_lock, freed_by_stop, is_for_lock, is_of_lock, is_waiting, lock_by, lock_called, lock_left, lock_stopped, lock_waiters_after, objects_called, stopped_lock, waits_for_lock, waking, without}
+use Rattle.apex_laws.proofs.Common.{Lock, Table, enters_lock, freed_by_stop, is_for_lock, is_of_lock, is_waiting, lock_by, lock_called, lock_left, lock_stopped, lock_waiters_after, objects_called, stopped_lock, waits_for_lock, waking, without, time_of, Error, ErrorReport}
 use Rattle.apex_laws.proofs.Booleans.{cannot_hold, either_way, not_first, not_second, same_if}
 use Rattle.apex_laws.proofs.Objects.{Leaves, of_found, sets_stay}
 use Rattle.apex_laws.proofs.PartObjects.{enters_no_other, one_of_kind_changes}
-use Rattle.apex_laws.proofs.Restarts.{restarts_none, return_case}
+use Rattle.apex_laws.proofs.Restarts.{restarts_none, return_case, error_case}
 use Rattle.apex_laws.proofs.SetNames.{ends_agree, same_end_is, set_itself}
 use Rattle.apex_laws.proofs.Codes.{no_error_is_done}
 use Rattle.apex_laws.proofs.Keeps.{same_sets_with, stopped_waiters}
@@ -31,7 +31,7 @@ due_leave number place partition woken sound wanted none =
 -- other records
 
 pub foreign_calls_leave_sets : ForeignCallsLeaveSets
-foreign_calls_leave_sets configuration cores place core number partition = (called, λ crossing. refl, λ crossing. refl, given_back, λ who. refl)
+foreign_calls_leave_sets configuration cores place core number partition = (called, λ crossing. refl, λ crossing. refl, given_back, λ who. refl, reported)
   where
     called : (call : CallRecord) → ¬ (call.who.part ≡ number) → OnlyProcessesChange partition (partition_by configuration cores place core number (Call call) partition)
     called call elsewhere =
@@ -40,6 +40,9 @@ foreign_calls_leave_sets configuration cores place core number partition = (call
 
     given_back : (ret : Return) → OnlyProcessesChange partition (partition_by configuration cores place core number (Ret ret) partition)
     given_back ret = return_case (OnlyProcessesChange partition) configuration cores place core number ret partition refl refl
+
+    reported : (report : ErrorReport) → OnlyProcessesChange partition (partition_by configuration cores place core number (Error report) partition)
+    reported report = error_case (OnlyProcessesChange partition) configuration cores place core number report partition refl refl
 
 -- one set changes
 
@@ -126,13 +129,13 @@ stopped_leaves configuration number place core cores partition call is process a
     let change = set_after place (Call call) in
     let who = peer call.who process in
     let at = created_is partition.table process target found in
-    let own = subst (λ one. AllHold (outcome_demands (conditions_of configuration call.who partition one) (channel_of partition one) number one
-    (answer_of cores core call.who partition one) call.claim)) asked is.demands.1.1.1.1.1 in
+    let own = subst (λ one. AllHold (outcome_demands (conditions_of configuration (time_of cores core) call.who partition one) (channel_of partition one) number one
+    (answer_of cores core call.who partition one) call.claim)) asked is.demands.1.1.1.1.1.1 in
     let ends : (other : Who) → ends_wait call other ≡ (is_named other call.claim.woken || is_same other who) = λ other. stop_ends call process at.0 other at.1 asked no_error in
     let frees : (other : Who) → is_named other call.claim.woken ≡ true → waits_for_lock (item_at partition.table other.proc) ≡ true = λ other named.
     freed_wakes (λ one. waits_for_lock (item_at partition.table one.proc) ≡ true) (natural_of process) partition.lock
     (all_weaker (WaitsForLock number partition) (λ entry. waits_for_lock (item_at partition.table entry.who.proc) ≡ true) (λ entry is_member. is_member.1) partition.lock.waiters is.sound.lock.is_member)
-    other (stop_names (conditions_of configuration call.who partition (Request.Process process ProcessOperation.Stop)) number (Request.Process process ProcessOperation.Stop)
+    other (stop_names (conditions_of configuration (time_of cores core) call.who partition (Request.Process process ProcessOperation.Stop)) number (Request.Process process ProcessOperation.Stop)
     (freed_by_stop (natural_of process) partition.lock) call.claim own other named) in
     let becomes : (wanted : WaitingSet) → change wanted (entries_at partition wanted) ≡ without_one who (entries_at partition wanted) =
     λ wanted. (let off = enters_no_other call wanted (ap (λ one. is_set_used one wanted) asked) in

@@ -22,6 +22,7 @@ pub mod Refusals
 pub mod Viewed
 pub mod ObjectRules
 pub mod LockRules
+pub mod DeadlineRules
 pub mod ProcessRules
 pub mod Records
 pub mod LockCalls

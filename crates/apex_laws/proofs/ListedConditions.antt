@@ -15,7 +15,7 @@ use Rattle.apex_laws.proofs.Booleans.{impossible, member_first, member_later}
 use Rattle.apex_laws.proofs.ConditionTests.{at_most_tells, below_tells, between_tells, caller_tells, cold_start_tells, core_tells, created_by, created_is, destination_tells, equal_tells, fails_tells, full_tells, longer_tells}
 use Rattle.apex_laws.proofs.ConditionTests.{may_not_wait_tells, member_cases, member_nowhere, mode_tells, named_tells, negative_tells, no_length_tells, no_multiple_tells, no_object_by, no_object_is, no_period_tells, no_process_by, no_process_is}
 use Rattle.apex_laws.proofs.ConditionTests.{no_time_out_tells, none_tells, normal_mode_tells, normal_tells, number_tells, object_by, object_is, over_tells, owner_tells, owns_tells, periodic_caller_tells, periodic_tells, priority_tells}
-use Rattle.apex_laws.proofs.ConditionTests.{queuing_port_tells, sampling_port_tells, second_tells, source_tells, suspended_tells, Tells, tells_both, tells_itself, tells_not, unnamed_tells, value_tells, warm_start_mode_tells}
+use Rattle.apex_laws.proofs.ConditionTests.{queuing_port_tells, sampling_port_tells, second_tells, source_tells, suspended_tells, Tells, tells_both, tells_itself, tells_not, unnamed_tells, value_tells, warm_start_mode_tells, beyond_tells}
 
 -- each condition that is listed for a call holds
 
@@ -102,7 +102,7 @@ in_if : {Object : Type 0} {one : Condition} (found : Option Object) (conditions 
     → Among (conditions object) one → Among (conditions_if found conditions) one
 in_if {one = one} found conditions object at is = subst (λ some. Among (conditions_if some conditions) one) (sym at) is
 
-module _ (configuration : Configuration) (who : Who) (partition : Partition) where
+module _ (configuration : Configuration) (now : ℕ) (who : Who) (partition : Partition) where
   -- a caller of a current priority above a mutex's
   above_tells : (priority : ℕ) → Tells (of_caller (λ process. nat_lt priority process.current_priority) (item_at partition.table who.proc))
       ((process : Process) × IsCalledBy who partition process × (priority < process.current_priority))
@@ -113,7 +113,7 @@ module _ (configuration : Configuration) (who : Who) (partition : Partition) whe
   -- what the tests say
 
   abbrev Holds : Request → Condition → Type 0
-  Holds asked one = HasCondition configuration who partition asked one
+  Holds asked one = HasCondition configuration now who partition asked one
 
   time_out_says : {asked : Request} (time_out : ℤ) → HasTimeOut asked time_out → Each (time_out_conditions time_out) (Holds asked)
   time_out_says time_out has = if_fact Condition.TimeOutOutOfRange (no_time_out_tells time_out) (HasCondition.time_out_below time_out has)
@@ -199,7 +199,7 @@ module _ (configuration : Configuration) (who : Who) (partition : Partition) whe
       unless_fact _ (queuing_port_tells configuration who.part name size capacity way order) HasCondition.create_queuing_port
 
   -- each condition that is listed for a call holds
-  says : (asked : Request) → Each (conditions_of configuration who partition asked) (Holds asked)
+  says : (asked : Request) → Each (conditions_of configuration now who partition asked) (Holds asked)
   says (Request.CreateProcess name priority period time_capacity) =
       both (both (both (both (both
       (creation_says _ _ tt (named_tells (λ (process : Process). process.name) name partition.table).0 (at_most_tells (process_limit configuration who.part) (created_count partition.table)).0)
@@ -248,6 +248,10 @@ module _ (configuration : Configuration) (who : Who) (partition : Partition) whe
       both (if_fact _ (negative_tells ticks) HasCondition.timed_wait_delay) (if_fact _ (may_not_wait_tells who partition) HasCondition.timed_wait_waits)
   says (Request.Caller CallerOperation.PeriodicWait) =
       both (unless_fact _ (periodic_caller_tells who partition) HasCondition.periodic_wait_aperiodic) (if_fact _ (may_not_wait_tells who partition) HasCondition.periodic_wait_waits)
+  says (Request.Caller (CallerOperation.Replenish budget)) =
+      both (both (both (unless_fact _ (normal_tells partition.mode) HasCondition.replenish_before_normal) (if_fact _ (equal_tells who.proc 0) HasCondition.replenish_initialising))
+      (if_fact _ (no_period_tells budget) (λ facts. HasCondition.replenish_budget facts.0 facts.1)))
+      (if_fact _ (beyond_tells now budget who partition) (λ facts. HasCondition.replenish_beyond facts.0 facts.1 facts.2.0 facts.2.1))
   says (Request.Caller CallerOperation.GetTime) = none
   says (Request.Caller CallerOperation.GetPartitionStatus) = none
   says (Request.ReportMessage length message) = unless_fact _ (between_tells 0 LONGEST_REPORT length) HasCondition.report_length
@@ -307,7 +311,7 @@ module _ (configuration : Configuration) (who : Who) (partition : Partition) whe
   -- each condition that holds is listed for the call
 
   abbrev Has : Request → Condition → Type 0
-  Has asked one = Among (conditions_of configuration who partition asked) one
+  Has asked one = Among (conditions_of configuration now who partition asked) one
 
   -- what names nothing
 
@@ -444,7 +448,7 @@ module _ (configuration : Configuration) (who : Who) (partition : Partition) whe
   no_destination_met ports given found is other = object_met ports given _ found is (by_fact (destination_tells found.direction) other)
 
   -- each condition that holds is among those of the call
-  met : {asked : Request} {one : Condition} → HasCondition configuration who partition asked one → Has asked one
+  met : {asked : Request} {one : Condition} → HasCondition configuration now who partition asked one → Has asked one
   met (HasCondition.names_nothing {asked = asked} names) = nothing_met asked names
   met (HasCondition.time_out_below {asked = asked} time_out has under) = time_out_met asked time_out has under
   met (HasCondition.may_not_wait {asked = asked} time_out waits not_over may_not) = waits_met asked time_out waits not_over may_not
@@ -533,14 +537,18 @@ module _ (configuration : Configuration) (who : Who) (partition : Partition) whe
   met (HasCondition.lock_greatest owns greatest) =
       in_first _ (in_later _ (by_fact (tells_both (owner_tells partition.lock.owner who.proc) (at_most_tells GREATEST_LOCK_LEVEL partition.lock.level)) (owns, greatest)))
   met (HasCondition.lock_mutex_owner held owns) = in_later _ (by_fact (owns_tells partition who.proc) (held, owns))
+  met (HasCondition.replenish_before_normal other) = in_first _ (in_first _ (in_first _ (by_no_fact (normal_tells partition.mode) other)))
+  met (HasCondition.replenish_initialising none) = in_first _ (in_first _ (in_later _ (by_fact (equal_tells who.proc 0) none)))
+  met (HasCondition.replenish_budget {budget = budget} other most) = in_first _ (in_later _ (by_fact (no_period_tells budget) (other, most)))
+  met (HasCondition.replenish_beyond {budget = budget} process calls periodic ends) = in_later _ (by_fact (beyond_tells now budget who partition) (process, calls, (periodic, ends)))
   met (HasCondition.unlock_before_normal other) = in_first _ (in_first _ (by_no_fact (normal_tells partition.mode) other))
   met (HasCondition.unlock_initialising none) = in_first _ (in_later _ (by_fact (equal_tells who.proc 0) none))
   met (HasCondition.unlock_not_owner other) = in_later _ (by_no_fact (owner_tells partition.lock.owner who.proc) other)
 
 -- so a condition is among those of a call exactly if it holds
 pub conditions_are_the_sentences : ConditionsAreTheSentences
-conditions_are_the_sentences configuration who partition asked one =
-    (λ listed. All-contains (HasCondition configuration who partition asked) (conditions_of configuration who partition asked) one (says configuration who partition asked).all listed, λ holds. (met configuration who partition holds).among)
+conditions_are_the_sentences configuration now who partition asked one =
+    (λ listed. All-contains (HasCondition configuration now who partition asked) (conditions_of configuration now who partition asked) one (says configuration now who partition asked).all listed, λ holds. (met configuration now who partition holds).among)
 
 -- the code of one of some conditions, and a condition that has it
 code_listed : (conditions : List Condition) (given : Code) → IsCodeOf conditions given → (one : Condition) × Contains conditions one × (given ≡ code_of one)
@@ -556,9 +564,9 @@ listed_code (first ∷ others) one given listed same =
 
 -- so a code is one of a call exactly if a condition with it holds
 pub codes_are_the_sentences : CodesAreTheSentences
-codes_are_the_sentences configuration who partition asked given = (
-  λ is. let found = code_listed (conditions_of configuration who partition asked) given is in
-      (found.0, (conditions_are_the_sentences configuration who partition asked found.0).0 found.1, found.2),
-  λ holds. listed_code (conditions_of configuration who partition asked) holds.0 given
-      ((conditions_are_the_sentences configuration who partition asked holds.0).1 holds.1) holds.2,
+codes_are_the_sentences configuration now who partition asked given = (
+  λ is. let found = code_listed (conditions_of configuration now who partition asked) given is in
+      (found.0, (conditions_are_the_sentences configuration now who partition asked found.0).0 found.1, found.2),
+  λ holds. listed_code (conditions_of configuration now who partition asked) holds.0 given
+      ((conditions_are_the_sentences configuration now who partition asked holds.0).1 holds.1) holds.2,
 )

@@ -3,7 +3,7 @@ use Rattle.std.proofs.Common.{◌≡◌, ℕ, List, [], ◌∷◌, true, false, 
 use Rattle.std.proofs.lemmas.Bool.{and_parts}
 use Rattle.apex_laws.proofs.Common.{AllHold, Call, CallerOperation, Claim, Condition, CoreState, IsSoundPart, Lock, OtherCallsLeaveLock, Partition, Process, ProcessOperation, RefusedLeavesLock, Request, Wait, Who, answer_of, channel_of}
 use Rattle.apex_laws.proofs.Common.{conditions_of, created, ends_wait, enters_lock, entries_at, is_done, is_for_lock, is_named, is_no_error, is_of_lock, is_suspension, is_waiting, item_at, lock_by, lock_left, lock_waiters_after}
-use Rattle.apex_laws.proofs.Common.{names_one_of, natural_of, outcome_demands, stop_of, stops_one, waits_for_lock}
+use Rattle.apex_laws.proofs.Common.{names_one_of, natural_of, outcome_demands, stop_of, stops_one, waits_for_lock, time_of}
 use Rattle.apex_laws.proofs.Booleans.{by_test, cannot_hold, neither, not_first, not_second}
 use Rattle.apex_laws.proofs.Codes.{no_error_is_done}
 use Rattle.apex_laws.proofs.EnteringSets.{not_done_waits_not}
@@ -68,7 +68,7 @@ other_calls_leave_lock configuration number place core cores partition call is n
     rw off (none_leaves (WaitsForLock number partition) (ends_wait call)
     (λ entry is_member. goes_on call entry.who (restarts_none call entry.who.part no_restart)
     (cannot_hold (is_named entry.who call.claim.woken) (named_apart number place cores core partition call.who call.request call.claim is.sound no_lock no_stop
-    (conditions_of configuration call.who partition call.request) (channel_of partition call.request) is.demands.1.1.1.1.1 entry.who is_member.0 is_member.1))
+    (conditions_of configuration (time_of cores core) call.who partition call.request) (channel_of partition call.request) is.demands.1.1.1.1.1.1 entry.who is_member.0 is_member.1))
     (stops_nobody call entry.who (not_first (is_some (stop_of call.request)) (is_no_error call.claim.out) (no_target call.request no_stop))))
     partition.lock.waiters is.sound.lock.is_member) in
     ap (lock_left place (Call call)) same ∙ (λ i. record partition.lock { waiters = set i })
@@ -92,8 +92,8 @@ refused_leaves_lock configuration number place core cores partition call is not_
     let set : lock_waiters_after place (Call call) partition.lock.waiters ≡ partition.lock.waiters =
     rw off (none_leaves (WaitsForLock number partition) (ends_wait call)
     (λ entry is_member. goes_on call entry.who (restarts_none call entry.who.part (not_done_goes_on call not_done))
-    (names_none number cores core partition call.who call.request call.claim (conditions_of configuration call.who partition call.request) (channel_of partition call.request)
-    is.demands.1.1.1.1.1 not_ok not_done entry.who is_member.0)
+    (names_none number cores core partition call.who call.request call.claim (conditions_of configuration (time_of cores core) call.who partition call.request) (channel_of partition call.request)
+    is.demands.1.1.1.1.1.1 not_ok not_done entry.who is_member.0)
     (not_first (is_no_error call.claim.out) _ not_ok)) partition.lock.waiters is.sound.lock.is_member) in
     ap (λ test. lock_left place (Call call) (cond test (lock_by call.who.proc call.request partition.lock) partition.lock)) not_done
     ∙ (λ i. record partition.lock { waiters = set i })

@@ -2,11 +2,11 @@
 use Rattle.std.proofs.Common.{◌≡◌, ℕ, List, [], ◌∷◌, ◌++◌, true, false, nat_eq, refl, subst}
 use Rattle.std.proofs.lemmas.Bool.{eqb-true}
 use Rattle.apex_laws.proofs.Common.{AllEntries, AreTied, Arrive, Body, Call, CallRecord, Configuration, Depart, Disp, Entry, IsLawfulBody, IsLawfulCall, IsTiedToLock, Partition, Receivers, Ret, Senders, State, Tick}
-use Rattle.apex_laws.proofs.Common.{channel_set, ends_wait, enters_lock, entry_of, has_entry_in, is_named, item_at, lock_waiters_after, partition_by, waits_for_lock, without}
+use Rattle.apex_laws.proofs.Common.{channel_set, ends_wait, enters_lock, entry_of, has_entry_in, is_named, item_at, lock_waiters_after, partition_by, waits_for_lock, without, Error}
 use Rattle.apex_laws.proofs.Booleans.{by_test, cannot_hold, holds_if}
 use Rattle.apex_laws.proofs.Choices.{ready_waits_not_for_lock}
 use Rattle.apex_laws.proofs.ForeignCalls.{goes_on_here}
-use Rattle.apex_laws.proofs.Keeps.{calls_ready, entered_waits_for_lock, EntersLockWith, IsElsewhere, keeps_waiting_for_lock, leaves, lock_set_after, ready_call}
+use Rattle.apex_laws.proofs.Keeps.{calls_ready, entered_waits_for_lock, EntersLockWith, IsElsewhere, keeps_waiting_for_lock, leaves, lock_set_after, ready_call, error_leaves_nobody}
 use Rattle.apex_laws.proofs.Waiters.{all_push, all_weaker, all_without, member_not}
 use Rattle.apex_laws.proofs.Wakes.{arrival_wakes, departure_wakes, found, lock_awaited, lock_waits_not}
 
@@ -18,6 +18,7 @@ each_lock_entry Fact Then place number (Ret ret) own stays entering entries all 
 each_lock_entry Fact Then place number (Tick woken) own stays entering entries all = all_without Fact Then (λ who. is_named who woken) stays entries all
 each_lock_entry Fact Then place number (Arrive crossing) own stays entering entries all = absurd (own tt)
 each_lock_entry Fact Then place number (Depart crossing) own stays entering entries all = absurd (own tt)
+each_lock_entry Fact Then place number (Error report) own stays entering entries all = absurd (own tt)
 each_lock_entry Fact Then place number (Call call) own stays entering entries all =
     let rest : AllEntries Then (without (ends_wait call) entries) = all_without Fact Then (ends_wait call) stays entries all in
     by_test (AllEntries Then) (enters_lock call) (without (ends_wait call) entries ++ entry_of place call ∷ []) (without (ends_wait call) entries)
@@ -62,6 +63,7 @@ foreign_stays configuration state place core (Arrive crossing) tied law number e
 foreign_stays configuration state place core (Depart crossing) tied law number elsewhere entry is =
     cannot_hold (is_named entry.who crossing.woken) (λ named.
     lock_waits_not (channel_set crossing.chan Senders) (found state.partitions entry.who) (lock_awaited state.partitions number entry is) (departure_wakes configuration state core crossing tied law entry.who named).1)
+foreign_stays configuration state place core (Error report) tied law number elsewhere entry is = error_leaves_nobody report entry.who law.goes_on
 foreign_stays configuration state place core _ tied law number elsewhere entry is = absurd elsewhere
 
 -- the set of a partition's lock

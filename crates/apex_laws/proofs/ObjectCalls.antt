@@ -115,9 +115,9 @@ queuing_there None size capacity way order none = cc
 queuing_there (Some port) size capacity way order none = (port, refl)
 
 pub object_call_is_the_sentence : ObjectCallIsTheSentence
-object_call_is_the_sentence configuration cores core who claimed (Request.Create name (NewObject.Buffer size capacity discipline)) partition apart none =
+object_call_is_the_sentence configuration cores core now who claimed (Request.Create name (NewObject.Buffer size capacity discipline)) partition apart none =
     (refl, creates partition.buffers claimed (new_buffer name size capacity discipline))
-object_call_is_the_sentence configuration cores core who claimed (Request.Object buffer (on.Buffer (BufferOperation.Send length time_out message))) partition apart none =
+object_call_is_the_sentence configuration cores core now who claimed (Request.Object buffer (on.Buffer (BufferOperation.Send length time_out message))) partition apart none =
     let first = first_empty (message_conditions (option_map (λ (found : Buffer). found.size) (given_object partition.buffers buffer)) length) (time_out_conditions time_out)
     (first_empty (message_conditions (option_map (λ (found : Buffer). found.size) (given_object partition.buffers buffer)) length ++ time_out_conditions time_out) (waiting_conditions who partition time_out) none) in
     let there = message_there (λ (found : Buffer). found.size) (given_object partition.buffers buffer) length first in
@@ -127,7 +127,7 @@ object_call_is_the_sentence configuration cores core who claimed (Request.Object
           ((queue_is_the_sentence.0 found.capacity message time_out found.discipline found.receivers found.messages (buffer_sent message time_out found)
           (given_entries AreApart (λ (one : Buffer). one.receivers) partition.buffers buffer found there.1 (apart (set_at kind.Buffer (natural_of buffer) Receivers)))).0 refl),
     )
-object_call_is_the_sentence configuration cores core who claimed (Request.Object buffer (on.Buffer (BufferOperation.Receive time_out))) partition apart none =
+object_call_is_the_sentence configuration cores core now who claimed (Request.Object buffer (on.Buffer (BufferOperation.Receive time_out))) partition apart none =
     let there = object_there who partition (given_object partition.buffers buffer) time_out none in
     let found : Buffer = there.0 in (
       refl,
@@ -135,31 +135,31 @@ object_call_is_the_sentence configuration cores core who claimed (Request.Object
           ((queue_is_the_sentence.1 time_out found.discipline found.senders found.messages (buffer_received time_out found)
           (given_entries AreApart (λ (one : Buffer). one.senders) partition.buffers buffer found there.1 (apart (set_at kind.Buffer (natural_of buffer) Senders)))).0 refl),
     )
-object_call_is_the_sentence configuration cores core who claimed (Request.Create name (NewObject.Blackboard size)) partition apart none =
+object_call_is_the_sentence configuration cores core now who claimed (Request.Create name (NewObject.Blackboard size)) partition apart none =
     (refl, creates partition.blackboards claimed (new_blackboard name size))
-object_call_is_the_sentence configuration cores core who claimed (Request.Object blackboard (on.Blackboard (BlackboardOperation.Display length message))) partition apart none =
+object_call_is_the_sentence configuration cores core now who claimed (Request.Object blackboard (on.Blackboard (BlackboardOperation.Display length message))) partition apart none =
     let there = message_there (λ (found : Blackboard). found.size) (given_object partition.blackboards blackboard) length none in
     (refl, operates partition.blackboards blackboard there.0 there.1 _ (λ one message. record one { message = message }) (λ found. displayed message found.readers) refl)
-object_call_is_the_sentence configuration cores core who claimed (Request.Object blackboard (on.Blackboard (BlackboardOperation.Read time_out))) partition apart none =
+object_call_is_the_sentence configuration cores core now who claimed (Request.Object blackboard (on.Blackboard (BlackboardOperation.Read time_out))) partition apart none =
     let there = object_there who partition (given_object partition.blackboards blackboard) time_out none in
     let found : Blackboard = there.0 in (
       refl,
       operates partition.blackboards blackboard found there.1 _ (λ one message. record one { message = message }) (λ found. board_read time_out found.message)
           ((blackboard_is_the_sentence.1 time_out found.message (board_read time_out found.message)).0 refl),
     )
-object_call_is_the_sentence configuration cores core who claimed (Request.Object blackboard (on.Blackboard BlackboardOperation.Clear)) partition apart none =
+object_call_is_the_sentence configuration cores core now who claimed (Request.Object blackboard (on.Blackboard BlackboardOperation.Clear)) partition apart none =
     let there = lone_there (given_object partition.blackboards blackboard) none in
     (refl, operates partition.blackboards blackboard there.0 there.1 (λ found effect. IsClearing effect) (λ one message. record one { message = message }) (λ found. cleared) refl)
-object_call_is_the_sentence configuration cores core who claimed (Request.Create name (NewObject.Semaphore value maximum discipline)) partition apart none =
+object_call_is_the_sentence configuration cores core now who claimed (Request.Create name (NewObject.Semaphore value maximum discipline)) partition apart none =
     (refl, creates partition.semaphores claimed (new_semaphore name value maximum discipline))
-object_call_is_the_sentence configuration cores core who claimed (Request.Object semaphore (on.Semaphore (SemaphoreOperation.Wait time_out))) partition apart none =
+object_call_is_the_sentence configuration cores core now who claimed (Request.Object semaphore (on.Semaphore (SemaphoreOperation.Wait time_out))) partition apart none =
     let there = object_there who partition (given_object partition.semaphores semaphore) time_out none in
     let found : Semaphore = there.0 in (
       refl,
       operates partition.semaphores semaphore found there.1 _ (λ one value. record one { value = value }) (λ found. semaphore_waited time_out found.value)
           ((semaphore_is_the_sentence.0 time_out found.value (semaphore_waited time_out found.value)).0 refl),
     )
-object_call_is_the_sentence configuration cores core who claimed (Request.Object semaphore (on.Semaphore SemaphoreOperation.Signal)) partition apart none =
+object_call_is_the_sentence configuration cores core now who claimed (Request.Object semaphore (on.Semaphore SemaphoreOperation.Signal)) partition apart none =
     let there = lone_there (given_object partition.semaphores semaphore) none in
     let found : Semaphore = there.0 in (
       refl,
@@ -167,30 +167,30 @@ object_call_is_the_sentence configuration cores core who claimed (Request.Object
           ((semaphore_is_the_sentence.1 found.maximum found.discipline found.waiters found.value (signalled found.maximum (first_waiter found.discipline found.waiters) found.value)
           (given_entries AreApart (λ (one : Semaphore). one.waiters) partition.semaphores semaphore found there.1 (apart (set_at kind.Semaphore (natural_of semaphore) Receivers)))).0 refl),
     )
-object_call_is_the_sentence configuration cores core who claimed (Request.Create name NewObject.Event) partition apart none = (refl, creates partition.events claimed (new_event name))
-object_call_is_the_sentence configuration cores core who claimed (Request.Object event (on.Event EventOperation.Set)) partition apart none =
+object_call_is_the_sentence configuration cores core now who claimed (Request.Create name NewObject.Event) partition apart none = (refl, creates partition.events claimed (new_event name))
+object_call_is_the_sentence configuration cores core now who claimed (Request.Object event (on.Event EventOperation.Set)) partition apart none =
     let there = lone_there (given_object partition.events event) none in
     (refl, operates partition.events event there.0 there.1 _ (λ one up. record one { up = up }) (λ found. event_set found.waiters) refl)
-object_call_is_the_sentence configuration cores core who claimed (Request.Object event (on.Event EventOperation.Reset)) partition apart none =
+object_call_is_the_sentence configuration cores core now who claimed (Request.Object event (on.Event EventOperation.Reset)) partition apart none =
     let there = lone_there (given_object partition.events event) none in
     (refl, operates partition.events event there.0 there.1 (λ found effect. IsResetting effect) (λ one up. record one { up = up }) (λ found. event_reset) refl)
-object_call_is_the_sentence configuration cores core who claimed (Request.Object event (on.Event (EventOperation.Wait time_out))) partition apart none =
+object_call_is_the_sentence configuration cores core now who claimed (Request.Object event (on.Event (EventOperation.Wait time_out))) partition apart none =
     let there = object_there who partition (given_object partition.events event) time_out none in
     let found : Event = there.0 in (
       refl,
       operates partition.events event found there.1 _ (λ one up. record one { up = up }) (λ found. event_waited time_out found.up)
           ((event_is_the_sentence.2 time_out found.up (event_waited time_out found.up)).0 refl),
     )
-object_call_is_the_sentence configuration cores core who claimed (Request.Create name (NewObject.Mutex priority discipline)) partition apart none =
+object_call_is_the_sentence configuration cores core now who claimed (Request.Create name (NewObject.Mutex priority discipline)) partition apart none =
     (refl, creates partition.mutexes claimed (new_mutex name priority discipline))
-object_call_is_the_sentence configuration cores core who claimed (Request.Object mutex (on.Mutex (MutexOperation.Acquire time_out))) partition apart none =
+object_call_is_the_sentence configuration cores core now who claimed (Request.Object mutex (on.Mutex (MutexOperation.Acquire time_out))) partition apart none =
     let there = mutex_there who partition mutex time_out none in
     let found : Mutex = there.0 in (
       refl,
       operates partition.mutexes mutex found there.1 _ (λ one changed. changed) (acquired who.proc time_out)
           ((mutex_is_the_sentence.0 who.proc time_out found (acquired who.proc time_out found)).0 refl),
     )
-object_call_is_the_sentence configuration cores core who claimed (Request.Object mutex (on.Mutex MutexOperation.Release)) partition apart none =
+object_call_is_the_sentence configuration cores core now who claimed (Request.Object mutex (on.Mutex MutexOperation.Release)) partition apart none =
     let there = is_created (given_object partition.mutexes mutex) (λ found. when (not (is_owner found.owner who.proc)) Condition.NotOwner) none in
     let found : Mutex = there.0 in (
       refl,
@@ -198,7 +198,7 @@ object_call_is_the_sentence configuration cores core who claimed (Request.Object
           ((mutex_is_the_sentence.1 found (mutex_released (first_waiter found.discipline found.waiters) found)
           (given_entries AreApart (λ (one : Mutex). one.waiters) partition.mutexes mutex found there.1 (apart (set_at kind.Mutex (natural_of mutex) Receivers)))).0 refl),
     )
-object_call_is_the_sentence configuration cores core who claimed (Request.Object mutex (on.Mutex (MutexOperation.Reset process))) partition apart none =
+object_call_is_the_sentence configuration cores core now who claimed (Request.Object mutex (on.Mutex (MutexOperation.Reset process))) partition apart none =
     let there = lone_there (given_object partition.mutexes mutex) (first_empty _ _ (first_empty _ _ none)) in
     let found : Mutex = there.0 in (
       refl,
@@ -206,7 +206,7 @@ object_call_is_the_sentence configuration cores core who claimed (Request.Object
           ((mutex_is_the_sentence.2 found (hand_on (first_waiter found.discipline found.waiters) found)
           (given_entries AreApart (λ (one : Mutex). one.waiters) partition.mutexes mutex found there.1 (apart (set_at kind.Mutex (natural_of mutex) Receivers)))).0 refl),
     )
-object_call_is_the_sentence configuration cores core who claimed (Request.Create name (NewObject.SamplingPort size direction refresh)) partition apart none =
+object_call_is_the_sentence configuration cores core now who claimed (Request.Create name (NewObject.SamplingPort size direction refresh)) partition apart none =
     let there = sampling_there (sampling_port configuration who.part name) size direction refresh (second_empty _ _ none) in
     let port : SamplingPort = there.0 in
     let new : Port = record { name = name; size = port.size; direction = port.direction; channel = port.channel; valid = false } in (
@@ -218,7 +218,7 @@ object_call_is_the_sentence configuration cores core who claimed (Request.Create
             (sym there.1) (creates partition.sampling_ports claimed new),
       ),
     )
-object_call_is_the_sentence configuration cores core who claimed (Request.Create name (NewObject.QueuingPort size capacity way order)) partition apart none =
+object_call_is_the_sentence configuration cores core now who claimed (Request.Create name (NewObject.QueuingPort size capacity way order)) partition apart none =
     let there = queuing_there (queuing_port configuration who.part name) size capacity way order (second_empty _ _ none) in
     let port : QueuingPort = there.0 in
     let new : Port = record { name = name; size = port.size; direction = port.direction; channel = port.channel; valid = false } in (
@@ -230,10 +230,10 @@ object_call_is_the_sentence configuration cores core who claimed (Request.Create
             (sym there.1) (creates partition.queuing_ports claimed new),
       ),
     )
-object_call_is_the_sentence configuration cores core who claimed (Request.SamplingPort port SamplingOperation.Read) partition apart none =
+object_call_is_the_sentence configuration cores core now who claimed (Request.SamplingPort port SamplingOperation.Read) partition apart none =
     let change : Port → Port = λ found. record found { valid = is_valid claimed } in (
       refl,
       λ number found names at. subst (λ given. OneBecomes partition.sampling_ports (change_at (natural_of given) change partition.sampling_ports) number (change found)) (sym names)
           (changes_one number change partition.sampling_ports found at),
     )
-object_call_is_the_sentence configuration cores core who claimed _ partition apart none = refl
+object_call_is_the_sentence configuration cores core now who claimed _ partition apart none = refl

@@ -6,7 +6,7 @@ use Rattle.apex_laws.proofs.Common.{AllHold, BlackboardOperation, Call, CallReco
 use Rattle.apex_laws.proofs.Common.{OtherSetsStay, Partition, Port, Request, SamplingOperation, WaitingSet, WaitsIn, Who, answer_of, change_at, channel_of, conditions_of, each_item, each_set, enters, entries_at, entries_at_end, is_done}
 use Rattle.apex_laws.proofs.Common.{is_named, is_no_error, is_of_object, is_same_kind, is_set_used, is_target, is_valid, item_at, kind_of, kind_used, names_one_of, natural_of, new_object, numbered_if, object_effect, objects_by}
 use Rattle.apex_laws.proofs.Common.{objects_changed, objects_of, outcome_demands, restart_of, restarts, set_after, set_at, stop_of, stops, stops_some, waits_at, with_objects, with_sets}
-use Rattle.apex_laws.proofs.Common.{CoreState}
+use Rattle.apex_laws.proofs.Common.{CoreState, time_of}
 use Rattle.apex_laws.proofs.Booleans.{cannot_hold, differs_back, is_itself, neither_first, neither_later, not_first, not_second, same_if}
 use Rattle.apex_laws.proofs.Objects.{all_stay_with, each_itself, Leaves, new_has_none, object_stays, objects_stay, one_changes, OnSets, put_if, sets_stay}
 use Rattle.apex_laws.proofs.Restarts.{goes_on}
@@ -68,7 +68,7 @@ other_sets_stay configuration number place core cores partition call is not_stop
     set_stays (WaitsInSet number wanted partition) place call wanted (entries_at partition wanted) (is.sound.is_member wanted) (enters_no_other call wanted unused)
     (λ entry is_member. goes_on call entry.who (restarts_nobody call entry.who.part not_stop)
     (cannot_hold (is_named entry.who call.claim.woken) (λ named. named_uses number place cores core partition call.who call.request call.claim is.sound
-    (conditions_of configuration call.who partition call.request) (channel_of partition call.request) is.demands.1.1.1.1.1 wanted unused entry.who is_member.0 is_member.1 named))
+    (conditions_of configuration (time_of cores core) call.who partition call.request) (channel_of partition call.request) is.demands.1.1.1.1.1.1 wanted unused entry.who is_member.0 is_member.1 named))
     (stops_nobody call entry.who (neither_later _ _ not_stop)))
 
 -- A call changes the one object that it names.

@@ -1,22 +1,22 @@
 -- What the rules compute of a process, and answer to its services, is exactly what the sentences say.
-use Rattle.std.proofs.Common.{◌≡◌, ℕ, zero, suc, not, subst, ◌+◌, ◌*◌, ◌/◌, ◌%◌, ◌<◌, ◌≤◌, ℤ, pos, negsuc, List, [], Option, Some, None, option_map, Bool, true, false, cond, nat_eq, nat_le, IsTrue, refl, sym, ap, ◌∙◌, inl, inr, arith, true≢false, ◌&&◌, ◌∷◌}
+use Rattle.std.proofs.Common.{◌≡◌, ℕ, zero, suc, not, subst, ◌+◌, ◌<◌, ◌≤◌, ℤ, pos, negsuc, List, [], Option, Some, None, option_map, Bool, true, false, cond, nat_eq, nat_le, IsTrue, refl, sym, ap, ◌∙◌, inl, inr, arith, true≢false, ◌&&◌, ◌∷◌}
 use Rattle.std.specs.Option.{option_to_list}
-use Rattle.std.proofs.Math.Nat.{mul-le-mul_right}
-use Rattle.std.proofs.lemmas.Bool.{and_from, and_parts, eqb-true, eq-eqb, leb-true, cases_lt}
+use Rattle.std.proofs.lemmas.Bool.{and_from, and_parts, eqb-true, eq-eqb, leb-true}
 use Rattle.apex_laws.specs.ProcessLaws.{AnswerIsTheSentence, CallerIsTheSentence, CreationIsTheSentence, DueIsTheSentence, ReleaseIsTheSentence, SettingIsTheSentence, StoppingIsTheSentence, WakingIsTheSentence}
 use Rattle.apex_types.specs.declared.operation.ObjectOperation.TheVariants as on
 use Rattle.apex_machine.specs.Answer.{Number}
-use Rattle.apex_laws.proofs.Common.{Answer, CallerOperation, CallRecord, Code, HasDueTime, IsAtRelease, IsBegun, IsCaller, IsEntry, IsFirstRelease, IsMutexChange, IsNormalEntered, IsOverOrWaits, IsOwnerChange, IsReleased, IsResuming}
+use Rattle.apex_laws.proofs.Common.{Answer, CallerOperation, CallRecord, Code, HasDueTime, IsAtRelease, IsBegun, IsCaller, IsEntry, IsMutexChange, IsNormalEntered, IsOverOrWaits, IsOwnerChange, IsReleased, IsResuming}
 use Rattle.apex_laws.proofs.Common.{IsStarted, IsWoken, Mode, Mutex, MutexOperation, OnTarget, Out, Process, ProcessOperation, Renews, Request, Wait, WaitingSet, WaitsForOther, Who, acquired, after_normal, by_mutex, caller_after}
 use Rattle.apex_laws.proofs.Common.{caller_with, code_when_due, created, done, due_by, due_of_call, entry_wait, first_release, first_waiter, given_object, is_normal, is_number, is_over, is_owner, is_released, is_suspension, is_waiting}
 use Rattle.apex_laws.proofs.Common.{item_at, mutex_released, natural_of, next_release, on_ownership, outcome_of, owed, peer, release_taken, released, renews, resuming, service_of_wait, set_of, started, stopped, taking, time_of, time_out_of}
 use Rattle.apex_laws.proofs.Common.{wait_ended, wait_in, wait_of, waiting, waits_for_normal, waking, woken_by}
 use Rattle.apex_laws.proofs.Common.{CoreState, IsModeNumber, IsPartitionStatus, IsProcessStatus, IsStartNumber, IsStateNumber, Partition, StartCondition, answer_by, delay_kept, delay_wait, handed_on, is_occupant, is_ready, mode_number, occupant_of, partition_status, process_status, reporting, start_number, state_number}
-use Rattle.apex_laws.proofs.Common.{Entry, IsMutexState, IsStop, Lock, done_with, first_for_lock, freed_by_stop, mutex_owned, mutex_state, never_waking, next_owner, value_when_woken}
+use Rattle.apex_laws.proofs.Common.{Entry, IsMutexState, IsStop, Lock, done_with, first_for_lock, freed_by_stop, mutex_owned, mutex_state, never_waking, next_owner, value_when_woken, IsDeadlineNumber, IsEntryDeadline, deadline_by, deadline_number, entry_deadline}
 use Rattle.apex_laws.proofs.WaitersOf.{same_is, same_itself}
 use Rattle.apex_laws.proofs.Choices.{is_ready_by, ready_is}
 use Rattle.apex_laws.proofs.Booleans.{by_test, cannot_hold, either_way, impossible, never_found, same_if}
 use Rattle.apex_laws.proofs.ConditionTests.{normal_tells, number_tells, over_tells, owner_tells, Tells}
+use Rattle.apex_laws.proofs.DeadlineRules.{after_is, after_says, entry_deadline_is, entry_deadline_says, first_release_is, one_release}
 
 -- What the rules compute of a process is exactly what the sentences say.
 
@@ -40,42 +40,6 @@ on_target process number Changed changed old new says by = (
 
 -- entry into NORMAL
 
--- the first release is the least multiple above the time
-first_release_is : (period now : ℕ) → 0 < period → IsFirstRelease period now (first_release period now)
-first_release_is period now above =
-    let quotient : period * (now / period) + now % period ≡ now = omega arith in
-    let rest : now % period < period = omega arith in
-    let product : (now / period + 1) * period ≡ period * (now / period) + period = omega arith in
-    record { multiple = (now / period + 1, refl); above = omega arith; least = omega arith }
-
--- one multiple of the period is a period or more below a later one
-multiples : (period a b : ℕ) → a < b → a * period + period ≤ b * period
-multiples period a b below =
-    let more : (a + 1) * period ≤ b * period = mul-le-mul_right period (omega arith) in
-    let product : (a + 1) * period ≡ a * period + period = omega arith in
-    omega arith
-
--- there is one first release
-one_release : (period now one other : ℕ) → IsFirstRelease period now one → IsFirstRelease period now other → one ≡ other
-one_release period now one other first second =
-    let a : ℕ = first.multiple.0 in
-    let b : ℕ = second.multiple.0 in
-    let at : one ≡ a * period = first.multiple.1 in
-    let also : other ≡ b * period = second.multiple.1 in
-    elim (cases_lt a b) [
-      | inl below ↦ (let apart : a * period + period ≤ b * period = multiples period a b below in
-          let now_below : now < one = first.above in
-          let not_above : other ≤ now + period = second.least in
-          absurd (omega arith))
-      | inr above ↦ elim (cases_lt b a) [
-        | inl below ↦ (let apart : b * period + period ≤ a * period = multiples period b a below in
-            let now_below : now < other = second.above in
-            let not_above : one ≤ now + period = first.least in
-            absurd (omega arith))
-        | inr over ↦ (let same : a ≡ b = omega arith in at ∙ ap (λ count. count * period) same ∙ sym also)
-      ]
-    ]
-
 entry_says : (period now delay : ℕ) (own : Option ℕ) → 0 < period → IsEntry period now delay own (entry_wait period now delay own)
 entry_says period now zero None above = IsEntry.at_once refl refl refl
 entry_says period now (suc delay) None above = IsEntry.delayed refl (omega arith) refl
@@ -93,45 +57,66 @@ entry_by period now delay own entry above (IsEntry.periodic of time some first i
     is ∙ ap (λ one. Wait.FirstRelease (one + delay)) (one_release period now time (first_release period now) first (first_release_is period now above))
     ∙ sym (ap (entry_wait period now delay) some)
 
--- a process that is started
+-- a process that is started, by whether its partition is in NORMAL
+abbrev started_if : ℕ → ℕ → ℕ → ℤ → Process → Bool → Process
+started_if place period now delay old test = record old {
+  current_priority = old.base_priority;
+  alive = true;
+  wait = cond test (entry_wait period now (natural_of delay) old.period) (Wait.NormalMode delay);
+  deadline = cond test (entry_deadline period now (natural_of delay) old) None;
+  ready_position = place;
+}
+
+started_by_test : (place period now : ℕ) (delay : ℤ) (old : Process) (one other : Bool) → one ≡ other → started_if place period now delay old one ≡ started_if place period now delay old other
+started_by_test place period now delay old one other same = ap (started_if place period now delay old) same
+
 started_says : (place period now : ℕ) (current : Mode) (delay : ℤ) (old new : Process) → 0 < period → new ≡ started place period now current delay old → IsStarted place period now current delay old new
 started_says place period now current delay old new above is =
-    by_test (λ entry. new ≡ record old { current_priority = old.base_priority; alive = true; wait = entry; ready_position = place } → IsStarted place period now current delay old new)
-    (is_normal current) (entry_wait period now (natural_of delay) old.period) (Wait.NormalMode delay)
-    (λ normal is. IsStarted.in_normal (entry_wait period now (natural_of delay) old.period) ((normal_tells current).0 normal) (entry_says period now (natural_of delay) old.period above) is)
-    (λ not_normal is. IsStarted.before_normal (λ normal. true≢false (sym (ap is_normal normal) ∙ not_normal)) is) is
+    either_way (is_normal current)
+    (λ normal. IsStarted.in_normal (entry_wait period now (natural_of delay) old.period) (entry_deadline period now (natural_of delay) old) ((normal_tells current).0 normal)
+    (entry_says period now (natural_of delay) old.period above) (entry_deadline_says period now (natural_of delay) old above) (is ∙ started_by_test place period now delay old (is_normal current) true normal))
+    (λ not_normal. IsStarted.before_normal (λ normal. true≢false (sym (ap is_normal normal) ∙ not_normal)) (is ∙ started_by_test place period now delay old (is_normal current) false not_normal))
 
 started_by : (place period now : ℕ) (current : Mode) (delay : ℤ) (old new : Process) → 0 < period → IsStarted place period now current delay old new → new ≡ started place period now current delay old
-started_by place period now current delay old new above (IsStarted.in_normal entry normal enters is) =
-    is ∙ ap (λ one. record old { current_priority = old.base_priority; alive = true; wait = one; ready_position = place })
-    (entry_by period now (natural_of delay) old.period entry above enters
-    ∙ sym (ap (λ test. cond test (entry_wait period now (natural_of delay) old.period) (Wait.NormalMode delay)) (ap is_normal normal)))
+started_by place period now current delay old new above (IsStarted.in_normal entry deadline normal enters set is) =
+    let same_entry = entry_by period now (natural_of delay) old.period entry above enters in
+    let same_deadline = entry_deadline_is period now (natural_of delay) old deadline above set in
+    is ∙ (λ i. record old { current_priority = old.base_priority; alive = true; wait = same_entry i; deadline = same_deadline i; ready_position = place })
+    ∙ sym (started_by_test place period now delay old (is_normal current) true (ap is_normal normal))
 started_by place period now current delay old new above (IsStarted.before_normal differs is) =
-    is ∙ ap (λ one. record old { current_priority = old.base_priority; alive = true; wait = one; ready_position = place })
-    (sym (ap (λ test. cond test (entry_wait period now (natural_of delay) old.period) (Wait.NormalMode delay))
-    (cannot_hold (is_normal current) (λ normal. differs ((normal_tells current).0 normal)))))
+    is ∙ sym (started_by_test place period now delay old (is_normal current) false (cannot_hold (is_normal current) (λ normal. differs ((normal_tells current).0 normal))))
 
 -- the wait for NORMAL
 for_normal_is : (one : Wait) → waits_for_normal one ≡ true → (delay : ℤ) × (one ≡ Wait.NormalMode delay)
 for_normal_is (Wait.NormalMode delay) is = (delay, refl)
 for_normal_is _ is = impossible is
 
+-- a process that has waited for NORMAL and enters it
+abbrev entered_normal : ℕ → ℕ → ℕ → Process → Process
+entered_normal place period now old = record old {
+  wait = entry_wait period now (delay_kept old.wait) old.period;
+  deadline = entry_deadline period now (delay_kept old.wait) old;
+  ready_position = place;
+}
+
 normal_says : (place period now : ℕ) (old new : Process) → 0 < period → new ≡ after_normal place period now old → IsNormalEntered place period now old new
 normal_says place period now old new above is =
     by_test (λ one. new ≡ one → IsNormalEntered place period now old new) (waits_for_normal old.wait)
-    (record old { wait = entry_wait period now (delay_kept old.wait) old.period; ready_position = place }) old
+    (record old { wait = entry_wait period now (delay_kept old.wait) old.period; deadline = entry_deadline period now (delay_kept old.wait) old; ready_position = place }) old
     (λ waits is. (let at = for_normal_is old.wait waits in
-    IsNormalEntered.waited at.0 (entry_wait period now (delay_kept old.wait) old.period) at.1
-    (subst (λ one. IsEntry period now one old.period (entry_wait period now (delay_kept old.wait) old.period)) (ap delay_kept at.1) (entry_says period now (delay_kept old.wait) old.period above)) is))
+    IsNormalEntered.waited at.0 (entry_wait period now (delay_kept old.wait) old.period) (entry_deadline period now (delay_kept old.wait) old) at.1
+    (subst (λ one. IsEntry period now one old.period (entry_wait period now (delay_kept old.wait) old.period)) (ap delay_kept at.1) (entry_says period now (delay_kept old.wait) old.period above))
+    (subst (λ one. IsEntryDeadline period now one old (entry_deadline period now (delay_kept old.wait) old)) (ap delay_kept at.1) (entry_deadline_says period now (delay_kept old.wait) old above)) is))
     (λ not_waiting is. IsNormalEntered.else_stays (λ delay waits. true≢false (sym (ap waits_for_normal waits) ∙ not_waiting)) is) is
 
 normal_by : (place period now : ℕ) (old new : Process) → 0 < period → IsNormalEntered place period now old new → new ≡ after_normal place period now old
-normal_by place period now old new above (IsNormalEntered.waited delay entry waits enters is) =
-    is ∙ ap (λ one. record old { wait = one; ready_position = place })
-    (entry_by period now (natural_of delay) old.period entry above enters ∙ ap (λ one. entry_wait period now one old.period) (sym (ap delay_kept waits)))
-    ∙ sym (ap (λ test. cond test (record old { wait = entry_wait period now (delay_kept old.wait) old.period; ready_position = place }) old) (ap waits_for_normal waits))
+normal_by place period now old new above (IsNormalEntered.waited delay entry deadline waits enters set is) =
+    let same_entry = entry_by period now (natural_of delay) old.period entry above enters ∙ ap (λ one. entry_wait period now one old.period) (sym (ap delay_kept waits)) in
+    let same_deadline = entry_deadline_is period now (natural_of delay) old deadline above set ∙ ap (λ one. entry_deadline period now one old) (sym (ap delay_kept waits)) in
+    is ∙ (λ i. record old { wait = same_entry i; deadline = same_deadline i; ready_position = place })
+    ∙ sym (ap (λ test. cond test (entered_normal place period now old) old) (ap waits_for_normal waits))
 normal_by place period now old new above (IsNormalEntered.else_stays differs is) =
-    is ∙ sym (ap (λ test. cond test (record old { wait = entry_wait period now (delay_kept old.wait) old.period; ready_position = place }) old)
+    is ∙ sym (ap (λ test. cond test (entered_normal place period now old) old)
     (cannot_hold (waits_for_normal old.wait) (λ waits. let at = for_normal_is old.wait waits in differs at.0 at.1)))
 
 -- owners of mutexes
@@ -247,8 +232,8 @@ waits_in_set now asked chan process set at = ap (λ one. wait_in one (due_of_cal
 
 -- a caller that took a release
 taken : (place now : ℕ) (call : CallRecord) (old : Process) (asked : Request) → Renews asked
-    → record old { ready_position = place; last_release = release_taken asked old; due = Some (outcome_of call Code.NoError); called_at = now }
-    ≡ record (taking asked old) { ready_position = place; due = Some (outcome_of call Code.NoError); called_at = now }
+    → record old { ready_position = place; last_release = release_taken asked old; deadline = deadline_by asked now old; due = Some (outcome_of call Code.NoError); called_at = now }
+    ≡ record (taking asked old) { ready_position = place; deadline = deadline_by asked now old; due = Some (outcome_of call Code.NoError); called_at = now }
 taken place now call old (Request.Caller (CallerOperation.TimedWait ticks)) renews = refl
 taken place now call old (Request.Caller CallerOperation.PeriodicWait) renews = refl
 taken place now call old _ renews = absurd renews
@@ -334,34 +319,41 @@ begun_is now asked chan process begun (IsBegun.object set at is) = is ∙ sym (w
 caller_says : (place now : ℕ) (call : CallRecord) (old new : Process) (given : Out) → call.claim.out ≡ given
     → (IsTrue (is_waiting given) → IsBegun now call.request call.claim.chan old (wait_of call.request call.claim.chan now old))
     → new ≡ record (caller_with place now call given old) { called_at = now } → IsCaller place now call old new
-caller_says place now call old new Out.Waits at begins is = IsCaller.waits (wait_of call.request call.claim.chan now old) at (begins refl) is
+caller_says place now call old new Out.Waits at begins is =
+    IsCaller.waits (wait_of call.request call.claim.chan now old) (deadline_by call.request now old) at (begins refl) (after_says call.request now old) is
 caller_says place now call old new Out.Never at begins is = IsCaller.ends (stopped old) at refl is
 caller_says place now call old new (Out.Answer Code.NoError) at begins is =
     elim (renews call.request) as (λ renewed. renews call.request ≡ renewed → new ≡ record old {
       ready_position = cond (renewed && true) place old.ready_position;
       last_release = release_taken call.request old;
+      deadline = deadline_by call.request now old;
       due = Some (outcome_of call Code.NoError);
       called_at = now;
     } → IsCaller place now call old new) [
-      | true ↦ λ renewed is. IsCaller.is_renewed at (renews_is call.request renewed) (is ∙ taken place now call old call.request (renews_is call.request renewed))
-      | false ↦ λ not_renewed is. IsCaller.is_answered at (λ renewed. true≢false (sym (renews_by call.request renewed) ∙ not_renewed))
-          (is ∙ ap (λ release. record old { last_release = release; due = Some (outcome_of call Code.NoError); called_at = now }) (takes_none call.request old (λ renewed. true≢false (sym (renews_by call.request renewed) ∙ not_renewed))))
+      | true ↦ λ renewed is. IsCaller.is_renewed (deadline_by call.request now old) at (renews_is call.request renewed) (after_says call.request now old)
+          (is ∙ taken place now call old call.request (renews_is call.request renewed))
+      | false ↦ λ not_renewed is. IsCaller.is_answered (deadline_by call.request now old) at (λ renewed. true≢false (sym (renews_by call.request renewed) ∙ not_renewed)) (after_says call.request now old)
+          (is ∙ ap (λ release. record old { last_release = release; deadline = deadline_by call.request now old; due = Some (outcome_of call Code.NoError); called_at = now }) (takes_none call.request old (λ renewed. true≢false (sym (renews_by call.request renewed) ∙ not_renewed))))
     ] refl is
 caller_says place now call old new (Out.Answer given) at begins is = IsCaller.is_refused given at (λ same. cc) (is ∙ kept_so place now call old given)
 
 caller_by : (place now : ℕ) (call : CallRecord) (old new : Process) → IsCaller place now call old new → new ≡ caller_after place now call old
-caller_by place now call old new (IsCaller.waits begun at begins is) =
-    is ∙ ap (λ one. record old { wait = one; called_at = now }) (begun_is now call.request call.claim.chan old begun begins)
+caller_by place now call old new (IsCaller.waits begun deadline at begins set is) =
+    let same_wait = begun_is now call.request call.claim.chan old begun begins in
+    let same_deadline = after_is call.request now old deadline set in
+    is ∙ (λ i. record old { wait = same_wait i; deadline = same_deadline i; called_at = now })
     ∙ sym (ap (λ given. record (caller_with place now call given old) { called_at = now }) at)
 caller_by place now call old new (IsCaller.ends one at is_stopped is) =
     is ∙ ap (λ (process : Process). let one : Process = record process { called_at = now } in one) is_stopped ∙ sym (ap (λ given. record (caller_with place now call given old) { called_at = now }) at)
-caller_by place now call old new (IsCaller.is_renewed at renewed is) =
-    is ∙ sym (taken place now call old call.request renewed)
-    ∙ ap (λ test. record old { ready_position = cond (test && true) place old.ready_position; last_release = release_taken call.request old; due = Some (outcome_of call Code.NoError); called_at = now }) (sym (renews_by call.request renewed))
+caller_by place now call old new (IsCaller.is_renewed deadline at renewed set is) =
+    is ∙ ap (λ one. record (taking call.request old) { ready_position = place; deadline = one; due = Some (outcome_of call Code.NoError); called_at = now }) (after_is call.request now old deadline set)
+    ∙ sym (taken place now call old call.request renewed)
+    ∙ ap (λ test. record old { ready_position = cond (test && true) place old.ready_position; last_release = release_taken call.request old; deadline = deadline_by call.request now old; due = Some (outcome_of call Code.NoError); called_at = now }) (sym (renews_by call.request renewed))
     ∙ sym (ap (λ given. record (caller_with place now call given old) { called_at = now }) at)
-caller_by place now call old new (IsCaller.is_answered at not_renewing is) =
-    is ∙ ap (λ release. record old { last_release = release; due = Some (outcome_of call Code.NoError); called_at = now }) (sym (takes_none call.request old not_renewing))
-    ∙ ap (λ test. record old { ready_position = cond (test && true) place old.ready_position; last_release = release_taken call.request old; due = Some (outcome_of call Code.NoError); called_at = now })
+caller_by place now call old new (IsCaller.is_answered deadline at not_renewing set is) =
+    is ∙ ap (λ one. record old { deadline = one; due = Some (outcome_of call Code.NoError); called_at = now }) (after_is call.request now old deadline set)
+    ∙ ap (λ release. record old { last_release = release; deadline = deadline_by call.request now old; due = Some (outcome_of call Code.NoError); called_at = now }) (sym (takes_none call.request old not_renewing))
+    ∙ ap (λ test. record old { ready_position = cond (test && true) place old.ready_position; last_release = release_taken call.request old; deadline = deadline_by call.request now old; due = Some (outcome_of call Code.NoError); called_at = now })
     (sym (cannot_hold (renews call.request) (λ renewed. not_renewing (renews_is call.request renewed))))
     ∙ sym (ap (λ given. record (caller_with place now call given old) { called_at = now }) at)
 caller_by place now call old new (IsCaller.is_refused given at differs is) =
@@ -491,13 +483,24 @@ state_is cores who process number (IsStateNumber.ready readies other is) =
     is ∙ sym (λ i. state_by (readies.alive i) (is_ready_by process.affinity process readies i)
     (cannot_hold (is_occupant who (occupant_of cores process.affinity)) (λ occupies. other (occupant_is who (occupant_of cores process.affinity) occupies)) i))
 
+-- a deadline as it is reported
+number_says : (deadline : Option ℕ) → IsDeadlineNumber deadline (deadline_number deadline)
+number_says None = refl
+number_says (Some time) = refl
+
+number_is : (deadline : Option ℕ) (number : ℤ) → IsDeadlineNumber deadline number → number ≡ deadline_number deadline
+number_is None number is = is
+number_is (Some time) number is = is
+
 process_says : (cores : List CoreState) (target : Who) (found : Option Process) (answer : Answer) → answer ≡ answer_by found (process_status cores target) → IsProcessStatus cores target found answer
 process_says cores target None answer gives = IsProcessStatus.nobody refl gives
-process_says cores target (Some process) answer gives = IsProcessStatus.of_process process (state_number cores target process) refl (state_says cores target process) gives
+process_says cores target (Some process) answer gives = IsProcessStatus.of_process process (state_number cores target process) (deadline_number process.deadline) refl (state_says cores target process) (number_says process.deadline) gives
 
 process_by : (cores : List CoreState) (target : Who) (found : Option Process) (answer : Answer) → IsProcessStatus cores target found answer → answer ≡ answer_by found (process_status cores target)
-process_by cores target found answer (IsProcessStatus.of_process process number at state gives) =
-    gives ∙ ap (λ (one : ℕ). reporting (pos one) (Some (pos process.current_priority)) (Some (negsuc 0))) (state_is cores target process number state)
+process_by cores target found answer (IsProcessStatus.of_process process number deadline at state tells gives) =
+    let same_state = state_is cores target process number state in
+    let same_deadline = number_is process.deadline deadline tells in
+    gives ∙ (λ i. reporting (pos (same_state i)) (Some (pos process.current_priority)) (Some (same_deadline i)))
     ∙ sym (ap (λ one. answer_by one (process_status cores target)) at)
 process_by cores target found answer (IsProcessStatus.nobody none gives) = gives ∙ sym (ap (λ one. answer_by one (process_status cores target)) none)
 
@@ -569,6 +572,7 @@ creation_is_the_sentence core name priority period time_capacity = record {
   affinity = refl;
   period = refl;
   time_capacity = refl;
+  deadline = refl;
   alive = refl;
   suspended = refl;
   wait = refl;

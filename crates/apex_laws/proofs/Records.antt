@@ -10,17 +10,18 @@ use Rattle.apex_laws.proofs.Common.{channel_effect, channel_of, channel_set, con
 use Rattle.apex_laws.proofs.Common.{has_partition, initialising_process, is_channel, is_done, is_named, is_no_error, is_same, is_waiting, item_at, mode_by, never, objects_by, objects_called, objects_of, occupant_of, outcome_of}
 use Rattle.apex_laws.proofs.Common.{outcome_returned, own_partition, partition_by, partition_called, period_of, process_in, release_taken, released, renews, restart_by, restart_given, restart_of, returned, service_of, set_after}
 use Rattle.apex_laws.proofs.Common.{started_partition, stops, ticked, time_of, use_of, with_sets, without, woken_if_named}
-use Rattle.apex_laws.proofs.Common.{Lock, StartCondition, has_handler_by, lock_by, lock_called, lock_left, lock_waiters_after, message_of, sets_left}
+use Rattle.apex_laws.proofs.Common.{Lock, StartCondition, has_handler_by, lock_by, lock_called, lock_left, lock_waiters_after, message_of, sets_left, deadline_by, Error, ErrorIsTheSentence, deadline_taken, reported}
 use Rattle.apex_laws.proofs.Booleans.{by_test, cannot_hold, either_way, impossible, is_itself, never_found, not_first, one_item, other_holds}
 use Rattle.apex_laws.proofs.Codes.{no_error_is_done, not_done}
 use Rattle.apex_laws.proofs.Keeps.{same_sets_with}
 use Rattle.apex_laws.proofs.Objects.{each_itself, each_set_each, each_set_holds, Leaves}
 use Rattle.apex_laws.proofs.ProcessRules.{due_is_the_sentence, release_is_the_sentence}
-use Rattle.apex_laws.proofs.Restarts.{goes_on, not_done_goes_on, restart_ends, restarts_none, restarts_other, return_case, woken_table}
+use Rattle.apex_laws.proofs.Restarts.{goes_on, not_done_goes_on, restart_ends, restarts_none, restarts_other, return_case, woken_table, error_case}
 use Rattle.apex_laws.proofs.SetNames.{ends_kept}
 use Rattle.apex_laws.proofs.Tables.{core_changes, core_stays, count_stays, gives_occupant, gives_time, stays_each, turns_each}
 use Rattle.apex_laws.proofs.Untouched.{each_stays, not_woken_if_named}
 use Rattle.apex_laws.proofs.WaitersOf.{due_exists, free_exists, same_is, same_who}
+use Rattle.apex_laws.proofs.DeadlineRules.{missed_exists}
 
 -- What a step says, if the record's body is known.
 
@@ -125,6 +126,54 @@ dispatch_is_the_sentence configuration state ordered who next step is within =
       count = subst (λ one. length one ≡ length state.cores) (sym cores) (count_stays change core state.cores);
       partitions = next_partition configuration state ordered next (Disp who) step is;
       channels = next_channel configuration state ordered next (Disp who) step is;
+    }
+
+-- errors
+
+pub error_is_the_sentence : ErrorIsTheSentence
+error_is_the_sentence configuration state ordered report next step is =
+    let law = lawful_body configuration state ordered next (Error report) step is in
+    let partitions = next_partition configuration state ordered next (Error report) step is in
+    let old = missed_exists ordered.core (time_of state.cores ordered.core) (process_in state report.who) law.missed in
+    let table = (state.partitions report.who.part).table in
+    let own : next.partitions report.who.part ≡ record (state.partitions report.who.part) { table = each_item (deadline_taken report.who.proc) table } =
+    partitions report.who.part ∙ ap (λ test. cond test (record (state.partitions report.who.part) { table = each_item (deadline_taken report.who.proc) table }) (state.partitions report.who.part)) (is_itself report.who.part) in
+    record {
+      process = old.0;
+      found = old.1;
+      missed = old.2;
+      reported = record {
+        changed = record {
+          old = old.0;
+          new = reported old.0;
+          before = old.1;
+          after = ap (λ (one : Partition). item_at one.table report.who.proc) own ∙ turns_each (deadline_taken report.who.proc) table report.who.proc old.0 old.1
+              ∙ ap (λ test. Some (cond test (reported old.0) old.0)) (is_itself report.who.proc);
+          change = refl;
+        };
+        others = λ other differs. ap (λ (one : Partition). item_at one.table other.proc) (partitions other.part)
+            ∙ either_way (nat_eq report.who.part other.part)
+            (λ here. rw here (stays_each (deadline_taken report.who.proc) (state.partitions other.part).table other.proc
+            (λ one at. either_way (nat_eq other.proc report.who.proc)
+            (λ same. absurd (differs (same_who other report.who (sym (eqb-true report.who.part other.part here)) (eqb-true other.proc report.who.proc same))))
+            (λ apart. rw apart refl))))
+            (λ elsewhere. rw elsewhere refl);
+        rest = λ number. by number (partitions number);
+        channels = λ number. next_channel configuration state ordered next (Error report) step is number ∙ ap (left_if number) law.goes_on;
+        cores = next_cores configuration state ordered next (Error report) step is;
+      };
+    }
+  where
+    by : (number : ℕ) → next.partitions number ≡ partition_by configuration state.cores ordered.pos ordered.core number (Error report) (state.partitions number)
+        → next.partitions number ≡ record (state.partitions number) { table = (next.partitions number).table }
+    by number at = at ∙ error_case (λ one. one ≡ record (state.partitions number) { table = one.table }) configuration state.cores ordered.pos ordered.core number report (state.partitions number) refl refl
+        ∙ ap (λ (one : Partition). let back : Partition = record (state.partitions number) { table = one.table } in back) (sym at)
+
+    -- a channel, by whether its processes of the partition leave it
+    left_if : ℕ → Bool → Channel
+    left_if number restarts = record (state.channels number) {
+      senders = cond restarts (without (λ who. nat_eq who.part report.who.part) (state.channels number).senders) (state.channels number).senders;
+      receivers = cond restarts (without (λ who. nat_eq who.part report.who.part) (state.channels number).receivers) (state.channels number).receivers;
     }
 
 -- returns
@@ -314,6 +363,7 @@ refused_caller place now call code process is not_so values bytes =
     ∙ ap (λ test. record process {
       ready_position = cond (renews call.request && test) place process.ready_position;
       last_release = cond test (release_taken call.request process) process.last_release;
+      deadline = cond test (deadline_by call.request now process) process.deadline;
       due = Some (outcome_of call code);
       called_at = now;
     }) error
@@ -378,7 +428,7 @@ refusal_is_the_sentence configuration state ordered call next step is some =
     let now = time_of state.cores core in
     let law = lawful_body configuration state ordered next (Call call) step is in
     let partitions = next_partition configuration state ordered next (Call call) step is in
-    let conditions = conditions_of configuration call.who (state.partitions call.who.part) call.request in
+    let conditions = conditions_of configuration now call.who (state.partitions call.who.part) call.request in
     let refusal = refused conditions _ _ _ _ call.claim some law.outcome in
     let one = has_one_of conditions call.claim.out refusal.out in
     let not_so : is_done call.claim.out ≡ false = not_done conditions call.claim.out refusal.out in
@@ -476,7 +526,7 @@ silent (condition ∷ conditions) channel answer suited through claim off is sto
 -- the partition as it starts
 
 initialising : (core place : ℕ) → IsInitialising core place (initialising_process core place)
-initialising core place = record { ready = record { alive = refl; goes_on = refl; waits = refl; affinity = refl }; position = refl; priority = refl; due = refl; period = refl }
+initialising core place = record { ready = record { alive = refl; goes_on = refl; waits = refl; affinity = refl }; position = refl; priority = refl; due = refl; period = refl; deadline = refl }
 
 alone : (core place : ℕ)
     → ((process : Process) × (item_at ((0, initialising_process core place) ∷ []) 0 ≡ Some process) × IsInitialising core place process)
@@ -520,7 +570,7 @@ says configuration state ordered call mode next step is restarted =
     let partition = state.partitions part in
     let restart = restart_is call.request call.claim.out mode restarted in
     let law = lawful_body configuration state ordered next (Call call) step is in
-    let quiet = silent (conditions_of configuration call.who partition call.request) (channel_of partition call.request) (answer_of state.cores core call.who partition call.request)
+    let quiet = silent (conditions_of configuration (time_of state.cores core) call.who partition call.request) (channel_of partition call.request) (answer_of state.cores core call.who partition call.request)
     _ _ call.claim (ap (channel_of partition) restart.asks) (ap (answer_of state.cores core call.who partition) restart.asks) restart.never law.outcome in
     let partitions = next_partition configuration state ordered next (Call call) step is in
     let channels = next_channel configuration state ordered next (Call call) step is in

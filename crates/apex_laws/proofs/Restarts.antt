@@ -7,7 +7,7 @@ use Rattle.apex_laws.proofs.Common.{first_processes, initialising_process, is_do
 use Rattle.apex_laws.proofs.Common.{returned, started_partition, stops, waits_at, woken_if_named}
 use Rattle.apex_laws.proofs.Common.{StartCondition, Wait}
 use Rattle.apex_laws.proofs.Awaited.{Awaited, awaits, for_none, is_for, set_awaits}
-use Rattle.apex_laws.proofs.Common.{message_of}
+use Rattle.apex_laws.proofs.Common.{message_of, Error, ErrorReport, deadline_taken}
 use Rattle.apex_laws.proofs.Booleans.{by_test, neither, neither_first, neither_later, never_found, not_first, not_second}
 
 -- the caller's partition
@@ -49,6 +49,12 @@ pub return_case : (Holds : Partition → Type 0) (configuration : Configuration)
     → Holds (record partition { table = each_item (returned ret.who.proc) partition.table }) → Holds partition → Holds (partition_by configuration cores place core number (Ret ret) partition)
 return_case Holds configuration cores place core number ret partition back stays =
     by_test Holds (nat_eq ret.who.part number) (record partition { table = each_item (returned ret.who.proc) partition.table }) partition (λ own. back) (λ other. stays)
+
+-- what holds of a partition after an error
+pub error_case : (Holds : Partition → Type 0) (configuration : Configuration) (cores : List CoreState) (place core number : ℕ) (report : ErrorReport) (partition : Partition)
+    → Holds (record partition { table = each_item (deadline_taken report.who.proc) partition.table }) → Holds partition → Holds (partition_by configuration cores place core number (Error report) partition)
+error_case Holds configuration cores place core number report partition taken stays =
+    by_test Holds (nat_eq report.who.part number) (record partition { table = each_item (deadline_taken report.who.proc) partition.table }) partition (λ own. taken) (λ other. stays)
 
 -- which calls restart no partition
 

@@ -8,7 +8,7 @@ use Rattle.apex_laws.proofs.Common.{PartStaysSound, QueuingOperation, Receivers,
 use Rattle.apex_laws.proofs.Common.{channel_set, cold_partition, conditions_of, each_item, each_set, ends_wait, entries_at, first_core, has_entry_in, is_done, is_free, is_named, is_new, is_of_channel, is_same, item_at, kind_of, kind_used}
 use Rattle.apex_laws.proofs.Common.{new_object, numbered_if, objects_by, objects_called, objects_of, outcome_demands, own_call_demands, partition_by, partition_called, partition_demands, returned, set_after, started_partition, ticked}
 use Rattle.apex_laws.proofs.Common.{waits_at}
-use Rattle.apex_laws.proofs.Common.{Arrive, Depart, IsSoundLock, Lock, StartCondition, first_processes, lock_left, message_of, waits_for_lock}
+use Rattle.apex_laws.proofs.Common.{Arrive, Depart, IsSoundLock, Lock, StartCondition, first_processes, lock_left, message_of, waits_for_lock, time_of, Error, deadline_taken}
 use Rattle.apex_laws.proofs.Awaited.{Awaited, lock_awaits}
 use Rattle.apex_laws.proofs.LockTies.{each_lock_entry}
 use Rattle.apex_laws.proofs.Wakes.{lock_waits_not}
@@ -16,9 +16,9 @@ use Rattle.apex_laws.proofs.Booleans.{cannot_hold, differs_back, either_way, hol
 use Rattle.apex_laws.proofs.Choices.{choice_exists, FoundReady, ready_waits_not, ready_waits_not_for_lock}
 use Rattle.apex_laws.proofs.Codes.{not_done}
 use Rattle.apex_laws.proofs.Exact.{lock_has_entry, not_stopped, object_has_entry}
-use Rattle.apex_laws.proofs.Keeps.{CallsClaimValues, CallsReady, distinct_by, distinct_new, each_entry, entered_waits, entered_waits_for_lock, EntersLockWith, EntersWith, IsElsewhere, IsReadyCall, keeps_waiting, keeps_waiting_for_lock, leaves, lock_set_after, one_set_after}
+use Rattle.apex_laws.proofs.Keeps.{CallsClaimValues, CallsReady, distinct_by, distinct_new, each_entry, entered_waits, entered_waits_for_lock, EntersLockWith, EntersWith, IsElsewhere, IsReadyCall, keeps_waiting, keeps_waiting_for_lock, leaves, lock_set_after, one_set_after, error_leaves_nobody}
 use Rattle.apex_laws.proofs.Objects.{of_objects}
-use Rattle.apex_laws.proofs.Restarts.{call_case, done_case, goes_on, restarts_other, return_case, start_awaits_not, start_set, start_waits_not, woken_table}
+use Rattle.apex_laws.proofs.Restarts.{call_case, done_case, goes_on, restarts_other, return_case, start_awaits_not, start_set, start_waits_not, woken_table, error_case}
 use Rattle.apex_laws.proofs.SetNames.{off_channel, put_holds}
 use Rattle.apex_laws.proofs.Stays.{EntersNew, lock_stays_in_order, none_in_order, set_stays_in_order}
 use Rattle.apex_laws.proofs.Tables.{distinct_each}
@@ -44,9 +44,10 @@ demands_value (condition ∷ conditions) channel number asked answer claim none 
 pub own_ready : (configuration : Configuration) (number core : ℕ) (cores : List CoreState) (partition : Partition) (call : CallRecord)
     → are_distinct partition.table ≡ true → AllHold (own_call_demands configuration number cores partition core call) → IsReadyCall configuration partition core call
 own_ready configuration number core cores partition call distinct hold = record {
-  ready = choice_exists number core partition.lock.owner partition.table call.who distinct hold.1.0.1;
-  none = λ done. demands_none (conditions_of configuration call.who partition call.request) (channel_of partition call.request) number call.request
-      (answer_of cores core call.who partition call.request) call.claim hold.1.1.1.1.1 done;
+  ready = choice_exists number core partition.lock.owner partition.table call.who distinct hold.1.1.0.1;
+  now = time_of cores core;
+  none = λ done. demands_none (conditions_of configuration (time_of cores core) call.who partition call.request) (channel_of partition call.request) number call.request
+      (answer_of cores core call.who partition call.request) call.claim hold.1.1.1.1.1.1 done;
 }
 
 -- and the value is the service's
@@ -54,11 +55,11 @@ own_value : (configuration : Configuration) (number core : ℕ) (cores : List Co
     → AllHold (own_call_demands configuration number cores partition core call) → is_done call.claim.out ≡ true → channel_of partition call.request ≡ None
     → HasValue (answer_of cores core call.who partition call.request).val call.claim.val
 own_value configuration number core cores partition call hold done off =
-    let conditions = conditions_of configuration call.who partition call.request in
+    let conditions = conditions_of configuration (time_of cores core) call.who partition call.request in
     let answer = answer_of cores core call.who partition call.request in
     demands_value conditions (channel_of partition call.request) number call.request answer call.claim
-    (demands_none conditions (channel_of partition call.request) number call.request answer call.claim hold.1.1.1.1.1 done)
-    off hold.1.1.1.1.1
+    (demands_none conditions (channel_of partition call.request) number call.request answer call.claim hold.1.1.1.1.1.1 done)
+    off hold.1.1.1.1.1.1
 
 -- the demands of a call of one of these processes
 pub own_holds : (configuration : Configuration) (number core : ℕ) (cores : List CoreState) (partition : Partition) (call : CallRecord) → nat_eq call.who.part number ≡ true
@@ -70,6 +71,7 @@ calls_ready : (configuration : Configuration) (number core : ℕ) (cores : List 
     → AllHold (partition_demands configuration number cores partition core body) → CallsReady configuration core number body partition
 calls_ready configuration number core cores partition (Call call) distinct hold =
     λ own. own_ready configuration number core cores partition call distinct (own_holds configuration number core cores partition call own hold)
+calls_ready configuration number core cores partition (Error report) distinct hold = hold.1.1.0
 calls_ready configuration number core cores partition _ distinct hold = tt
 
 -- calls of other partitions, by their demands
@@ -104,7 +106,7 @@ foreign_goes_on configuration number core cores partition call elsewhere hold wh
     let there : nat_eq call.who.part who.part ≡ false = ap (nat_eq call.who.part) here ∙ elsewhere in
     goes_on call who (restarts_other call who.part (differs_back call.who.part who.part there))
     (cannot_hold (is_named who call.claim.woken) (λ named.
-    (let across = named_across call.request call.claim.chan number partition.table call.claim.woken foreign.1.0 who here named in apart across.0 across.1 across.2)))
+    (let across = named_across call.request call.claim.chan number partition.table call.claim.woken foreign.1.1.0 who here named in apart across.0 across.1 across.2)))
     (not_stopped call who there)
 
 foreign_stays : (configuration : Configuration) (number core : ℕ) (cores : List CoreState) (partition : Partition) (call : CallRecord) → nat_eq call.who.part number ≡ false
@@ -161,6 +163,8 @@ objects_distinct configuration cores place core number (Tick woken) partition cl
     with_table (each_set (set_after place (Tick woken)) partition) partition.mode partition.has_handler (lock_left place (Tick woken) partition.lock) (each_item (ticked place number woken) partition.table) (sets_distinct (set_after place (Tick woken)) partition has)
 objects_distinct configuration cores place core number (Ret ret) partition claims has =
     return_case HasDistinctObjects configuration cores place core number ret partition (with_table partition partition.mode partition.has_handler partition.lock (each_item (returned ret.who.proc) partition.table) has) has
+objects_distinct configuration cores place core number (Error report) partition claims has =
+    error_case HasDistinctObjects configuration cores place core number report partition (with_table partition partition.mode partition.has_handler partition.lock (each_item (deadline_taken report.who.proc) partition.table) has) has
 objects_distinct configuration cores place core number (Call call) partition claims has =
     let after : Partition = partition_called configuration cores place core call partition in
     call_case HasDistinctObjects configuration cores place core number call partition
@@ -232,6 +236,9 @@ foreign_waiting configuration cores place core number (Arrive crossing) partitio
 foreign_waiting configuration cores place core number (Depart crossing) partition wanted ready hold elsewhere all =
     crossed_waiting configuration cores place core number (Depart crossing) partition wanted ready (channel_set crossing.chan Senders) refl
     (λ who here named. named_wait (channel_set crossing.chan Senders) number partition.table crossing.woken hold.0 who here named) all
+foreign_waiting configuration cores place core number (Error report) partition wanted ready hold elsewhere all =
+    all_weaker (WaitsInSet number wanted partition) (WaitsInSet number wanted (partition_by configuration cores place core number (Error report) partition))
+    (λ entry is. stays_waiting configuration cores place core number (Error report) partition wanted ready entry (error_leaves_nobody report entry.who hold.1.1.0) is) (entries_at partition wanted) all
 foreign_waiting configuration cores place core number _ partition wanted ready hold elsewhere all = absurd elsewhere
 
 -- a process that is ready has an entry in no set
@@ -292,6 +299,7 @@ foreign_for_lock configuration number core cores (Arrive crossing) partition hol
 foreign_for_lock configuration number core cores (Depart crossing) partition hold elsewhere entry is =
     cannot_hold (is_named entry.who crossing.woken) (λ named. lock_waits_not (channel_set crossing.chan Senders) (item_at partition.table entry.who.proc) is.1
     (named_wait (channel_set crossing.chan Senders) number partition.table crossing.woken hold.0 entry.who is.0 named))
+foreign_for_lock configuration number core cores (Error report) partition hold elsewhere entry is = error_leaves_nobody report entry.who hold.1.1.0
 foreign_for_lock configuration number core cores _ partition hold elsewhere entry is = absurd elsewhere
 
 -- a process that is ready has no entry in it

@@ -6,16 +6,16 @@ use Rattle.apex_laws.proofs.Common.{AllEntries, AllPairs, AllPorts, AreApart, Ar
 use Rattle.apex_laws.proofs.Common.{ObjectKind, Ordered, OrderIsApart, Partition, Receivers, Request, Ret, Run, Senders, SetsAreInOrder, State, StaysInOrder, StaysTied, Step, Tick, WaitingSet, WaitsIn, Who, channel_of}
 use Rattle.apex_laws.proofs.Common.{channel_set, cold_state, conditions_of, ends_wait, enters, entries_at, entry_of, has_entry_in, is_named, is_of_channel, is_receiver, is_same, is_sender, objects_by, partition_by}
 use Rattle.apex_laws.proofs.Common.{partition_called, set_after, without}
-use Rattle.apex_laws.proofs.Common.{Arrive, Depart, End, StartCondition, enters_lock, lock_waiters_after}
+use Rattle.apex_laws.proofs.Common.{Arrive, Depart, End, StartCondition, enters_lock, lock_waiters_after, time_of, Error}
 use Rattle.apex_laws.proofs.Wakes.{WaitsThere, arrival_wakes, departure_wakes, waits_nowhere_else}
 use Rattle.apex_laws.proofs.Booleans.{by_test, cannot_hold, holds_if, neither_first, neither_later, never_found}
 use Rattle.apex_laws.proofs.Demanded.{caller_in_no_set}
 use Rattle.apex_laws.proofs.ForeignCalls.{goes_on_here}
 use Rattle.apex_laws.proofs.LockTies.{caller_in_no_lock, lock_tied}
 use Rattle.apex_laws.proofs.Ends.{port_is_at_end, ports_after, WaitsAtEnd}
-use Rattle.apex_laws.proofs.Keeps.{calls_ready, distinct_by, each_entry, entered_waits, EntersWith, IsElsewhere, keeps_waiting, lawful_values, leaves, lock_set_after, one_set_after, ready_call}
+use Rattle.apex_laws.proofs.Keeps.{calls_ready, distinct_by, each_entry, entered_waits, EntersWith, IsElsewhere, keeps_waiting, lawful_values, leaves, lock_set_after, one_set_after, ready_call, error_leaves_nobody}
 use Rattle.apex_laws.proofs.Objects.{of_objects}
-use Rattle.apex_laws.proofs.Restarts.{call_case, done_case, return_case, start_set}
+use Rattle.apex_laws.proofs.Restarts.{call_case, done_case, return_case, start_set, error_case}
 use Rattle.apex_laws.proofs.SetNames.{off_channel}
 use Rattle.apex_laws.proofs.Waiters.{all_push, all_weaker, all_without}
 use Rattle.apex_laws.proofs.WaitersOf.{same_is, same_itself}
@@ -100,6 +100,10 @@ foreign_set configuration state place core (Arrive crossing) tied law number els
     crossed_set configuration state place core (Arrive crossing) tied law number wanted Receivers crossing.chan (arrival_wakes configuration state core crossing tied law) all
 foreign_set configuration state place core (Depart crossing) tied law number elsewhere wanted all =
     crossed_set configuration state place core (Depart crossing) tied law number wanted Senders crossing.chan (departure_wakes configuration state core crossing tied law) all
+foreign_set configuration state place core (Error report) tied law number elsewhere wanted all =
+    let Then : Entry → Type 0 = IsTied (λ home. home ≡ number) wanted (Next configuration state place core (Error report)) in
+    all_weaker (IsTied (λ home. home ≡ number) wanted state.partitions) Then
+    (λ entry is. tied_after configuration state place core (Error report) tied law (λ home. home ≡ number) wanted entry (error_leaves_nobody report entry.who law.goes_on) is) (entries_at (state.partitions number) wanted) all
 foreign_set configuration state place core _ tied law number elsewhere wanted all = absurd elsewhere
 
 -- a caller that enters a set of its partition is at home there
@@ -123,16 +127,16 @@ own_set configuration state place core body tied law number wanted =
 home_of : (configuration : Configuration) (state : State) (core : ℕ) (call : CallRecord) → AreTied configuration state
     → IsLawfulCall configuration state core call → (channel : ℕ) → call.claim.chan ≡ Some channel → WaitsAtEnd call.request configuration channel call.who.part
 home_of configuration state core call tied law channel is =
-    by (conditions_of configuration call.who (state.partitions call.who.part) call.request) refl (channel_of (state.partitions call.who.part) call.request) refl law.outcome
+    by (conditions_of configuration (time_of state.cores core) call.who (state.partitions call.who.part) call.request) refl (channel_of (state.partitions call.who.part) call.request) refl law.outcome
   where
-    by : (conditions : List Condition) → conditions_of configuration call.who (state.partitions call.who.part) call.request ≡ conditions
+    by : (conditions : List Condition) → conditions_of configuration (time_of state.cores core) call.who (state.partitions call.who.part) call.request ≡ conditions
         → (of : Option ℕ) → channel_of (state.partitions call.who.part) call.request ≡ of
         → ClaimsOutcome configuration state core call.who call.request call.claim conditions of
         → WaitsAtEnd call.request configuration channel call.who.part
     by (condition ∷ conditions) none of at has = never_found (sym has.chan ∙ is)
     by [] none None at has = never_found (sym has.chan ∙ is)
     by [] none (Some other) at has =
-        port_is_at_end configuration call.who (state.partitions call.who.part) call.request channel (tied.ports call.who.part) (at ∙ sym has.chan ∙ is) none
+        port_is_at_end configuration (time_of state.cores core) call.who (state.partitions call.who.part) call.request channel (tied.ports call.who.part) (at ∙ sym has.chan ∙ is) none
 
 -- the partition of a caller that enters a set of this kind at this end: that at the channel's end, if it is a channel's
 abbrev IsHomeAt : ObjectKind → End → Configuration → ℕ → ℕ → Type 0
@@ -177,6 +181,8 @@ ports_by configuration state place core (Ret ret) number all =
     return_case (λ next. AllPorts (λ port. IsAtEnd configuration number port.direction port.channel) next.queuing_ports) configuration state.cores place core number ret (state.partitions number) all all
 ports_by configuration state place core (Arrive crossing) number all = all
 ports_by configuration state place core (Depart crossing) number all = all
+ports_by configuration state place core (Error report) number all =
+    error_case (λ next. AllPorts (λ port. IsAtEnd configuration number port.direction port.channel) next.queuing_ports) configuration state.cores place core number report (state.partitions number) all all
 ports_by configuration state place core (Call call) number all =
     call_case (λ next. AllPorts (λ port. IsAtEnd configuration number port.direction port.channel) next.queuing_ports) configuration state.cores place core number call (state.partitions number)
     (λ own none. called_ports configuration state place core call number (eqb-true call.who.part number own) all) (λ own mode is. tt) (λ elsewhere. all)
@@ -308,6 +314,10 @@ set_in_order count place (Arrive crossing) wanted entries at new order =
     order_later count (without (λ who. is_named who crossing.woken) entries) (order_without count (λ who. is_named who crossing.woken) entries order)
 set_in_order count place (Depart crossing) wanted entries at new order =
     order_later count (without (λ who. is_named who crossing.woken) entries) (order_without count (λ who. is_named who crossing.woken) entries order)
+set_in_order count place (Error report) wanted entries at new order =
+    by_test (IsInOrder (suc count)) report.restarts (without (λ who. nat_eq who.part report.who.part) entries) entries
+    (λ restarts. order_later count (without (λ who. nat_eq who.part report.who.part) entries) (order_without count (λ who. nat_eq who.part report.who.part) entries order))
+    (λ goes_on. order_later count entries order)
 set_in_order count place (Call call) wanted entries at new order =
     let rest = order_without count (ends_wait call) entries order in
     by_test (IsInOrder (suc count)) (enters call wanted) (without (ends_wait call) entries ++ entry_of place call ∷ []) (without (ends_wait call) entries)
@@ -322,6 +332,7 @@ lock_in_order count place (Disp who) entries at new order = order_later count en
 lock_in_order count place (Ret ret) entries at new order = order_later count entries order
 lock_in_order count place (Arrive crossing) entries at new order = order_later count entries order
 lock_in_order count place (Depart crossing) entries at new order = order_later count entries order
+lock_in_order count place (Error report) entries at new order = order_later count entries order
 lock_in_order count place (Tick woken) entries at new order =
     order_later count (without (λ who. is_named who woken) entries) (order_without count (λ who. is_named who woken) entries order)
 lock_in_order count place (Call call) entries at new order =

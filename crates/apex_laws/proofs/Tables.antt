@@ -3,7 +3,7 @@ use Rattle.std.proofs.Common.{◌≡◌, ℕ, List, [], ◌∷◌, ◌++◌, tru
 use Rattle.std.proofs.lemmas.Bool.{and_from, and_parts, eqb-true, ne_eqb, eqb-false}
 use Rattle.apex_laws.proofs.Common.{Body, Call, ChannelPart, Configuration, CoreState, Disp, Module, OfChannel, OfPartition, Ordered, Piece, Ret, State, Tick, after, are_distinct, at_core, channel_after, cores_by, each_item, item_at}
 use Rattle.apex_laws.proofs.Common.{occupant_of, one_more, part, part_after, time_at, time_of, times_by, times_of}
-use Rattle.apex_laws.proofs.Common.{Arrive, Depart}
+use Rattle.apex_laws.proofs.Common.{Arrive, Depart, Error}
 use Rattle.apex_laws.proofs.Booleans.{either_way, is_itself, never_found}
 
 -- The process or object of a number, if those of its kind were changed.
@@ -141,6 +141,7 @@ times_after core (Tick woken) cores = ticked_times core cores
 times_after core (Ret ret) cores = refl
 times_after core (Arrive crossing) cores = refl
 times_after core (Depart crossing) cores = refl
+times_after core (Error report) cores = refl
 times_after core (Call call) cores = refl
 
 -- the part of the state after a record is what the record makes of the part

@@ -6,7 +6,7 @@ use Rattle.apex_laws.proofs.Common.{AllEntries, AreTied, Body, Call, CallRecord,
 use Rattle.apex_laws.proofs.Common.{Partition, PartitionPart, Piece, Process, Receivers, Request, Ret, Senders, State, Table, Tick, WaitingSet, WaitsIn, Who, after, channel_of, channel_set, conditions_of, content_by, cores_by, each_item}
 use Rattle.apex_laws.proofs.Common.{ends_wait, enters, is_at_end, is_channel, is_named, is_no_error, is_receiver, is_sender, is_target, part, partition_by, restart_of, samples, set_after, stop_of, stops_at_end, time_of, times_of, touched_by}
 use Rattle.apex_laws.proofs.Common.{touches, woken_if_named}
-use Rattle.apex_laws.proofs.Common.{Arrive, Depart, End, message_of, names_one_of, partition_woken, without}
+use Rattle.apex_laws.proofs.Common.{Arrive, Depart, End, message_of, names_one_of, partition_woken, without, Error}
 use Rattle.apex_laws.proofs.Wakes.{WaitsThere, arrival_wakes, departure_wakes, waits_nowhere_else}
 use Rattle.apex_laws.proofs.Booleans.{cannot_hold, is_itself, neither_first, neither_later, not_second}
 use Rattle.apex_laws.proofs.Restarts.{goes_on}
@@ -39,6 +39,7 @@ partition_untouched : (configuration : Configuration) (cores : List CoreState) (
 partition_untouched configuration cores place core number (Disp who) partition off = absurd (true≢false off)
 partition_untouched configuration cores place core number (Tick woken) partition off = absurd (true≢false off)
 partition_untouched configuration cores place core number (Ret ret) partition off = (refl, rw off refl)
+partition_untouched configuration cores place core number (Error report) partition off = (refl, rw off refl)
 partition_untouched configuration cores place core number (Call call) partition off =
     let elsewhere : nat_eq call.who.part number ≡ false = neither_first _ _ off in
     (refl, rw elsewhere (none_woken place number (message_of call.request) call.claim.woken partition (neither_later _ _ off)))
@@ -108,7 +109,7 @@ not_woken : (configuration : Configuration) (state : State) (core : ℕ) (call :
 not_woken configuration state core call tied law number off who through =
     cannot_hold (is_named who call.claim.woken) (λ named.
     (let by = woken configuration state core call.who call.request call.claim tied
-    (conditions_of configuration call.who (state.partitions call.who.part) call.request) (channel_of (state.partitions call.who.part) call.request) law.outcome who named in
+    (conditions_of configuration (time_of state.cores core) call.who (state.partitions call.who.part) call.request) (channel_of (state.partitions call.who.part) call.request) law.outcome who named in
     true≢false (sym (ap (is_channel number) (through by) ∙ is_itself number) ∙ off)))
 
 -- a set stays if a call does not enter it and ends no wait in it
@@ -157,6 +158,7 @@ channel_part : (configuration : Configuration) (state : State) (place core : ℕ
     × (set_after place body (channel_set number Receivers) (state.channels number).receivers ≡ (state.channels number).receivers)
 channel_part configuration state place core (Disp who) tied law number off = (times_after core (Disp who) state.cores, refl, refl, refl)
 channel_part configuration state place core (Ret ret) tied law number off = (refl, refl, refl, refl)
+channel_part configuration state place core (Error report) tied law number off = (refl, refl, rw law.goes_on refl, rw law.goes_on refl)
 channel_part configuration state place core (Tick woken) tied law number off = absurd (true≢false off)
 channel_part configuration state place core (Arrive crossing) tied law number off =
     let waits = arrival_wakes configuration state core crossing tied law in (

@@ -13,7 +13,7 @@ use Rattle.apex_types.specs.declared.view.View.{View}
 use Rattle.apex_types.specs.declared.service.Service.TheVariants as service
 use Rattle.apex_laws.proofs.Common.{AreTied, Body, Call, Code, Configuration, Disp, Goes, IsLawfulBody, Module, OfChannel, OfPartition, Ordered, Out, Part, Piece, PieceRun, Ret, Run, State, Step, Tick, ViewIsOfTheRun, is_configured, part}
 use Rattle.apex_laws.proofs.Common.{part_after, touches}
-use Rattle.apex_laws.proofs.Common.{Arrive, Depart}
+use Rattle.apex_laws.proofs.Common.{Arrive, Depart, Error}
 use Rattle.apex_laws.proofs.Booleans.{cannot_hold, either_way, is_itself}
 use Rattle.apex_laws.proofs.Runs.{goes_by_step, goes_nowhere, one_run}
 use Rattle.apex_laws.proofs.Stays.{step_tied}
@@ -40,6 +40,7 @@ judged_view state core (Disp who) = refl
 judged_view state core (Tick woken) = refl
 judged_view state core (Arrive crossing) = refl
 judged_view state core (Depart crossing) = refl
+judged_view state core (Error report) = refl
 
 -- another piece's
 not_the_part : (part number : ℕ) → ¬ (OfPartition number ≡ OfPartition part) → nat_eq part number ≡ false
@@ -53,12 +54,14 @@ other_view state core (Disp who) Module other = absurd (other refl)
 other_view state core (Tick woken) Module other = absurd (other refl)
 other_view state core (Arrive crossing) Module other = absurd (other refl)
 other_view state core (Depart crossing) Module other = absurd (other refl)
+other_view state core (Error report) Module other = absurd (other refl)
 other_view state core (Call call) (OfPartition number) other = rw (not_the_part call.who.part number other) refl
 other_view state core (Ret ret) (OfPartition number) other = rw (not_the_part ret.who.part number other) refl
 other_view state core (Disp who) (OfPartition number) other = refl
 other_view state core (Tick woken) (OfPartition number) other = refl
 other_view state core (Arrive crossing) (OfPartition number) other = refl
 other_view state core (Depart crossing) (OfPartition number) other = refl
+other_view state core (Error report) (OfPartition number) other = refl
 
 pub view_is_of_the_run : ViewIsOfTheRun
 view_is_of_the_run state ordered piece = (
@@ -101,6 +104,7 @@ judge_is_configured configuration state ordered (Disp who) law = refl
 judge_is_configured configuration state ordered (Tick woken) law = refl
 judge_is_configured configuration state ordered (Arrive crossing) law = refl
 judge_is_configured configuration state ordered (Depart crossing) law = refl
+judge_is_configured configuration state ordered (Error report) law = refl
 
 are_judged : (configuration : Configuration) (state : State) (records : List Ordered) (final : State)
     → Run configuration state records final → AreJudged configuration records

@@ -71,7 +71,7 @@ operation_begun now caller number (on.Mutex (MutexOperation.Reset named)) proces
 operation_begun now caller number _ process found waits = no_wait waits
 
 -- a call that uses no channel and waits
-own_begun : (configuration : Configuration) (cores : List CoreState) (core : ℕ) (who : Who) (partition : Partition) (asked : Request) (process : Process) → conditions_of configuration who partition asked ≡ []
+own_begun : (configuration : Configuration) (cores : List CoreState) (core : ℕ) (who : Who) (partition : Partition) (asked : Request) (process : Process) → conditions_of configuration (time_of cores core) who partition asked ≡ []
     → (answer_of cores core who partition asked).out ≡ Out.Waits → IsBegun (time_of cores core) asked None process (wait_of asked None (time_of cores core) process)
 own_begun configuration cores core who partition (Request.Caller (CallerOperation.TimedWait (pos ticks))) process none waits = IsBegun.delay ticks refl refl
 own_begun configuration cores core who partition (Request.Caller (CallerOperation.TimedWait (negsuc n))) process none waits = cc
@@ -106,7 +106,7 @@ through_begun configuration now channel partition _ process held suited can = im
 begun : (configuration : Configuration) (state : State) (core : ℕ) (call : CallRecord) → IsLawfulCall configuration state core call → (process : Process)
     → is_waiting call.claim.out ≡ true → IsBegun (time_of state.cores core) call.request call.claim.chan process (wait_of call.request call.claim.chan (time_of state.cores core) process)
 begun configuration state core call law process waits =
-    by (conditions_of configuration call.who (state.partitions call.who.part) call.request) refl (channel_of (state.partitions call.who.part) call.request) law.outcome
+    by (conditions_of configuration (time_of state.cores core) call.who (state.partitions call.who.part) call.request) refl (channel_of (state.partitions call.who.part) call.request) law.outcome
   where
     Begun : Option ℕ → Type 0
     Begun chan = IsBegun (time_of state.cores core) call.request chan process (wait_of call.request chan (time_of state.cores core) process)
@@ -114,7 +114,7 @@ begun configuration state core call law process waits =
     is : call.claim.out ≡ Out.Waits
     is = (waiting_tells call.claim.out).0 waits
 
-    by : (conditions : List Condition) → conditions_of configuration call.who (state.partitions call.who.part) call.request ≡ conditions → (channel : Option ℕ)
+    by : (conditions : List Condition) → conditions_of configuration (time_of state.cores core) call.who (state.partitions call.who.part) call.request ≡ conditions → (channel : Option ℕ)
         → ClaimsOutcome configuration state core call.who call.request call.claim conditions channel → Begun call.claim.chan
     by (one ∷ conditions) at channel has = absurd (refused (one ∷ conditions) has.out)
       where
@@ -201,12 +201,12 @@ start_names_nobody [] suited through claim has one named = true≢false (sym nam
 start_names_nobody (condition ∷ conditions) suited through claim has one named = nobody one claim.woken has.woken named
 
 not_started : (configuration : Configuration) (cores : List CoreState) (core : ℕ) (who : Who) (partition : Partition) (asked : Request) (suited : ℕ → Bool) (through : ℕ → Answer) (claim : Claim)
-    → HasOutcome (conditions_of configuration who partition asked) (channel_of partition asked) (answer_of cores core who partition asked) suited through claim
+    → HasOutcome (conditions_of configuration (time_of cores core) who partition asked) (channel_of partition asked) (answer_of cores core who partition asked) suited through claim
     → (one : Who) → is_named one claim.woken ≡ true → (number : ℕ) → IsNotStarted asked number
 not_started configuration cores core who partition (Request.Process process ProcessOperation.Start) suited through claim has one named number =
-    absurd (start_names_nobody (conditions_of configuration who partition (Request.Process process ProcessOperation.Start)) suited through claim has one named)
+    absurd (start_names_nobody (conditions_of configuration (time_of cores core) who partition (Request.Process process ProcessOperation.Start)) suited through claim has one named)
 not_started configuration cores core who partition (Request.Process process (ProcessOperation.DelayedStart delay)) suited through claim has one named number =
-    absurd (start_names_nobody (conditions_of configuration who partition (Request.Process process (ProcessOperation.DelayedStart delay))) suited through claim has one named)
+    absurd (start_names_nobody (conditions_of configuration (time_of cores core) who partition (Request.Process process (ProcessOperation.DelayedStart delay))) suited through claim has one named)
 not_started configuration cores core who partition _ suited through claim has one named number = tt
 
 -- what the call sets leaves the wait of a process that it names

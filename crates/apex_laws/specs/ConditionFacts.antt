@@ -175,6 +175,14 @@ pub record ConditionFacts : Type 0 where
   pub lock_owner_goes_on : conditions_told locking one (request.Caller (CallerOperation.TimedWait (pos 1))) ≡ condition.MayNotWait ∷ []
   pub lock_owner_acquires_none : conditions_told locking one (request.Object (pos 1) (on.Mutex (MutexOperation.Acquire (pos 0)))) ≡ condition.OwnsLock ∷ []
   pub lock_owner_is_not_suspended : conditions_told locking two (request.Process (pos 1) ProcessOperation.Suspend) ≡ condition.ProcessOwnsLock ∷ []
+  -- budgets: process 2 is periodic, and its next release is at 20
+  pub may_replenish : conditions_told at_work one (request.Caller (CallerOperation.Replenish (pos 30))) ≡ []
+  pub no_replenishing_before_normal : conditions_told furnished initialiser (request.Caller (CallerOperation.Replenish (pos 5))) ≡ condition.NotNormal ∷ condition.NotForInitialising ∷ []
+  pub no_budget : conditions_told at_work one (request.Caller (CallerOperation.Replenish (pos 0))) ≡ condition.BudgetOutOfRange ∷ []
+  pub budget_until_release : conditions_told at_work two (request.Caller (CallerOperation.Replenish (pos 20))) ≡ []
+  pub budget_beyond_release : conditions_told at_work two (request.Caller (CallerOperation.Replenish (pos 21))) ≡ condition.BudgetAboveRelease ∷ []
+  pub budget_without_end : conditions_told at_work two (request.Caller (CallerOperation.Replenish (negsuc 0))) ≡ condition.BudgetAboveRelease ∷ []
+  pub budget_below : conditions_told at_work two (request.Caller (CallerOperation.Replenish (negsuc 4))) ≡ condition.BudgetOutOfRange ∷ []
   -- names, reports and the error handler
   pub no_such_process : conditions_told at_work one (request.GetId named.Process (codes "D")) ≡ condition.NoSuchName ∷ []
   pub may_report_nothing : conditions_told at_work one (request.ReportMessage (pos 0) []) ≡ []

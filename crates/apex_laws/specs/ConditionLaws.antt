@@ -1,5 +1,5 @@
 -- The error conditions of a call are exactly what the sentences say, and its codes are theirs.
-use Rattle.std.specs.Prelude.{◌≡◌, ◌↔◌, Contains}
+use Rattle.std.specs.Prelude.{◌≡◌, ◌↔◌, ℕ, Contains}
 use Rattle.apex_types.specs.declared.code.Code.{Code}
 use Rattle.apex_types.specs.declared.record.Who.{Who}
 use Rattle.apex_types.specs.declared.request.Request.{Request}
@@ -14,12 +14,12 @@ use Rattle.apex_laws.specs.ConditionSentences.{HasCondition}
 -- a condition is among those of a call exactly if it is one of its service and holds
 abbrev pub ConditionsAreTheSentences : Type 0
 ConditionsAreTheSentences =
-    (configuration : Configuration) (who : Who) (partition : Partition) (asked : Request) (condition : Condition)
-    → Contains (conditions_of configuration who partition asked) condition ↔ HasCondition configuration who partition asked condition
+    (configuration : Configuration) (now : ℕ) (who : Who) (partition : Partition) (asked : Request) (condition : Condition)
+    → Contains (conditions_of configuration now who partition asked) condition ↔ HasCondition configuration now who partition asked condition
 
 -- a code is one of a call exactly if an error condition of its service with that code holds
 abbrev pub CodesAreTheSentences : Type 0
 CodesAreTheSentences =
-    (configuration : Configuration) (who : Who) (partition : Partition) (asked : Request) (code : Code)
-    → IsCodeOf (conditions_of configuration who partition asked) code
-    ↔ ((condition : Condition) × HasCondition configuration who partition asked condition × (code ≡ code_of condition))
+    (configuration : Configuration) (now : ℕ) (who : Who) (partition : Partition) (asked : Request) (code : Code)
+    → IsCodeOf (conditions_of configuration now who partition asked) code
+    ↔ ((condition : Condition) × HasCondition configuration now who partition asked condition × (code ≡ code_of condition))

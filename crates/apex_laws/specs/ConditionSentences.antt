@@ -23,7 +23,9 @@ use Rattle.apex_machine.specs.declared.state.Process.{Process}
 use Rattle.apex_machine.specs.declared.state.Wait.TheVariants as wait
 use Rattle.apex_machine.specs.Channels.{QueuingPort, SamplingPort, queuing_port, sampling_port}
 use Rattle.apex_machine.specs.Configuration.{Configuration, PartitionLimits, limits_of, object_limit, period_of, process_limit}
+use Rattle.apex_machine.specs.DueTimes.{next_release}
 use Rattle.apex_machine.specs.State.{Blackboard, Buffer, Mutex, Partition, Port, item_at, name_in, objects_of}
+use Rattle.apex_laws.specs.DeadlineSentences.{EndsAfter}
 
 -- the numbers that a caller gives
 
@@ -219,7 +221,7 @@ AllAreCreated configuration number partition _ = ⊥
 -- an error condition of a service holds for a call of this process in this state of its partition. STOP_SELF, GET_TIME and
 -- GET_PARTITION_STATUS have none; CREATE_EVENT, CLEAR_BLACKBOARD, SIGNAL_SEMAPHORE, SET_EVENT, RESET_EVENT, GET_PROCESS_STATUS,
 -- GET_PROCESS_MUTEX_STATE and the waits for a message, a semaphore or an event have only shared ones
-module _ (configuration : Configuration) (who : Who) (partition : Partition) where
+module _ (configuration : Configuration) (now : ℕ) (who : Who) (partition : Partition) where
   pub data HasCondition : Request → Condition → Type 0 where
     -- shared conditions
     names_nothing : {asked : Request} → NamesNothing partition asked → HasCondition asked condition.NotCreated
@@ -362,3 +364,10 @@ module _ (configuration : Configuration) (who : Who) (partition : Partition) whe
     unlock_before_normal : ¬ (partition.mode ≡ mode.Normal) → HasCondition (request.Preemption LockOperation.Unlock) condition.NotNormal
     unlock_initialising : who.proc ≡ 0 → HasCondition (request.Preemption LockOperation.Unlock) condition.NotForInitialising
     unlock_not_owner : ¬ OwnsLock partition who.proc → HasCondition (request.Preemption LockOperation.Unlock) condition.NotLockOwner
+    -- REPLENISH: a mode other than NORMAL; the initialising process; a budget that is neither -1 nor above 0; a periodic process whose budget
+    -- ends after its next release
+    replenish_before_normal : {budget : ℤ} → ¬ (partition.mode ≡ mode.Normal) → HasCondition (request.Caller (CallerOperation.Replenish budget)) condition.NotNormal
+    replenish_initialising : {budget : ℤ} → who.proc ≡ 0 → HasCondition (request.Caller (CallerOperation.Replenish budget)) condition.NotForInitialising
+    replenish_budget : {budget : ℤ} → ¬ (budget ≡ negsuc 0) → budget ≤ℤ pos 0 → HasCondition (request.Caller (CallerOperation.Replenish budget)) condition.BudgetOutOfRange
+    replenish_beyond : {budget : ℤ} (process : Process) → IsCalledBy who partition process → IsPeriodic process → EndsAfter now budget (next_release process)
+        → HasCondition (request.Caller (CallerOperation.Replenish budget)) condition.BudgetAboveRelease

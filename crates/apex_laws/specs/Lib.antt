@@ -7,6 +7,7 @@ pub mod JoinLaws
 pub mod ObjectSentences
 pub mod CallSentences
 pub mod ObjectLaws
+pub mod DeadlineSentences
 pub mod ProcessSentences
 pub mod ProcessLaws
 pub mod Worked

@@ -2,9 +2,10 @@
 -- contract of a function in `src/lib.rt`.
 use Rattle.std.specs.Prelude.{◌≡◌, ◌≤◌, ◌<◌, ℕ, ◌+◌, List, [], ◌∷◌, ◌++◌, Option, None, if◌then◌else◌, Bool, true, false, IsTrue, IsFalse}
 use Rattle.apex_types.specs.declared.object_kind.ObjectKind.{ObjectKind}
-use Rattle.apex_types.specs.declared.record.Body.TheVariants.{Arrive, Call, Depart, Disp, Ret, Tick}
+use Rattle.apex_types.specs.declared.record.Body.TheVariants.{Arrive, Call, Depart, Disp, Error, Ret, Tick}
 use Rattle.apex_types.specs.declared.record.Call.{Call as CallRecord}
 use Rattle.apex_types.specs.declared.record.Crossing.{Crossing}
+use Rattle.apex_types.specs.declared.record.ErrorReport.{ErrorReport}
 use Rattle.apex_types.specs.declared.record.Ordered.{Ordered}
 use Rattle.apex_types.specs.declared.record.Return.{Return}
 use Rattle.apex_types.specs.declared.record.Who.{Who}
@@ -155,8 +156,8 @@ DueLeave =
 abbrev pub OnlyProcessesChange : Partition → Partition → Type 0
 OnlyProcessesChange before after = after ≡ record before { table = after.table }
 
--- calls of other partitions, arrivals, departures, returns and dispatches leave a partition's objects, waiting sets and ports unchanged; a
--- dispatch leaves everything unchanged
+-- calls of other partitions, arrivals, departures, returns, dispatches and errors leave a partition's objects, waiting sets and ports
+-- unchanged; a dispatch leaves everything unchanged
 abbrev pub ForeignCallsLeaveSets : Type 0
 ForeignCallsLeaveSets =
     (configuration : Configuration) (cores : List CoreState) (place core number : ℕ) (partition : Partition)
@@ -165,3 +166,4 @@ ForeignCallsLeaveSets =
     × ((crossing : Crossing) → OnlyProcessesChange partition (partition_by configuration cores place core number (Depart crossing) partition))
     × ((ret : Return) → OnlyProcessesChange partition (partition_by configuration cores place core number (Ret ret) partition))
     × ((who : Option Who) → partition_by configuration cores place core number (Disp who) partition ≡ partition)
+    × ((report : ErrorReport) → OnlyProcessesChange partition (partition_by configuration cores place core number (Error report) partition))

@@ -1,5 +1,5 @@
 -- What the rules compute of a process is exactly what the sentences say.
-use Rattle.std.specs.Prelude.{◌≡◌, ◌↔◌, ℕ, ℤ, ◌<◌, List, Some, true, IsTrue}
+use Rattle.std.specs.Prelude.{◌≡◌, ◌↔◌, ℕ, ℤ, ◌<◌, List, Option, Some, true, IsTrue, Contains}
 use Rattle.apex_types.specs.declared.record.Call.{Call as CallRecord}
 use Rattle.apex_types.specs.declared.request.Request.{Request}
 use Rattle.apex_machine.specs.declared.state.CoreState.{CoreState}
@@ -10,8 +10,10 @@ use Rattle.apex_types.specs.declared.record.Who.{Who}
 use Rattle.apex_machine.specs.Answer.{Answer}
 use Rattle.apex_machine.specs.Arguments.{capacity_given, natural_of, period_given}
 use Rattle.apex_machine.specs.Services.{answer_of}
-use Rattle.apex_machine.specs.State.{Partition}
+use Rattle.apex_machine.specs.Deadlines.{deadline_from, is_missed, some_missed}
+use Rattle.apex_machine.specs.State.{Partition, Table}
 use Rattle.apex_machine.specs.Waiting.{is_waiting}
+use Rattle.apex_laws.specs.DeadlineSentences.{HasMissed, IsDeadlineFrom}
 use Rattle.apex_laws.specs.ProcessSentences.{HasDueTime, IsBegun, IsCaller, IsDue, IsReleased, IsAnswer, IsCreated, IsSetBy, IsStopped, IsWoken, WaitsForOther}
 
 -- what each service sets in a process of its partition; a partition's period is above 0
@@ -56,3 +58,13 @@ abbrev pub AnswerIsTheSentence : Type 0
 AnswerIsTheSentence =
     (cores : List CoreState) (core : ℕ) (who : Who) (partition : Partition) (asked : Request) (answer : Answer)
     → (answer ≡ answer_of cores core who partition asked) ↔ IsAnswer cores core who partition asked answer
+
+-- the deadline that a time capacity or a budget sets, if it counts from a time
+abbrev pub DeadlineIsTheSentence : Type 0
+DeadlineIsTheSentence = (time : ℕ) (span deadline : Option ℕ) → (deadline ≡ deadline_from time span) ↔ IsDeadlineFrom time span deadline
+
+-- which processes have missed their deadlines, and whether one of a table has
+abbrev pub MissedIsTheSentence : Type 0
+MissedIsTheSentence =
+    ((core now : ℕ) (process : Process) → (is_missed core now (Some process) ≡ true) ↔ HasMissed core now process)
+    × ((core now : ℕ) (table : Table) → (some_missed core now table ≡ true) ↔ ((entry : ℕ × Process) × Contains table entry × HasMissed core now entry.1))

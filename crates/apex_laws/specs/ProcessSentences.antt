@@ -1,5 +1,5 @@
 -- What becomes of a process, in sentences: one case for each sentence of the rule of a service, of the end of a wait, or of a call.
-use Rattle.std.specs.Prelude.{◌≡◌, ◌⊎◌, ℕ, ◌+◌, ◌*◌, ◌<◌, ◌≤◌, ℤ, pos, negsuc, List, [], ◌∷◌, Option, Some, None, true, false, IsFalse, IsTrue}
+use Rattle.std.specs.Prelude.{◌≡◌, ◌⊎◌, ℕ, ◌+◌, ◌<◌, ◌≤◌, ℤ, pos, negsuc, List, [], ◌∷◌, Option, Some, None, true, false, IsFalse, IsTrue}
 use Rattle.apex_types.specs.declared.code.Code.{Code}
 use Rattle.apex_types.specs.declared.code.Code.TheVariants as code
 use Rattle.apex_types.specs.declared.record.Call.{Call as CallRecord}
@@ -33,14 +33,10 @@ use Rattle.apex_machine.specs.Statuses.{mutex_owned, reporting, status_of, telli
 use Rattle.apex_machine.specs.declared.state.Entry.{Entry}
 use Rattle.apex_machine.specs.State.{Lock, Mutex, Partition, created, given_object, is_free, item_at, occupant_of, time_of}
 use Rattle.apex_machine.specs.Waiting.{first_waiter, service_at, set_of}
+pub use Rattle.apex_laws.specs.DeadlineSentences.{IsFirstRelease}
+use Rattle.apex_laws.specs.DeadlineSentences.{IsDeadlineAfter, IsEntryDeadline}
 
 -- releases and entry into NORMAL
-
--- the first release after a time: the least multiple of the partition's period above it
-pub record IsFirstRelease (period now time : ℕ) : Type 0 where
-  pub multiple : (count : ℕ) × (time ≡ count * period)
-  pub above : now < time
-  pub least : time ≤ now + period
 
 -- a process enters NORMAL with a delay, which is 0 for START: an aperiodic one waits for nothing, or until the delay is over; a periodic one
 -- waits for its first release, which the delay puts off
@@ -50,20 +46,22 @@ pub data IsEntry (partition_period now delay : ℕ) (period : Option ℕ) (entry
   periodic : (own time : ℕ) → period ≡ Some own → IsFirstRelease partition_period now time → entry ≡ wait.FirstRelease (time + delay)
       → IsEntry partition_period now delay period entry
 
--- START, DELAYED_START: the current priority becomes the base priority; in NORMAL the process enters NORMAL at once, in any other mode it
--- waits for it and keeps its delay
+-- START, DELAYED_START: the current priority becomes the base priority; in NORMAL the process enters NORMAL at once and gets its deadline, in
+-- any other mode it waits for NORMAL and keeps its delay
 pub data IsStarted (place partition_period now : ℕ) (current : Mode) (delay : ℤ) (old new : Process) : Type 0 where
-  in_normal : (entry : Wait) → current ≡ mode.Normal → IsEntry partition_period now (natural_of delay) old.period entry
-      → new ≡ record old { current_priority = old.base_priority; alive = true; wait = entry; ready_position = place }
+  in_normal : (entry : Wait) (deadline : Option ℕ) → current ≡ mode.Normal → IsEntry partition_period now (natural_of delay) old.period entry
+      → IsEntryDeadline partition_period now (natural_of delay) old deadline
+      → new ≡ record old { current_priority = old.base_priority; alive = true; wait = entry; deadline = deadline; ready_position = place }
       → IsStarted place partition_period now current delay old new
   before_normal : ¬ (current ≡ mode.Normal)
-      → new ≡ record old { current_priority = old.base_priority; alive = true; wait = wait.NormalMode delay; ready_position = place }
+      → new ≡ record old { current_priority = old.base_priority; alive = true; wait = wait.NormalMode delay; deadline = None; ready_position = place }
       → IsStarted place partition_period now current delay old new
 
--- the mode NORMAL is entered: each process that waits for it enters it with its delay, and no other process changes
+-- the mode NORMAL is entered: each process that waits for it enters it with its delay and gets its deadline, and no other process changes
 pub data IsNormalEntered (place partition_period now : ℕ) (old new : Process) : Type 0 where
-  waited : (delay : ℤ) (entry : Wait) → old.wait ≡ wait.NormalMode delay → IsEntry partition_period now (natural_of delay) old.period entry
-      → new ≡ record old { wait = entry; ready_position = place } → IsNormalEntered place partition_period now old new
+  waited : (delay : ℤ) (entry : Wait) (deadline : Option ℕ) → old.wait ≡ wait.NormalMode delay → IsEntry partition_period now (natural_of delay) old.period entry
+      → IsEntryDeadline partition_period now (natural_of delay) old deadline
+      → new ≡ record old { wait = entry; deadline = deadline; ready_position = place } → IsNormalEntered place partition_period now old new
   else_stays : ((delay : ℤ) → ¬ (old.wait ≡ wait.NormalMode delay)) → new ≡ old → IsNormalEntered place partition_period now old new
 
 -- owners of mutexes: a process that becomes the owner retains its priority and gets the mutex's; a process that stops being the owner gets
@@ -167,9 +165,9 @@ WaitsForOther (wait.At set due) = Unit {0}
 WaitsForOther wait.ForLock = Unit {0}
 WaitsForOther _ = ⊥
 
--- STOP, STOP_SELF: the process is dormant, not suspended, waits for nothing, and nothing is due to it
+-- STOP, STOP_SELF: the process is dormant, not suspended, waits for nothing, has no deadline, and nothing is due to it
 abbrev pub IsStopped : Process → Process → Type 0
-IsStopped old new = new ≡ record old { alive = false; suspended = false; wait = wait.Nothing; due = None }
+IsStopped old new = new ≡ record old { alive = false; suspended = false; wait = wait.Nothing; deadline = None; due = None }
 
 -- the caller
 
@@ -194,22 +192,23 @@ taking (request.Caller CallerOperation.PeriodicWait) process = record process { 
 taking _ process = process
 
 -- the caller after its call: it waits; it is stopped; or its outcome is due, and if NO_ERROR answers a call that renews, its ready position
--- is this place. The time of its core is noted
+-- is this place. If it waits or NO_ERROR answers, it has the deadline after the call. The time of its core is noted
 pub data IsCaller (place now : ℕ) (call : CallRecord) (old new : Process) : Type 0 where
-  waits : (begun : Wait) → call.claim.out ≡ out.Waits → IsBegun now call.request call.claim.chan old begun → new ≡ record old { wait = begun; called_at = now }
-      → IsCaller place now call old new
+  waits : (begun : Wait) (deadline : Option ℕ) → call.claim.out ≡ out.Waits → IsBegun now call.request call.claim.chan old begun
+      → IsDeadlineAfter call.request now old deadline → new ≡ record old { wait = begun; deadline = deadline; called_at = now } → IsCaller place now call old new
   ends : (stopped : Process) → call.claim.out ≡ out.Never → IsStopped old stopped → new ≡ record stopped { called_at = now } → IsCaller place now call old new
-  is_renewed : call.claim.out ≡ out.Answer code.NoError → Renews call.request
-      → new ≡ record (taking call.request old) { ready_position = place; due = Some (outcome_of call code.NoError); called_at = now } → IsCaller place now call old new
-  is_answered : call.claim.out ≡ out.Answer code.NoError → ¬ Renews call.request
-      → new ≡ record old { due = Some (outcome_of call code.NoError); called_at = now } → IsCaller place now call old new
+  is_renewed : (deadline : Option ℕ) → call.claim.out ≡ out.Answer code.NoError → Renews call.request → IsDeadlineAfter call.request now old deadline
+      → new ≡ record (taking call.request old) { ready_position = place; deadline = deadline; due = Some (outcome_of call code.NoError); called_at = now }
+      → IsCaller place now call old new
+  is_answered : (deadline : Option ℕ) → call.claim.out ≡ out.Answer code.NoError → ¬ Renews call.request → IsDeadlineAfter call.request now old deadline
+      → new ≡ record old { deadline = deadline; due = Some (outcome_of call code.NoError); called_at = now } → IsCaller place now call old new
   is_refused : (other : Code) → call.claim.out ≡ out.Answer other → ¬ (other ≡ code.NoError)
       → new ≡ record old { due = Some (outcome_of call other); called_at = now } → IsCaller place now call old new
 
 -- creation
 
 -- CREATE_PROCESS: a dormant process of this name, priority, period and time capacity, on the partition's first core; it waits for nothing, it
--- is not suspended, nothing is due to it, and no release, ready position or call is noted
+-- is not suspended, it has no deadline, nothing is due to it, and no release, ready position or call is noted
 pub record IsCreated (core : ℕ) (called : List ℕ) (priority : ℕ) (given_period given_capacity : Option ℕ) (new : Process) : Type 0 where
   pub name : new.name ≡ called
   pub base_priority : new.base_priority ≡ priority
@@ -218,6 +217,7 @@ pub record IsCreated (core : ℕ) (called : List ℕ) (priority : ℕ) (given_pe
   pub affinity : new.affinity ≡ core
   pub period : new.period ≡ given_period
   pub time_capacity : new.time_capacity ≡ given_capacity
+  pub deadline : new.deadline ≡ None
   pub alive : IsFalse new.alive
   pub suspended : IsFalse new.suspended
   pub wait : new.wait ≡ wait.Nothing
@@ -272,10 +272,16 @@ pub data IsStateNumber (cores : List CoreState) (who : Who) (process : Process) 
   running : IsReady process.affinity process → occupant_of cores process.affinity ≡ Some who → number ≡ 2 → IsStateNumber cores who process number
   waits : IsTrue process.alive → ¬ IsReady process.affinity process → number ≡ 3 → IsStateNumber cores who process number
 
--- GET_PROCESS_STATUS: the state, the current priority, and the deadline, which is -1, for none
+-- a deadline is reported as it is, and none as -1
+abbrev pub IsDeadlineNumber : Option ℕ → ℤ → Type 0
+IsDeadlineNumber None number = number ≡ negsuc 0
+IsDeadlineNumber (Some deadline) number = number ≡ pos deadline
+
+-- GET_PROCESS_STATUS: the state, the current priority, and the deadline
 pub data IsProcessStatus (cores : List CoreState) (target : Who) (found : Option Process) (answer : Answer) : Type 0 where
-  of_process : (process : Process) (number : ℕ) → found ≡ Some process → IsStateNumber cores target process number
-      → answer ≡ reporting (pos number) (Some (pos process.current_priority)) (Some (negsuc 0)) → IsProcessStatus cores target found answer
+  of_process : (process : Process) (number : ℕ) (deadline : ℤ) → found ≡ Some process → IsStateNumber cores target process number
+      → IsDeadlineNumber process.deadline deadline
+      → answer ≡ reporting (pos number) (Some (pos process.current_priority)) (Some deadline) → IsProcessStatus cores target found answer
   nobody : found ≡ None → answer ≡ done → IsProcessStatus cores target found answer
 
 -- GET_PROCESS_MUTEX_STATE: -3 for the owner of the lock, and for any other process the number of the mutex that it owns, or -2
@@ -300,6 +306,7 @@ IsAnswer cores core who partition (request.Caller (CallerOperation.TimedWait tic
 IsAnswer cores core who partition (request.Caller CallerOperation.PeriodicWait) answer = IsOverOrWaits (IsAtRelease (time_of cores core) (item_at partition.table who.proc)) answer
 IsAnswer cores core who partition (request.Caller CallerOperation.GetTime) answer = answer ≡ done_with (Number (pos (time_of cores core)))
 IsAnswer cores core who partition (request.Caller CallerOperation.GetPartitionStatus) answer = IsPartitionStatus partition answer
+IsAnswer cores core who partition (request.Caller (CallerOperation.Replenish budget)) answer = answer ≡ done
 IsAnswer cores core who partition (request.SetPartitionMode next) answer = answer ≡ never
 IsAnswer cores core who partition (request.CreateProcess name priority period time_capacity) answer = answer ≡ done_with (NewNumber (is_free partition.table))
 IsAnswer cores core who partition (request.Process process (ProcessOperation.InitializeCoreAffinity affinity)) answer = answer ≡ done

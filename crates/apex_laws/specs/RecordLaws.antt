@@ -1,8 +1,9 @@
 -- What every lawful record does is what the sentences say.
 use Rattle.std.specs.Prelude.{◌≡◌, ◌↔◌, ℕ, ◌<◌, List, [], Option, Some, None, length}
-use Rattle.apex_types.specs.declared.record.Body.TheVariants.{Arrive, Call, Depart, Disp, Ret, Tick}
+use Rattle.apex_types.specs.declared.record.Body.TheVariants.{Arrive, Call, Depart, Disp, Error, Ret, Tick}
 use Rattle.apex_types.specs.declared.record.Call.{Call as CallRecord}
 use Rattle.apex_types.specs.declared.record.Crossing.{Crossing}
+use Rattle.apex_types.specs.declared.record.ErrorReport.{ErrorReport}
 use Rattle.apex_types.specs.declared.record.Ordered.{Ordered}
 use Rattle.apex_types.specs.declared.record.Return.{Return}
 use Rattle.apex_types.specs.declared.record.Who.{Who}
@@ -17,7 +18,7 @@ use Rattle.apex_machine.specs.Step.{Step}
 use Rattle.apex_machine.specs.Waiting.{restart_of, set_after}
 use Rattle.apex_laws.specs.Laws.{SetsAreInOrder, AreTied, HoldTheirKind}
 use Rattle.apex_laws.specs.ObjectSentences.{IsArriving, IsDeparting}
-use Rattle.apex_laws.specs.RecordSentences.{HasReturned, IsCallOf, IsCrossingOf, IsDispatchOf, IsRefusedCallOf, IsRestartOf, IsSetAfterCall, IsTickOf, OnlyChanges, Restarts}
+use Rattle.apex_laws.specs.RecordSentences.{HasReturned, IsCallOf, IsCrossingOf, IsDispatchOf, IsErrorOf, IsRefusedCallOf, IsRestartOf, IsSetAfterCall, IsTickOf, OnlyChanges, Restarts}
 
 -- a dispatch of one of the cores
 abbrev pub DispatchIsTheSentence : Type 0
@@ -44,8 +45,8 @@ abbrev pub RefusalIsTheSentence : Type 0
 RefusalIsTheSentence =
     (configuration : Configuration) (state : State) (ordered : Ordered) (call : CallRecord) (next : State)
     → Step configuration state ordered next → ordered.rec.body ≡ Call call
-    → ¬ (conditions_of configuration call.who (state.partitions call.who.part) call.request ≡ [])
-    → IsRefusedCallOf call.who (service_of call.request) (conditions_of configuration call.who (state.partitions call.who.part) call.request)
+    → ¬ (conditions_of configuration (time_of state.cores ordered.core) call.who (state.partitions call.who.part) call.request ≡ [])
+    → IsRefusedCallOf call.who (service_of call.request) (conditions_of configuration (time_of state.cores ordered.core) call.who (state.partitions call.who.part) call.request)
     (time_of state.cores ordered.core) state next
 
 -- a waiting set after a call
@@ -86,3 +87,9 @@ RestartIsTheSentence =
     → Step configuration state ordered next → ordered.rec.body ≡ Call call → restart_of call ≡ Some mode
     → IsRestartOf configuration ordered.pos mode call.who.part state next)
     × ((call : CallRecord) (mode : Mode) → (restart_of call ≡ Some mode) ↔ Restarts call mode)
+
+-- the report of a missed deadline
+abbrev pub ErrorIsTheSentence : Type 0
+ErrorIsTheSentence =
+    (configuration : Configuration) (state : State) (ordered : Ordered) (report : ErrorReport) (next : State)
+    → Step configuration state ordered next → ordered.rec.body ≡ Error report → IsErrorOf ordered.core report.who state next

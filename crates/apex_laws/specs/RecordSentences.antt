@@ -31,6 +31,7 @@ use Rattle.apex_machine.specs.Waiting.{ends_wait, enters, entry_of, stops, messa
 use Rattle.apex_laws.specs.Laws.{entries_at}
 use Rattle.apex_laws.specs.ObjectSentences.{IsLocking, IsStoppedOwner, IsUnlocking, IsUse}
 use Rattle.apex_laws.specs.PartLaws.{OnlyProcessesChange}
+use Rattle.apex_laws.specs.DeadlineSentences.{HasMissed, IsReported}
 use Rattle.apex_laws.specs.ProcessSentences.{IsCaller, IsCreated, IsDue, IsReleased, IsSetBy, IsStopped, IsWoken}
 
 -- processes of a state
@@ -165,6 +166,14 @@ pub record OnlyChanges (Change : Process → Process → Type 0) (who : Who) (st
 abbrev pub HasReturned : Process → Process → Type 0
 HasReturned old new = new ≡ record old { due = None }
 
+-- the report of a missed deadline: the process has missed its deadline on the core of the record, and has none afterwards; nothing else
+-- changes
+pub record IsErrorOf (core : ℕ) (who : Who) (state next : State) : Type 0 where
+  pub process : Process
+  pub found : process_in state who ≡ Some process
+  pub missed : HasMissed core (time_of state.cores core) process
+  pub reported : OnlyChanges IsReported who state next
+
 -- a refused call: the code is due to the caller, with no value and no message, and the time of its core is noted
 abbrev pub HasRefusal : Service → Code → ℕ → Process → Process → Type 0
 HasRefusal of given now old new = new ≡ record old { due = Some (record { service = of; code = given; val = None; val2 = None; val3 = None; bytes = [] }); called_at = now }
@@ -272,13 +281,15 @@ pub data Restarts (call : CallRecord) : Mode → Type 0 where
   to_cold_start : call.request ≡ request.SetPartitionMode (pos 1) → call.claim.out ≡ out.Never → Restarts call mode.ColdStart
   to_warm_start : call.request ≡ request.SetPartitionMode (pos 2) → call.claim.out ≡ out.Never → Restarts call mode.WarmStart
 
--- the initialising process of a partition that starts at this place: ready from then on, on this core, with nothing due to it
+-- the initialising process of a partition that starts at this place: ready from then on, on this core, without a deadline and with nothing
+-- due to it
 pub record IsInitialising (core place : ℕ) (process : Process) : Type 0 where
   pub ready : IsReady core process
   pub position : process.ready_position ≡ place
   pub priority : process.current_priority ≡ 0
   pub due : process.due ≡ None
   pub period : process.period ≡ None
+  pub deadline : process.deadline ≡ None
 
 -- the processes of a partition that starts at this place: none in IDLE, else the initialising process alone
 abbrev pub IsStart : Mode → ℕ → ℕ → Table → Type 0

@@ -3,7 +3,7 @@ use Rattle.std.specs.Prelude.{◌≡◌, ◌≤◌, ℕ, ◌-◌, pos, List, [],
 use Rattle.std.specs.List.{slice_get}
 use Rattle.apex_types.specs.declared.code.Code.TheVariants as code
 use Rattle.apex_types.specs.declared.record.Body.{Body}
-use Rattle.apex_types.specs.declared.record.Body.TheVariants.{Arrive, Call, Depart, Disp, Ret, Tick}
+use Rattle.apex_types.specs.declared.record.Body.TheVariants.{Arrive, Call, Depart, Disp, Error, Ret, Tick}
 use Rattle.apex_types.specs.declared.record.Out.{Out}
 use Rattle.apex_types.specs.declared.record.Out.TheVariants as out
 use Rattle.apex_types.specs.declared.service.Service.{Service}
@@ -23,7 +23,7 @@ outcomes_by_number =
     out.Answer code.NoError ∷ out.Answer code.NoAction ∷ out.Answer code.NotAvailable ∷ out.Answer code.InvalidParam
     ∷ out.Answer code.InvalidConfig ∷ out.Answer code.InvalidMode ∷ out.Answer code.TimedOut ∷ out.Waits ∷ out.Never ∷ []
 
--- the kind of a record: 0 for a call, 1 for a return, 2 for a dispatch, 3 for a tick, 4 for an arrival, 5 for a departure
+-- the kind of a record: 0 for a call, 1 for a return, 2 for a dispatch, 3 for a tick, 4 for an arrival, 5 for a departure, 6 for an error
 abbrev pub kind_number : Body → ℕ
 kind_number (Call call) = 0
 kind_number (Ret ret) = 1
@@ -31,6 +31,7 @@ kind_number (Disp who) = 2
 kind_number (Tick woken) = 3
 kind_number (Arrive crossing) = 4
 kind_number (Depart crossing) = 5
+kind_number (Error report) = 6
 
 -- the number of a service or of an outcome is its place in these lists, so that no two have the same number; and a view's kind is that of
 -- its record

@@ -187,7 +187,7 @@ gets_through configuration state who asked channel = channel_answer configuratio
 
 -- the error conditions that hold
 abbrev pub conditions_met : Configuration → State → Who → Request → List Condition
-conditions_met configuration state who asked = conditions_of configuration who (state.partitions who.part) asked
+conditions_met configuration state who asked = conditions_of configuration (time_of state.cores who.part) who (state.partitions who.part) asked
 
 -- a priority of a process
 abbrev pub priority_in : Option Process → ℕ

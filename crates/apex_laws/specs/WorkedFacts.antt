@@ -3,7 +3,8 @@ use Rattle.std.specs.Prelude.{◌≡◌, ℕ, List, [], ◌∷◌, ◌++◌, Opt
 use Rattle.apex_types.specs.declared.code.Code.TheVariants as code
 use Rattle.apex_types.specs.declared.discipline.Discipline.TheVariants as discipline
 use Rattle.apex_types.specs.declared.object_kind.NamedKind.TheVariants as named
-use Rattle.apex_types.specs.declared.record.Body.TheVariants.{Arrive, Depart}
+use Rattle.apex_types.specs.declared.record.Body.TheVariants.{Arrive, Depart, Error}
+use Rattle.apex_types.specs.declared.error.ErrorCode.TheVariants as error
 use Rattle.apex_types.specs.declared.record.Crossing.{Crossing}
 use Rattle.apex_types.specs.declared.record.Out.TheVariants as out
 use Rattle.apex_types.specs.declared.record.Who.{Who}
@@ -19,6 +20,8 @@ use Rattle.apex_machine.specs.Ports.{arrived, departed}
 use Rattle.apex_machine.specs.Services.{in_profile}
 use Rattle.apex_machine.specs.Statuses.{reporting}
 use Rattle.apex_machine.specs.State.{Mutex, Queued, State, item_at}
+use Rattle.apex_machine.specs.declared.state.Process.{Process}
+use Rattle.apex_machine.specs.Deadlines.{is_missed}
 use Rattle.apex_machine.specs.DueTimes.{falls_due}
 use Rattle.apex_machine.specs.Step.{IsLawful}
 use Rattle.apex_laws.specs.Worked.{Happening, aperiodic, at, claims, conditions_met, creates, does, gets, gets_through, idle_ticks, normal, one_partition, outcome, owes, placed, play, played, priority_in, process_of, queuing_by, returns, runs, start, ticks, two_partitions, waits, wakes}
@@ -143,6 +146,20 @@ abbrev pub delayed : ℤ → State
 delayed period = played one_partition (creates 0 (request.CreateProcess (codes "P") (pos 10) period (negsuc 0)) (pos 1)
     ∷ does (process_of 0 0) (request.Process (pos 1) (ProcessOperation.DelayedStart (pos 3))) ∷ normal 0 ∷ [])
 
+-- process 1, of this period and this time capacity, is started with a delay of 3, and the partition enters NORMAL at time 0
+abbrev pub timed : ℤ → ℤ → State
+timed period time_capacity = played one_partition (creates 0 (request.CreateProcess (codes "P") (pos 10) period time_capacity) (pos 1)
+    ∷ does (process_of 0 0) (request.Process (pos 1) (ProcessOperation.DelayedStart (pos 3))) ∷ normal 0 ∷ [])
+
+-- the deadline of a process, if there is one
+abbrev pub deadline_of : Option Process → Option ℕ
+deadline_of None = None
+deadline_of (Some process) = process.deadline
+
+-- the report of the missed deadline of process 1
+abbrev pub reports_deadline : Happening
+reports_deadline = record { core = 0; body = Error (record { who = one; error = error.DeadlineMissed; restarts = false }) }
+
 -- the channel's messages come from outside, or leave to the outside
 abbrev pub from_outside : Configuration
 from_outside = record two_partitions { queuing = record (queuing_by discipline.Fifo) { source = None } ∷ [] }
@@ -231,6 +248,19 @@ pub record WorkedFacts : Type 0 where
   pub delay_is_over : falls_due 0 3 (at (delayed (negsuc 0)) one) ≡ true
   pub release_is_delayed : falls_due 0 12 (at (delayed (pos 20)) one) ≡ false
   pub delayed_release : falls_due 0 13 (at (delayed (pos 20)) one) ≡ true
+  -- DELAYED_START sets the deadline to the end of the time capacity, which counts from the end of the delay, or from the first release; it is
+  -- missed once the core has reached it; its report and STOP_SELF take it away
+  pub sets_deadline : deadline_of (at (timed (negsuc 0) (pos 5)) one) ≡ Some 8
+  pub sets_no_deadline : deadline_of (at (timed (negsuc 0) (negsuc 0)) one) ≡ None
+  pub deadline_of_release : deadline_of (at (timed (pos 20) (pos 5)) one) ≡ Some 18
+  pub deadline_is_ahead : is_missed 0 7 (at (timed (negsuc 0) (pos 5)) one) ≡ false
+  pub deadline_is_missed : is_missed 0 8 (at (timed (negsuc 0) (pos 5)) one) ≡ true
+  pub deadline_is_reported : deadline_of (at (play one_partition (timed (negsuc 0) (pos 5)) (reports_deadline ∷ [])) one) ≡ None
+  pub deadline_is_stopped : deadline_of (at (play one_partition (timed (negsuc 0) (pos 5)) (claims 0 one 10 (request.Caller CallerOperation.StopSelf) out.Never None [] None [] ∷ [])) one) ≡ None
+  -- PERIODIC_WAIT sets the deadline of the next release, REPLENISH that of a budget
+  pub deadline_of_next : deadline_of (at (play one_partition (timed (pos 20) (pos 5)) (idle_ticks 0 12 ++ ticks 0 (one ∷ []) ∷ waits one 10 (request.Caller CallerOperation.PeriodicWait) ∷ [])) one) ≡ Some 38
+  pub replenishes : deadline_of (at (play one_partition (timed (negsuc 0) (pos 5)) (does one (request.Caller (CallerOperation.Replenish (pos 9))) ∷ [])) one) ≡ Some 9
+  pub replenishes_for_ever : deadline_of (at (play one_partition (timed (negsuc 0) (pos 5)) (does one (request.Caller (CallerOperation.Replenish (negsuc 0))) ∷ [])) one) ≡ None
   -- RESET_MUTEX by a process that does not own the mutex hands it on, and the owner has its own priority again
   pub reset_hands_on : gets mutex_wanted one (request.Object (pos 1) (on.Mutex (MutexOperation.Reset (pos 3)))) ≡ waking (two ∷ [])
   pub reset_restores : priority_in (at (play one_partition mutex_wanted (wakes one (request.Object (pos 1) (on.Mutex (MutexOperation.Reset (pos 3)))) (two ∷ []) ∷ [])) three) ≡ 5

@@ -14,7 +14,7 @@ ghost use Rattle.apex_laws.specs.PartObjects.{EachLeavesItsSet, OneObjectChanges
 ghost use Rattle.apex_laws.specs.PartSets.{EachNamedLeaves, LeavesEverySet, NamedLeave};
 ghost use Rattle.apex_laws.specs.JoinLaws.{FindingsJoin, FoundIsRefused, NothingFoundIsARun, RunsJoin};
 ghost use Rattle.apex_laws.specs.ObjectLaws.{BlackboardIsTheSentence, ChannelIsTheSentence, CrossingIsTheSentence, EventIsTheSentence, FirstIsTheSentence, LockIsTheSentence, MutexIsTheSentence, ObjectCallIsTheSentence, OrderIsApart, QueueIsTheSentence, SamplingIsTheSentence, SemaphoreIsTheSentence};
-ghost use Rattle.apex_laws.specs.RecordLaws.{ArrivalIsTheSentence, CallIsTheSentence, DepartureIsTheSentence, DispatchIsTheSentence, RefusalIsTheSentence, RestartIsTheSentence, ReturnIsTheSentence, SetIsTheSentence, TickIsTheSentence};
+ghost use Rattle.apex_laws.specs.RecordLaws.{ArrivalIsTheSentence, CallIsTheSentence, DepartureIsTheSentence, DispatchIsTheSentence, ErrorIsTheSentence, RefusalIsTheSentence, RestartIsTheSentence, ReturnIsTheSentence, SetIsTheSentence, TickIsTheSentence};
 ghost use Rattle.apex_laws.specs.ConditionFacts.{ConditionFacts};
 ghost use Rattle.apex_laws.specs.ConditionLaws.{CodesAreTheSentences, ConditionsAreTheSentences};
 ghost use Rattle.apex_laws.specs.NumberLaws.{NamesAreFound, NewNumberIsTheSentence, ObjectsAreFound, OwnedIsFound, ProcessesAreFound};
@@ -24,7 +24,7 @@ ghost use Rattle.apex_laws.specs.ViewLaws.{ViewsAreOfTheRun};
 ghost use Rattle.apex_laws.specs.ViewNumbers.{NumbersTell};
 ghost use Rattle.apex_laws.specs.WorkedRun.{WorkedRun};
 ghost use Rattle.apex_laws.specs.WorkedFacts.{LawfulFacts, WorkedFacts};
-ghost use Rattle.apex_laws.specs.ProcessLaws.{AnswerIsTheSentence, CallerIsTheSentence, CreationIsTheSentence, DueIsTheSentence, ReleaseIsTheSentence, SettingIsTheSentence, StoppingIsTheSentence, WakingIsTheSentence};
+ghost use Rattle.apex_laws.specs.ProcessLaws.{AnswerIsTheSentence, CallerIsTheSentence, CreationIsTheSentence, DeadlineIsTheSentence, DueIsTheSentence, MissedIsTheSentence, ReleaseIsTheSentence, SettingIsTheSentence, StoppingIsTheSentence, WakingIsTheSentence};
 
 /// A record leads from a state to at most one next state.
 pub fn at_most_one_next_state()
@@ -162,7 +162,8 @@ pub fn each_named_leaves()
     ensures { EachNamedLeaves }
 {}
 
-/// Calls of other partitions, arrivals, departures, returns and dispatches leave a partition's objects, waiting sets and ports unchanged.
+/// Calls of other partitions, arrivals, departures, returns, dispatches and errors leave a partition's objects, waiting sets and ports
+/// unchanged.
 pub fn foreign_calls_leave_sets()
     ensures { ForeignCallsLeaveSets }
 {}
@@ -316,6 +317,17 @@ pub fn caller_is_the_sentence()
     ensures { CallerIsTheSentence }
 {}
 
+/// A time capacity or a budget sets the deadline that the sentences say.
+pub fn deadline_is_the_sentence()
+    ensures { DeadlineIsTheSentence }
+{}
+
+/// A process has missed its deadline on a core if the core is its own and the core's time has reached the deadline. A core has missed
+/// deadlines in a table exactly if one of its processes there has.
+pub fn missed_is_the_sentence()
+    ensures { MissedIsTheSentence }
+{}
+
 /// A created process is dormant, on the partition's first core.
 pub fn creation_is_the_sentence()
     ensures { CreationIsTheSentence }
@@ -340,6 +352,12 @@ pub fn tick_is_the_sentence()
 /// A return clears what was due to the returner, and changes nothing else.
 pub fn return_is_the_sentence()
     ensures { ReturnIsTheSentence }
+{}
+
+/// The report of a missed deadline is of a process that has missed its deadline on its core, takes the deadline away, and changes nothing
+/// else.
+pub fn error_is_the_sentence()
+    ensures { ErrorIsTheSentence }
 {}
 
 /// A call with an error condition makes the code of one of them due to its caller, notes the time of the call, and changes

@@ -6,7 +6,7 @@ use Rattle.apex_types.specs.declared.code.Code.TheVariants as code
 use Rattle.apex_types.specs.declared.object_kind.ObjectKind.{ObjectKind}
 use Rattle.apex_types.specs.declared.object_kind.ObjectKind.TheVariants as kind
 use Rattle.apex_types.specs.declared.record.Body.{Body}
-use Rattle.apex_types.specs.declared.record.Body.TheVariants.{Arrive, Call, Depart, Ret, Disp, Tick}
+use Rattle.apex_types.specs.declared.record.Body.TheVariants.{Arrive, Call, Depart, Ret, Disp, Tick, Error}
 use Rattle.apex_types.specs.declared.record.Call.{Call as CallRecord}
 use Rattle.apex_types.specs.declared.record.Ordered.{Ordered}
 use Rattle.apex_types.specs.declared.record.Out.{Out}
@@ -32,7 +32,7 @@ use Rattle.apex_machine.specs.Locks.{lock_by, lock_left}
 use Rattle.apex_machine.specs.Objects.{object_effect}
 use Rattle.apex_machine.specs.Ports.{arrived, channel_effect, departed, use_of}
 pub use Rattle.apex_machine.specs.Processes.{caller_after, caller_with, outcome_of, released}
-use Rattle.apex_machine.specs.Processes.{new_process, set_by, stopped, woken_by}
+use Rattle.apex_machine.specs.Processes.{new_process, reported, set_by, stopped, woken_by}
 use Rattle.apex_machine.specs.State.{Blackboard, Buffer, Channel, Content, Event, Lock, Mutex, ObjectOf, Partition, Port, Semaphore, State, Table, at_core, change_at, channel_set, each_item, is_named, objects_of, set_at, started_partition, time_of, with_ends, with_objects}
 use Rattle.apex_machine.specs.Waiting.{message_of, restart_of, set_after, stops}
 
@@ -212,6 +212,10 @@ ticked place partition woken number process =
 abbrev pub returned : ℕ → ℕ → Process → Process
 returned returner number process = if nat_eq number returner then record process { due = None } else process
 
+-- a process after the report of a missed deadline, which takes away the deadline of the process that missed it
+abbrev pub deadline_taken : ℕ → ℕ → Process → Process
+deadline_taken missed number process = if nat_eq number missed then reported process else process
+
 -- a partition after a record of others, which hands over this message and can only end waits of the partition's processes
 abbrev pub partition_woken : ℕ → ℕ → List ℕ → List Who → Partition → Partition
 partition_woken place number message woken partition =
@@ -231,6 +235,8 @@ partition_by configuration cores place core number (Call call) partition =
     else partition_woken place number (message_of call.request) call.claim.woken partition
 partition_by configuration cores place core number (Arrive crossing) partition = partition_woken place number crossing.message crossing.woken partition
 partition_by configuration cores place core number (Depart crossing) partition = partition_woken place number [] crossing.woken partition
+partition_by configuration cores place core number (Error report) partition =
+    if nat_eq report.who.part number then record partition { table = each_item (deadline_taken report.who.proc) partition.table } else partition
 
 -- a partition after an ordered record
 abbrev pub partition_after : Configuration → List CoreState → ℕ → Ordered → Partition → Partition
@@ -273,6 +279,7 @@ cores_by core (Ret ret) cores = cores
 cores_by core (Call call) cores = cores
 cores_by core (Arrive crossing) cores = cores
 cores_by core (Depart crossing) cores = cores
+cores_by core (Error report) cores = cores
 
 -- the cores after an ordered record
 abbrev pub cores_after : Ordered → List CoreState → List CoreState

@@ -69,6 +69,8 @@ code_of condition.OwnsMutex = code.InvalidMode
 code_of condition.NotLockOwner = code.NoAction
 code_of condition.OwnsLock = code.InvalidMode
 code_of condition.ProcessOwnsLock = code.InvalidMode
+code_of condition.BudgetOutOfRange = code.InvalidParam
+code_of condition.BudgetAboveRelease = code.InvalidMode
 
 -- this condition, if it holds
 abbrev pub when : Bool → Condition → List Condition

@@ -4,7 +4,7 @@ use Rattle.apex_types.specs.declared.cause.Cause.{Cause}
 use Rattle.apex_types.specs.declared.cause.Cause.TheVariants as cause
 use Rattle.apex_types.specs.declared.code.Code.TheVariants as code
 use Rattle.apex_types.specs.declared.record.Body.{Body}
-use Rattle.apex_types.specs.declared.record.Body.TheVariants.{Arrive, Call, Depart, Ret, Disp, Tick}
+use Rattle.apex_types.specs.declared.record.Body.TheVariants.{Arrive, Call, Depart, Ret, Disp, Tick, Error}
 use Rattle.apex_types.specs.declared.record.Call.{Call as CallRecord}
 use Rattle.apex_types.specs.declared.record.Claim.{Claim}
 use Rattle.apex_types.specs.declared.record.Crossing.{Crossing}
@@ -29,12 +29,14 @@ use Rattle.apex_machine.specs.Configuration.{Configuration, has_partition, windo
 use Rattle.apex_machine.specs.Pieces.{ChannelPart, ModulePart, Part, PartitionPart, part_after, time_at}
 use Rattle.apex_machine.specs.Channels.{has_channel, is_from_outside, is_to_outside, size_of}
 use Rattle.apex_machine.specs.Ports.{arrived, channel_effect, channel_of, departed, suits_use, use_of}
+use Rattle.apex_machine.specs.Deadlines.{is_missed}
 use Rattle.apex_machine.specs.DueTimes.{NamesThoseDue, time_out_of}
 use Rattle.apex_machine.specs.ServiceConditions.{conditions_of}
 use Rattle.apex_machine.specs.Services.{Answer, HasNoValues, HasValues, NamesExactly, answer_of}
 use Rattle.apex_machine.specs.State.{Channel, channel_set, Partition, Table, is_same, names_one_of, occupant_of, item_at, time_of}
-use Rattle.apex_machine.specs.Step.{AllConfigured, OneConfigured, ChannelConfigured, KeepsSkew, HasNoneDue, HasPriority, HasCode, IsTaken, IsWithinProfile, due_of}
+use Rattle.apex_machine.specs.Step.{AllConfigured, OneConfigured, ChannelConfigured, KeepsSkew, HasNoneDue, HasPriority, HasCode, IsTaken, IsWithinProfile, NoneMissed, due_of}
 use Rattle.apex_machine.specs.Waiting.{waits_at}
+use Rattle.apex_types.specs.declared.record.ErrorReport.{ErrorReport}
 
 -- what a piece demands of a record, and the cause that it reports if the demand fails
 pub record Demand : Type 1 where
@@ -77,7 +79,7 @@ crossing_names configuration crossing =
     record { cause = cause.Names; holds = AllConfigured configuration crossing.woken × IsTrue (has_channel configuration crossing.chan) }
 
 -- the module: names are configured, a tick keeps the skew, and a core outside every window is idle. An arrival or a departure may be at any
--- time
+-- time; the partition judges when an error may be reported
 abbrev pub module_demands : Configuration → List CoreState → ℕ → Body → List {1} Demand
 module_demands configuration cores core (Disp who) =
     record { cause = cause.Names; holds = OneConfigured configuration who }
@@ -94,6 +96,8 @@ module_demands configuration cores core (Call call) =
     ∷ record { cause = cause.Idle; holds = InNoWindow (window_now configuration cores core) ⊥ } ∷ []
 module_demands configuration cores core (Arrive crossing) = crossing_names configuration crossing ∷ []
 module_demands configuration cores core (Depart crossing) = crossing_names configuration crossing ∷ []
+module_demands configuration cores core (Error report) =
+    record { cause = cause.Names; holds = IsTrue (has_partition configuration report.who.part) } ∷ []
 module_demands configuration cores core (Ret ret) =
     record { cause = cause.Names; holds = IsTrue (has_partition configuration ret.who.part) }
     ∷ record { cause = cause.Idle; holds = InNoWindow (window_now configuration cores core) ⊥ } ∷ []
@@ -142,15 +146,16 @@ outcome_demands (condition ∷ conditions) channel number asked answer claim =
     ∷ record { cause = cause.Woken; holds = claim.woken ≡ [] } ∷ []
 
 -- what a partition demands of a call of its own process before it looks at the outcome: the caller runs in a window of the partition, no
--- outcome is due to it, the call is within the profile, and the priority is the caller's
+-- missed deadline is left to report, no outcome is due to it, the call is within the profile, and the priority is the caller's
 abbrev pub caller_demands : Configuration → ℕ → List CoreState → Partition → ℕ → CallRecord → List {1} Demand
 caller_demands configuration number cores partition core call =
     record { cause = cause.Window; holds = window_now configuration cores core ≡ Some number }
+    ∷ record { cause = cause.Deadline; holds = NoneMissed cores core partition }
     ∷ record { cause = cause.Choice; holds = IsRunning number cores partition core call.who }
     ∷ record { cause = cause.Return; holds = HasNoneDue (item_at partition.table call.who.proc) }
     ∷ record {
       cause = cause.OutsideProfile;
-      holds = IsWithinProfile (conditions_of configuration call.who partition call.request) call.who partition call.request;
+      holds = IsWithinProfile (conditions_of configuration (time_of cores core) call.who partition call.request) call.who partition call.request;
     }
     ∷ record { cause = cause.Prio; holds = HasPriority call.claim.prio (item_at partition.table call.who.proc) } ∷ []
 
@@ -158,7 +163,7 @@ caller_demands configuration number cores partition core call =
 abbrev pub own_call_demands : Configuration → ℕ → List CoreState → Partition → ℕ → CallRecord → List {1} Demand
 own_call_demands configuration number cores partition core call =
     caller_demands configuration number cores partition core call
-    ++ outcome_demands (conditions_of configuration call.who partition call.request) (channel_of partition call.request) number call.request
+    ++ outcome_demands (conditions_of configuration (time_of cores core) call.who partition call.request) (channel_of partition call.request) number call.request
     (answer_of cores core call.who partition call.request) call.claim
 
 -- partitions: the calls of others, the returns and the ticks
@@ -182,7 +187,8 @@ WakesHere _ chan number table woken = ⊥
 -- a call of another partition that names one of these processes
 abbrev pub foreign_call_demands : Configuration → ℕ → List CoreState → Partition → ℕ → CallRecord → List {1} Demand
 foreign_call_demands configuration number cores partition core call =
-    record { cause = cause.Choice; holds = InWindowOf number (window_now configuration cores core) (IsRunning number cores partition core call.who) }
+    record { cause = cause.Deadline; holds = InWindowOf number (window_now configuration cores core) (NoneMissed cores core partition) }
+    ∷ record { cause = cause.Choice; holds = InWindowOf number (window_now configuration cores core) (IsRunning number cores partition core call.who) }
     ∷ record { cause = cause.Woken; holds = WakesHere call.request call.claim.chan number partition.table call.claim.woken } ∷ []
 
 -- a call of one of the partition's own processes, or of another's
@@ -201,13 +207,23 @@ pub record ReturnsValues (outcome : Outcome) (ret : Return) : Type 0 where
   pub val2 : outcome.val2 ≡ ret.val2
   pub val3 : outcome.val3 ≡ ret.val3
 
--- a partition: its windows, its choices, and the claims of its own calls and returns; of an arrival, that its processes that are named wait
--- to receive on that channel, and of a departure, that they wait to send
+-- the report of a missed deadline: it comes in a window of the partition and on the core of the process, the deadline is missed, and the
+-- partition is not restarted
+abbrev pub error_demands : Configuration → ℕ → List CoreState → Partition → ℕ → ErrorReport → List {1} Demand
+error_demands configuration number cores partition core report =
+    record { cause = cause.Window; holds = window_now configuration cores core ≡ Some number }
+    ∷ record { cause = cause.Deadline; holds = IsTrue (is_missed core (time_of cores core) (item_at partition.table report.who.proc)) }
+    ∷ record { cause = cause.Out; holds = IsFalse report.restarts } ∷ []
+
+-- a partition: its windows, its deadlines, its choices, and the claims of its own calls and returns; of an arrival, that its processes that
+-- are named wait to receive on that channel, and of a departure, that they wait to send
 abbrev pub partition_demands : Configuration → ℕ → List CoreState → Partition → ℕ → Body → List {1} Demand
 partition_demands configuration number cores partition core (Disp who) =
-    record { cause = cause.Choice; holds = InWindowOf number (window_now configuration cores core) (partition_choice number core partition ≡ who) } ∷ []
+    record { cause = cause.Deadline; holds = InWindowOf number (window_now configuration cores core) (NoneMissed cores core partition) }
+    ∷ record { cause = cause.Choice; holds = InWindowOf number (window_now configuration cores core) (partition_choice number core partition ≡ who) } ∷ []
 partition_demands configuration number cores partition core (Tick woken) =
-    record {
+    record { cause = cause.Deadline; holds = InWindowOf number (window_now configuration cores core) (NoneMissed cores core partition) }
+    ∷ record {
       cause = cause.Choice;
       holds = InWindowOf number (window_now configuration cores core) (partition_choice number core partition ≡ occupant_of cores core);
     }
@@ -217,6 +233,7 @@ partition_demands configuration number cores partition core (Call call) =
 partition_demands configuration number cores partition core (Ret ret) =
     let due : Option Outcome = due_of (item_at partition.table ret.who.proc) in
     record { cause = cause.Window; holds = window_now configuration cores core ≡ Some number }
+    ∷ record { cause = cause.Deadline; holds = NoneMissed cores core partition }
     ∷ record { cause = cause.Choice; holds = IsRunning number cores partition core ret.who }
     ∷ record { cause = cause.Return; holds = IfDue due (λ outcome. outcome.service ≡ ret.service) }
     ∷ record { cause = cause.Out; holds = IfDue due (λ outcome. outcome.code ≡ ret.code) }
@@ -226,6 +243,7 @@ partition_demands configuration number cores partition core (Arrive crossing) =
     record { cause = cause.Woken; holds = AllWaitAt (channel_set crossing.chan Receivers) number partition.table crossing.woken } ∷ []
 partition_demands configuration number cores partition core (Depart crossing) =
     record { cause = cause.Woken; holds = AllWaitAt (channel_set crossing.chan Senders) number partition.table crossing.woken } ∷ []
+partition_demands configuration number cores partition core (Error report) = error_demands configuration number cores partition core report
 
 -- channels
 

@@ -5,6 +5,7 @@ pub mod Arguments
 pub mod Answer
 pub mod Waiting
 pub mod DueTimes
+pub mod Deadlines
 pub mod Choice
 pub mod Queue
 pub mod Objects

@@ -2,7 +2,7 @@
 -- holds, the records that touch it, and its local step.
 use Rattle.std.specs.Prelude.{ℕ, zero, suc, ◌+◌, List, [], ◌∷◌, ◌++◌, Bool, true, false, nat_eq, ◌&&◌, ◌||◌, map, is_some}
 use Rattle.apex_types.specs.declared.record.Body.{Body}
-use Rattle.apex_types.specs.declared.record.Body.TheVariants.{Arrive, Call, Depart, Ret, Disp, Tick}
+use Rattle.apex_types.specs.declared.record.Body.TheVariants.{Arrive, Call, Depart, Ret, Disp, Tick, Error}
 use Rattle.apex_types.specs.declared.record.Call.{Call as CallRecord}
 use Rattle.apex_types.specs.declared.record.Ordered.{Ordered}
 use Rattle.apex_machine.specs.declared.state.CoreState.{CoreState}
@@ -54,9 +54,9 @@ stops_some call = is_some (restart_of call) || (is_some (stop_of call.request) &
 abbrev pub stops_at_end : Configuration → ℕ → CallRecord → Bool
 stops_at_end configuration number call = stops_some call && is_at_end configuration number call.who.part
 
--- every record touches the module; a partition is touched by ticks and dispatches, by its own calls and returns, and by a
--- call, an arrival or a departure that names one of its processes; a channel by ticks, by calls through it, by arrivals at it and
--- departures from it, and by a stop or a restart at one of its ends
+-- every record touches the module; a partition is touched by ticks and dispatches, by its own calls and returns and the errors of its
+-- processes, and by a call, an arrival or a departure that names one of its processes; a channel by ticks, by calls through it, by arrivals
+-- at it and departures from it, and by a stop or a restart at one of its ends
 abbrev pub touched_by : Configuration → Body → Piece → Bool
 touched_by configuration body Module = true
 touched_by configuration (Disp who) (OfPartition number) = true
@@ -71,6 +71,8 @@ touched_by configuration (Arrive crossing) (OfPartition number) = names_one_of n
 touched_by configuration (Depart crossing) (OfPartition number) = names_one_of number crossing.woken
 touched_by configuration (Arrive crossing) (OfChannel number) = nat_eq crossing.chan number
 touched_by configuration (Depart crossing) (OfChannel number) = nat_eq crossing.chan number
+touched_by configuration (Error report) (OfPartition number) = nat_eq report.who.part number
+touched_by configuration (Error report) (OfChannel number) = report.restarts && is_at_end configuration number report.who.part
 
 -- whether a record touches a piece
 abbrev pub touches : Configuration → Piece → Ordered → Bool

@@ -10,7 +10,8 @@ use Rattle.apex_machine.specs.declared.state.Process.{Process}
 use Rattle.apex_machine.specs.Arguments.{is_above_period, is_at_least, is_mode, is_negative, is_normal_mode, is_number, is_period, is_priority, is_report_length, is_time_capacity, is_warm_start_mode, natural_of, suits_period}
 use Rattle.apex_machine.specs.Conditions.{conditions_for, conditions_if, creation_conditions, is_cold_start, is_normal, is_taken, may_not_wait, of_caller, owns_mutex, time_out_conditions, when}
 use Rattle.apex_machine.specs.Configuration.{Configuration, is_core, period_of, process_limit}
-use Rattle.apex_machine.specs.DueTimes.{is_suspension}
+use Rattle.apex_machine.specs.Deadlines.{ends_after}
+use Rattle.apex_machine.specs.DueTimes.{is_suspension, next_release}
 use Rattle.apex_machine.specs.Locks.{owns_lock}
 use Rattle.apex_machine.specs.State.{Partition, Table, created, item_at}
 
@@ -129,7 +130,7 @@ create_handler_conditions partition = when (is_normal partition.mode) condition.
 
 -- the lock
 
--- LOCK_PREEMPTION and UNLOCK_PREEMPTION: the mode NORMAL, and a caller other than the initialising process
+-- LOCK_PREEMPTION, UNLOCK_PREEMPTION and REPLENISH: the mode NORMAL, and a caller other than the initialising process
 abbrev pub preemption_conditions : Who → Partition → List Condition
 preemption_conditions who partition =
     when (not (is_normal partition.mode)) condition.NotNormal ++ when (nat_eq who.proc 0) condition.NotForInitialising
@@ -144,6 +145,20 @@ lock_conditions who partition =
 -- UNLOCK_PREEMPTION: a caller that owns the lock
 abbrev pub unlock_conditions : Who → Partition → List Condition
 unlock_conditions who partition = preemption_conditions who partition ++ when (not (owns_lock partition who.proc)) condition.NotLockOwner
+
+-- deadlines
+
+-- whether a process is periodic, and a budget that counts from this time ends after its next release
+abbrev pub replenishes_beyond : ℕ → ℤ → Process → Bool
+replenishes_beyond now budget process = is_periodic process && ends_after now budget (next_release process)
+
+-- REPLENISH: the mode NORMAL, and a caller other than the initialising process; a budget in range, which for a periodic process does not end
+-- after its next release
+abbrev pub replenish_conditions : ℕ → Who → Partition → ℤ → List Condition
+replenish_conditions now who partition budget =
+    preemption_conditions who partition
+    ++ when (not (is_time_capacity budget)) condition.BudgetOutOfRange
+    ++ when (of_caller (replenishes_beyond now budget) (item_at partition.table who.proc)) condition.BudgetAboveRelease
 
 -- the partition's mode
 

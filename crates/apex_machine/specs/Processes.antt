@@ -20,6 +20,7 @@ use Rattle.apex_machine.specs.declared.state.Wait.{Wait}
 use Rattle.apex_machine.specs.declared.state.Wait.TheVariants as wait
 use Rattle.apex_machine.specs.Arguments.{capacity_given, is_number, is_over, natural_of, period_given}
 use Rattle.apex_machine.specs.Conditions.{is_normal}
+use Rattle.apex_machine.specs.Deadlines.{deadline_by, entry_deadline}
 use Rattle.apex_machine.specs.DueTimes.{delay_kept, entry_wait, next_release, wait_of, waits_for_normal}
 use Rattle.apex_machine.specs.Objects.{is_owner, mutex_effect}
 use Rattle.apex_machine.specs.State.{Mutex, Partition, given_object, time_of}
@@ -37,6 +38,7 @@ new_process core name priority period time_capacity = record {
   affinity = core;
   period = period_given period;
   time_capacity = capacity_given time_capacity;
+  deadline = None;
   last_release = 0;
   alive = false;
   suspended = false;
@@ -46,26 +48,36 @@ new_process core name priority period time_capacity = record {
   called_at = 0;
 }
 
--- START and DELAYED_START set the current priority back to the base priority; the process enters NORMAL at once, or waits for it with its
--- delay, which for START is 0   (START, DELAYED_START, section 3)
+-- START and DELAYED_START set the current priority back to the base priority; the process enters NORMAL at once, which sets its deadline, or
+-- waits for it with its delay, which for START is 0   (START, DELAYED_START, section 3)
 abbrev pub started : ℕ → ℕ → ℕ → Mode → ℤ → Process → Process
 started place partition_period now mode delay process = record process {
   current_priority = process.base_priority;
   alive = true;
   wait = if is_normal mode then entry_wait partition_period now (natural_of delay) process.period else wait.NormalMode delay;
+  deadline = if is_normal mode then entry_deadline partition_period now (natural_of delay) process else None;
   ready_position = place;
 }
 
--- each process that waits for NORMAL enters it   (SET_PARTITION_MODE, section 3)
+-- each process that waits for NORMAL enters it, which sets its deadline   (SET_PARTITION_MODE, section 3)
 abbrev pub after_normal : ℕ → ℕ → ℕ → Process → Process
 after_normal place partition_period now process =
     if waits_for_normal process.wait
-    then record process { wait = entry_wait partition_period now (delay_kept process.wait) process.period; ready_position = place }
+    then record process {
+      wait = entry_wait partition_period now (delay_kept process.wait) process.period;
+      deadline = entry_deadline partition_period now (delay_kept process.wait) process;
+      ready_position = place;
+    }
     else process
 
--- a stopped process is dormant: it is not suspended, waits for nothing, and nothing is due to it   (STOP, STOP_SELF, section 3)
+-- a stopped process is dormant: it is not suspended, waits for nothing, has no deadline, and nothing is due to it   (STOP, STOP_SELF,
+-- section 3)
 abbrev pub stopped : Process → Process
-stopped process = record process { alive = false; suspended = false; wait = wait.Nothing; due = None }
+stopped process = record process { alive = false; suspended = false; wait = wait.Nothing; deadline = None; due = None }
+
+-- a missed deadline that is reported is taken away
+abbrev pub reported : Process → Process
+reported process = record process { deadline = None }
 
 -- priorities
 
@@ -193,11 +205,15 @@ outcome_of call code = record {
 
 -- the caller after its call: it waits, it is dormant, or its outcome is due
 abbrev pub caller_with : ℕ → ℕ → CallRecord → Out → Process → Process
-caller_with place now call out.Waits process = record process { wait = wait_of call.request call.claim.chan now process }
+caller_with place now call out.Waits process = record process {
+  wait = wait_of call.request call.claim.chan now process;
+  deadline = deadline_by call.request now process;
+}
 caller_with place now call out.Never process = stopped process
 caller_with place now call (out.Answer code) process = record process {
   ready_position = if renews call.request && is_no_error (out.Answer code) then place else process.ready_position;
   last_release = if is_no_error (out.Answer code) then release_taken call.request process else process.last_release;
+  deadline = if is_no_error (out.Answer code) then deadline_by call.request now process else process.deadline;
   due = Some (outcome_of call code);
 }
 

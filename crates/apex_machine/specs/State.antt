@@ -295,6 +295,7 @@ initialising_process core place = record {
   affinity = core;
   period = None;
   time_capacity = None;
+  deadline = None;
   last_release = 0;
   alive = true;
   suspended = false;

@@ -65,9 +65,15 @@ state_number cores who process =
     else if is_occupant who (occupant_of cores process.affinity) then 2
     else 1
 
--- GET_PROCESS_STATUS: the state, the current priority, and the deadline, which is -1 if there is none
+-- a deadline, or -1 if there is none
+abbrev pub deadline_number : Option ℕ → ℤ
+deadline_number None = negsuc 0
+deadline_number (Some deadline) = pos deadline
+
+-- GET_PROCESS_STATUS: the state, the current priority, and the deadline
 abbrev pub process_status : List CoreState → Who → Process → Answer
-process_status cores who process = reporting (pos (state_number cores who process)) (Some (pos process.current_priority)) (Some (negsuc 0))
+process_status cores who process =
+    reporting (pos (state_number cores who process)) (Some (pos process.current_priority)) (Some (deadline_number process.deadline))
 
 -- GET_PARTITION_STATUS: the mode, the lock level, and the start condition
 abbrev pub partition_status : Partition → Answer

@@ -1,9 +1,9 @@
 -- A step of the machine: what a record must claim, and the state to which it then leads. A run is one step after another.
-use Rattle.std.specs.Prelude.{◌≡◌, ◌⊎◌, ℕ, ◌+◌, ◌≤◌, List, [], ◌∷◌, length, Option, Some, None, Bool, IsTrue}
+use Rattle.std.specs.Prelude.{◌≡◌, ◌⊎◌, ℕ, ◌+◌, ◌≤◌, List, [], ◌∷◌, length, Option, Some, None, Bool, IsTrue, IsFalse}
 use Rattle.apex_types.specs.declared.code.Code.{Code}
 use Rattle.apex_types.specs.declared.code.Code.TheVariants as code
 use Rattle.apex_types.specs.declared.record.Body.{Body}
-use Rattle.apex_types.specs.declared.record.Body.TheVariants.{Arrive, Call, Depart, Ret, Disp, Tick}
+use Rattle.apex_types.specs.declared.record.Body.TheVariants.{Arrive, Call, Depart, Ret, Disp, Tick, Error}
 use Rattle.apex_types.specs.declared.record.Call.{Call as CallRecord}
 use Rattle.apex_types.specs.declared.record.Claim.{Claim}
 use Rattle.apex_types.specs.declared.record.Crossing.{Crossing}
@@ -21,12 +21,14 @@ use Rattle.apex_machine.specs.After.{after}
 use Rattle.apex_machine.specs.Channels.{has_channel, is_from_outside, is_to_outside, size_of}
 use Rattle.apex_machine.specs.Choice.{choice}
 use Rattle.apex_machine.specs.Conditions.{code_of}
-use Rattle.apex_machine.specs.Configuration.{Configuration, has_partition}
+use Rattle.apex_machine.specs.Configuration.{Configuration, has_partition, window_at}
+use Rattle.apex_machine.specs.Deadlines.{is_missed, some_missed}
 use Rattle.apex_machine.specs.DueTimes.{NamesThoseDue}
 use Rattle.apex_machine.specs.Ports.{arrived, channel_effect, channel_of, departed, suits_use, use_of}
 use Rattle.apex_machine.specs.ServiceConditions.{conditions_of}
 use Rattle.apex_machine.specs.Services.{Answer, HasNoValues, HasValues, NamesExactly, answer_of, in_profile}
 use Rattle.apex_machine.specs.State.{Channel, Partition, State, item_at, time_of, occupant_of}
+use Rattle.apex_types.specs.declared.record.ErrorReport.{ErrorReport}
 
 -- names
 
@@ -51,6 +53,21 @@ ChannelConfigured configuration (Some channel) = IsTrue (has_channel configurati
 abbrev pub KeepsSkew : ℕ → ℕ → List CoreState → Type 0
 KeepsSkew time skew [] = Unit {0}
 KeepsSkew time skew (state ∷ states) = (time ≤ state.time + skew) × KeepsSkew time skew states
+
+-- deadlines
+
+-- no process of a partition that runs on this core has missed its deadline, by the time of the core
+abbrev pub NoneMissed : List CoreState → ℕ → Partition → Type 0
+NoneMissed cores core partition = IsFalse (some_missed core (time_of cores core) partition.table)
+
+-- the same of the partition of this number, if there is one
+abbrev pub NoneMissedIn : Option ℕ → State → ℕ → Type 0
+NoneMissedIn None state core = Unit {0}
+NoneMissedIn (Some number) state core = NoneMissed state.cores core (state.partitions number)
+
+-- in the window of the core, no process of the window's partition that runs on the core has missed its deadline
+abbrev pub MissesNone : Configuration → State → ℕ → Type 0
+MissesNone configuration state core = NoneMissedIn (window_at configuration core (time_of state.cores core)) state core
 
 -- calls and returns
 
@@ -136,38 +153,42 @@ IsTaken answer message = (answer.out ≡ out.Answer code.NoError) × (answer.byt
 
 -- lawful records
 
--- a dispatch names the choice
+-- a dispatch names the choice, while the core misses no deadline
 pub record IsLawfulDispatch (configuration : Configuration) (state : State) (core : ℕ) (who : Option Who) : Type 0 where
   pub names : OneConfigured configuration who
+  pub deadlines : MissesNone configuration state core
   pub choice : choice configuration state core ≡ who
 
--- a tick keeps the skew, finds the choice as the occupant, and names exactly the processes that fall due
+-- a tick keeps the skew, finds no missed deadline and the choice as the occupant, and names exactly the processes that fall due
 pub record IsLawfulTick (configuration : Configuration) (state : State) (core : ℕ) (woken : List Who) : Type 0 where
   pub names : AllConfigured configuration woken
   pub skew : KeepsSkew (time_of state.cores core + 1) configuration.skew state.cores
+  pub deadlines : MissesNone configuration state core
   pub choice : choice configuration state core ≡ occupant_of state.cores core
   pub due : (partition : ℕ) → IsTrue (has_partition configuration partition)
       → NamesThoseDue partition core (time_of state.cores core + 1) (state.partitions partition).table woken
 
--- a call comes from the occupant, which is the choice and to which no outcome is due; it claims its current priority and
--- an outcome that the service can have
+-- a call comes from the occupant, which is the choice and to which no outcome is due, while the core misses no deadline; it claims its
+-- current priority and an outcome that the service can have
 pub record IsLawfulCall (configuration : Configuration) (state : State) (core : ℕ) (call : CallRecord) : Type 0 where
   pub names : IsTrue (has_partition configuration call.who.part) × AllConfigured configuration call.claim.woken × ChannelConfigured configuration call.claim.chan
+  pub deadlines : MissesNone configuration state core
   pub occupant : occupant_of state.cores core ≡ Some call.who
   pub choice : choice configuration state core ≡ Some call.who
   pub due : HasNoneDue (item_at (state.partitions call.who.part).table call.who.proc)
-  pub profile : IsWithinProfile (conditions_of configuration call.who (state.partitions call.who.part) call.request)
+  pub profile : IsWithinProfile (conditions_of configuration (time_of state.cores core) call.who (state.partitions call.who.part) call.request)
       call.who (state.partitions call.who.part) call.request
   pub prio : HasPriority call.claim.prio (item_at (state.partitions call.who.part).table call.who.proc)
-  pub outcome : HasOutcome (conditions_of configuration call.who (state.partitions call.who.part) call.request)
+  pub outcome : HasOutcome (conditions_of configuration (time_of state.cores core) call.who (state.partitions call.who.part) call.request)
       (channel_of (state.partitions call.who.part) call.request)
       (answer_of state.cores core call.who (state.partitions call.who.part) call.request)
       (λ number. suits_use configuration number call.who.part (use_of call.request) (state.channels number))
       (channel_answer configuration (time_of state.cores core) call.who.part call.request state.channels) call.claim
 
--- a return comes from the occupant, which is the choice, and gives back the outcome that is due
+-- a return comes from the occupant, which is the choice, while the core misses no deadline, and gives back the outcome that is due
 pub record IsLawfulReturn (configuration : Configuration) (state : State) (core : ℕ) (ret : Return) : Type 0 where
   pub names : IsTrue (has_partition configuration ret.who.part)
+  pub deadlines : MissesNone configuration state core
   pub occupant : occupant_of state.cores core ≡ Some ret.who
   pub choice : choice configuration state core ≡ Some ret.who
   pub due : due_of (item_at (state.partitions ret.who.part).table ret.who.proc) ≡ Some (outcome_returned ret)
@@ -187,6 +208,13 @@ pub record IsLawfulDeparture (configuration : Configuration) (state : State) (co
   pub message : IsTaken (departed configuration (time_of state.cores core) crossing.chan (state.channels crossing.chan)).answer crossing.message
   pub woken : NamesExactly (departed configuration (time_of state.cores core) crossing.chan (state.channels crossing.chan)).answer.woken crossing.woken
 
+-- a missed deadline is reported in a window of the process's partition, on the core on which the process runs; it restarts no partition
+pub record IsLawfulError (configuration : Configuration) (state : State) (core : ℕ) (report : ErrorReport) : Type 0 where
+  pub names : IsTrue (has_partition configuration report.who.part)
+  pub window : window_at configuration core (time_of state.cores core) ≡ Some report.who.part
+  pub missed : IsTrue (is_missed core (time_of state.cores core) (item_at (state.partitions report.who.part).table report.who.proc))
+  pub goes_on : IsFalse report.restarts
+
 -- what a record of each kind claims is true
 abbrev pub IsLawfulBody : Configuration → State → ℕ → Body → Type 0
 IsLawfulBody configuration state core (Disp who) = IsLawfulDispatch configuration state core who
@@ -195,6 +223,7 @@ IsLawfulBody configuration state core (Call call) = IsLawfulCall configuration s
 IsLawfulBody configuration state core (Ret ret) = IsLawfulReturn configuration state core ret
 IsLawfulBody configuration state core (Arrive crossing) = IsLawfulArrival configuration state core crossing
 IsLawfulBody configuration state core (Depart crossing) = IsLawfulDeparture configuration state core crossing
+IsLawfulBody configuration state core (Error report) = IsLawfulError configuration state core report
 
 -- a record is lawful in a state if it is at the next place and what it claims is true
 pub record IsLawful (configuration : Configuration) (state : State) (ordered : Ordered) : Type 0 where

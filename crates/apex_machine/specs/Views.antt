@@ -1,7 +1,7 @@
 -- The view of a record: the numbers that a user's relation can speak of. The piece that judges the record reads the view from its part.
-use Rattle.std.specs.Prelude.{ℕ, ◌+◌, ◌-◌, List, [], ◌∷◌, length, Option, Some, None, ℤ, pos, negsuc, nat_eq, if◌then◌else◌}
+use Rattle.std.specs.Prelude.{ℕ, ◌+◌, ◌-◌, List, [], ◌∷◌, length, Option, Some, None, Bool, true, false, ℤ, pos, negsuc, nat_eq, if◌then◌else◌}
 use Rattle.apex_types.specs.declared.record.Body.{Body}
-use Rattle.apex_types.specs.declared.record.Body.TheVariants.{Arrive, Call, Depart, Ret, Disp, Tick}
+use Rattle.apex_types.specs.declared.record.Body.TheVariants.{Arrive, Call, Depart, Ret, Disp, Tick, Error}
 use Rattle.apex_types.specs.declared.record.Call.{Call as CallRecord}
 use Rattle.apex_types.specs.declared.record.Ordered.{Ordered}
 use Rattle.apex_types.specs.declared.record.Return.{Return}
@@ -10,12 +10,14 @@ use Rattle.apex_types.specs.declared.view.View.{View}
 use Rattle.apex_types.specs.Numbers.{code_number, out_number}
 use Rattle.apex_types.specs.Services.{service_number}
 use Rattle.apex_types.specs.Requested.{service_of}
+use Rattle.apex_types.specs.declared.record.Out.TheVariants as out
 use Rattle.apex_machine.specs.declared.state.CoreState.{CoreState}
 use Rattle.apex_machine.specs.declared.state.Process.{Process}
 use Rattle.apex_machine.specs.Pieces.{ChannelPart, Module, ModulePart, OfPartition, Part, PartitionPart, Piece}
 use Rattle.apex_machine.specs.Configuration.{Configuration}
 use Rattle.apex_machine.specs.State.{State, Table, item_at, time_of}
 use Rattle.apex_machine.specs.Step.{Run}
+use Rattle.apex_types.specs.declared.record.ErrorReport.{ErrorReport}
 
 -- a field that the record does not have
 abbrev pub absent : ℤ
@@ -89,6 +91,15 @@ core_view kind core time who woken = record {
   woken = pos woken;
 }
 
+-- the outcome of an error, as a field: that of a call that does not return, if the error restarts its partition
+abbrev pub restart_field : Bool → ℤ
+restart_field true = pos (out_number out.Never)
+restart_field false = absent
+
+-- the view of an error, at this time of its core
+abbrev pub error_view : ℕ → ℕ → ErrorReport → View
+error_view core now report = record (core_view 6 core now (Some report.who) 0) { out = restart_field report.restarts }
+
 -- the view of a record in a run of the machine, read from the state before the record
 abbrev pub view_by : State → ℕ → Body → View
 view_by state core (Call call) = call_view core (time_of state.cores core) call
@@ -98,6 +109,7 @@ view_by state core (Disp who) = core_view 2 core (time_of state.cores core) who 
 view_by state core (Tick woken) = core_view 3 core (time_of state.cores core + 1) None (length woken)
 view_by state core (Arrive crossing) = core_view 4 core (time_of state.cores core) None (length crossing.woken)
 view_by state core (Depart crossing) = core_view 5 core (time_of state.cores core) None (length crossing.woken)
+view_by state core (Error report) = error_view core (time_of state.cores core) report
 
 -- the view of an ordered record in a run of the machine
 abbrev pub view_of : State → Ordered → View
@@ -116,12 +128,13 @@ partition_view number cores table core (Ret ret) =
     if nat_eq ret.who.part number then Some (return_view core (time_of cores core) (item_at table ret.who.proc) ret) else None
 partition_view number cores table core _ = None
 
--- the view that the module gives of each dispatch, tick, arrival and departure
+-- the view that the module gives of each dispatch, tick, arrival, departure and error
 abbrev pub module_view : List CoreState → ℕ → Body → Option View
 module_view cores core (Disp who) = Some (core_view 2 core (time_of cores core) who 0)
 module_view cores core (Tick woken) = Some (core_view 3 core (time_of cores core + 1) None (length woken))
 module_view cores core (Arrive crossing) = Some (core_view 4 core (time_of cores core) None (length crossing.woken))
 module_view cores core (Depart crossing) = Some (core_view 5 core (time_of cores core) None (length crossing.woken))
+module_view cores core (Error report) = Some (error_view core (time_of cores core) report)
 module_view cores core _ = None
 
 -- the view that the holder of a part gives of a record, from the part before it
@@ -138,6 +151,7 @@ judge_by (Disp who) = Module
 judge_by (Tick woken) = Module
 judge_by (Arrive crossing) = Module
 judge_by (Depart crossing) = Module
+judge_by (Error report) = Module
 
 -- the piece that judges an ordered record
 abbrev pub judge : Ordered → Piece

@@ -7,7 +7,7 @@ use Rattle.apex_types.specs.declared.object_kind.KindServices.{KindServices}
 use Rattle.apex_types.specs.declared.object_kind.ObjectKind.{ObjectKind}
 use Rattle.apex_types.specs.declared.object_kind.ObjectKind.TheVariants as kind
 use Rattle.apex_types.specs.declared.record.Body.{Body}
-use Rattle.apex_types.specs.declared.record.Body.TheVariants.{Arrive, Call, Depart, Ret, Disp, Tick}
+use Rattle.apex_types.specs.declared.record.Body.TheVariants.{Arrive, Call, Depart, Ret, Disp, Tick, Error}
 use Rattle.apex_types.specs.declared.record.Call.{Call as CallRecord}
 use Rattle.apex_types.specs.declared.record.Out.{Out}
 use Rattle.apex_types.specs.declared.record.Out.TheVariants as out
@@ -181,13 +181,15 @@ restarts call number = is_some (restart_of call) && nat_eq number call.who.part
 abbrev pub ends_wait : CallRecord → Who → Bool
 ends_wait call who = restarts call who.part || (is_named who call.claim.woken || stops call who)
 
--- a waiting set after a record: a process whose wait ends leaves it, and a caller that waits in it enters it
+-- a waiting set after a record: a process whose wait ends leaves it, and a caller that waits in it enters it; if an error restarts a
+-- partition, the partition's processes leave it
 abbrev pub set_after : ℕ → Body → WaitingSet → List Entry → List Entry
 set_after place (Disp who) wanted entries = entries
 set_after place (Ret ret) wanted entries = entries
 set_after place (Tick woken) wanted entries = without (λ who. is_named who woken) entries
 set_after place (Arrive crossing) wanted entries = without (λ who. is_named who crossing.woken) entries
 set_after place (Depart crossing) wanted entries = without (λ who. is_named who crossing.woken) entries
+set_after place (Error report) wanted entries = if report.restarts then without (λ who. nat_eq who.part report.who.part) entries else entries
 set_after place (Call call) wanted entries =
     if enters call wanted
     then without (ends_wait call) entries ++ entry_of place call ∷ []

@@ -62,6 +62,8 @@ pub enum Condition {
     NotLockOwner,
     OwnsLock,
     ProcessOwnsLock,
+    BudgetOutOfRange,
+    BudgetAboveRelease,
 }
 
 // What is known about a condition.
@@ -84,7 +86,7 @@ macro_rules! row {
 }
 
 // The conditions, in the order of the enum.
-const CONDITIONS: [ConditionRow; 53] = [
+const CONDITIONS: [ConditionRow; 55] = [
     row!(NotCreated => InvalidParam, "nothing of this kind has this number"),
     row!(TimeOutOutOfRange => InvalidParam, "the time-out is below -1"),
     row!(MayNotWait => InvalidMode, "the caller is the initialising process or the owner of a mutex or the lock, which may not wait"),
@@ -138,6 +140,8 @@ const CONDITIONS: [ConditionRow; 53] = [
     row!(NotLockOwner => NoAction, "the caller does not own the lock"),
     row!(OwnsLock => InvalidMode, "the caller owns the lock"),
     row!(ProcessOwnsLock => InvalidMode, "the process owns the lock"),
+    row!(BudgetOutOfRange => InvalidParam, "the budget is neither -1 nor above 0"),
+    row!(BudgetAboveRelease => InvalidMode, "the caller is periodic, and the budget does not end by its next release"),
 ];
 
 impl Condition {

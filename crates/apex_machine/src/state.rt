@@ -136,8 +136,10 @@ pub struct Process {
     pub affinity: CoreId,
     /// None if it is aperiodic.
     pub period: Option<u64>,
-    /// None if it has no deadlines.
+    /// None if it has no deadlines but those that its budgets set.
     pub time_capacity: Option<u64>,
+    /// The time of its core at which it has missed its deadline, in ticks. None if it has no deadline now.
+    pub deadline: Option<u64>,
     /// The release for which it last waited, or which it last found reached.
     pub last_release: u64,
     /// False if it is dormant.

@@ -87,3 +87,4 @@ request_of service.ReportApplicationMessage n1 n2 n3 name message = request.Repo
 request_of service.CreateErrorHandler n1 n2 n3 name message = request.CreateErrorHandler
 request_of service.LockPreemption n1 n2 n3 name message = request.Preemption LockOperation.Lock
 request_of service.UnlockPreemption n1 n2 n3 name message = request.Preemption LockOperation.Unlock
+request_of service.Replenish n1 n2 n3 name message = request.Caller (CallerOperation.Replenish n1)

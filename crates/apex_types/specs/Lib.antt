@@ -4,6 +4,7 @@ pub mod Requested
 pub mod Shapes
 pub mod Arguments
 pub mod CodeName
+pub mod ErrorName
 pub mod Rising
 pub mod Numbers
 pub mod Fields

@@ -101,6 +101,7 @@ caller_service (CallerOperation.TimedWait delay) = service.TimedWait
 caller_service CallerOperation.PeriodicWait = service.PeriodicWait
 caller_service CallerOperation.GetTime = service.GetTime
 caller_service CallerOperation.GetPartitionStatus = service.GetPartitionStatus
+caller_service (CallerOperation.Replenish budget) = service.Replenish
 
 -- the service that requests this operation of a sampling port
 abbrev pub sampling_service : SamplingOperation → Service

@@ -11,6 +11,8 @@ pub enum Cause {
     Idle,
     /// The window of the core is another partition's.
     Window,
+    /// A process of the core has missed its deadline, which is not reported; or a deadline is reported that is not missed.
+    Deadline,
     /// The process is not the choice of its core, or not its occupant.
     Choice,
     /// An outcome is due and not returned, or is returned and not due.

@@ -12,6 +12,7 @@
 mod cause;
 mod code;
 mod discipline;
+mod error;
 mod format;
 mod laws;
 pub mod limits;
@@ -28,6 +29,7 @@ mod view;
 pub use cause::Cause;
 pub use code::Code;
 pub use discipline::Discipline;
+pub use error::ErrorCode;
 pub use format::Format;
 pub use laws::direction_and_discipline_are_one_number;
 pub use number::{ChanId, CoreId, PartId, Place, ProcId};
@@ -37,7 +39,9 @@ pub use operation::{
     MutexOperation, NewObject, ObjectOperation, ProcessOperation, QueuingOperation,
     SamplingOperation, SemaphoreOperation,
 };
-pub use record::{Body, Call, Claim, Crossing, Ordered, Out, Pair, Record, Return, Who, Woken};
+pub use record::{
+    Body, Call, Claim, Crossing, ErrorReport, Ordered, Out, Pair, Record, Return, Who, Woken,
+};
 pub use request::{ArgumentValues, Request};
 pub use service::{Arguments, Numbers, Presence, SERVICES, Service, ServiceRow};
 pub use shape::{AllowedWait, End, Shape};

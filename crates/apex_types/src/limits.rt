@@ -36,6 +36,9 @@ pub const GREATEST_LOCK_LEVEL: u8 = 16;
 /// The greatest maximum of a semaphore.
 pub const GREATEST_MAXIMUM: u32 = 32_767;
 
+/// The latest deadline of a process: the greatest number that a status can report.
+pub const LATEST_DEADLINE: u64 = 9_223_372_036_854_775_807;
+
 // Configurations.
 
 /// A configuration file has at most this many bytes.

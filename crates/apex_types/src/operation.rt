@@ -39,6 +39,8 @@ pub enum CallerOperation {
     GetTime,
     /// GET_PARTITION_STATUS
     GetPartitionStatus,
+    /// REPLENISH, with the budget in ticks.
+    Replenish { budget: i64 },
 }
 
 /// An object or port to be created, with the parameters that its caller gives. SOURCE is 0 and DESTINATION is 1; FIFO is 0 and PRIORITY is
@@ -195,6 +197,7 @@ impl CallerOperation {
             CallerOperation::PeriodicWait => Service::PeriodicWait,
             CallerOperation::GetTime => Service::GetTime,
             CallerOperation::GetPartitionStatus => Service::GetPartitionStatus,
+            CallerOperation::Replenish { .. } => Service::Replenish,
         }
     }
 }

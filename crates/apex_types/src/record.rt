@@ -5,6 +5,7 @@ ghost use Rattle.apex_types.specs.Numbers.{out_number};
 ghost use Rattle.apex_types.specs.Rising.{IsRising};
 
 use crate::code::Code;
+use crate::error::ErrorCode;
 use crate::number::{ChanId, CoreId, PartId, Place, ProcId};
 use crate::request::Request;
 use crate::service::Service;
@@ -130,6 +131,14 @@ pub struct Crossing {
     pub woken: Woken,
 }
 
+/// An error of a process, and whether it restarts the process's partition.
+#[derive(Clone, Copy, Debug, PartialEq, Eq)]
+pub struct ErrorReport {
+    pub who: Who,
+    pub error: ErrorCode,
+    pub restarts: bool,
+}
+
 /// What happened on a core.
 #[derive(Debug, Drop)]
 pub enum Body {
@@ -143,6 +152,8 @@ pub enum Body {
     Arrive(Crossing),
     /// A message departs from a queuing channel whose destination is outside.
     Depart(Crossing),
+    /// An error of a process is reported.
+    Error(ErrorReport),
 }
 
 /// A record of a core's recording, with its number there.

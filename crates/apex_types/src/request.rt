@@ -214,6 +214,7 @@ impl Request {
             Service::CreateErrorHandler => Request::CreateErrorHandler,
             Service::LockPreemption => Request::Preemption(LockOperation::Lock),
             Service::UnlockPreemption => Request::Preemption(LockOperation::Unlock),
+            Service::Replenish => Request::Caller(CallerOperation::Replenish { budget: n1 }),
         }
     }
 

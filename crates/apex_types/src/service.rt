@@ -70,6 +70,7 @@ pub enum Service {
     CreateErrorHandler,
     LockPreemption,
     UnlockPreemption,
+    Replenish,
 }
 
 /// Whether a call of a service fills a field.
@@ -176,7 +177,7 @@ macro_rules! row {
 }
 
 /// The services, in the order of the enum. Views and rules identify a service by its place here, counted from 1.
-pub const SERVICES: [ServiceRow<&'static [u8]>; 62] = [
+pub const SERVICES: [ServiceRow<&'static [u8]>; 63] = [
     row!(CreateProcess => b"CREATE_PROCESS", TWO_OR_THREE, NAME, One),
     row!(InitializeProcessCoreAffinity => b"INITIALIZE_PROCESS_CORE_AFFINITY", TWO, NOTHING, One),
     row!(Start => b"START", ONE, NOTHING, One),
@@ -239,6 +240,7 @@ pub const SERVICES: [ServiceRow<&'static [u8]>; 62] = [
     row!(CreateErrorHandler => b"CREATE_ERROR_HANDLER", ZERO, NOTHING, Three),
     row!(LockPreemption => b"LOCK_PREEMPTION", ZERO, NOTHING, Three),
     row!(UnlockPreemption => b"UNLOCK_PREEMPTION", ZERO, NOTHING, Three),
+    row!(Replenish => b"REPLENISH", ONE, NOTHING, Three),
 ];
 
 impl Service {

@@ -6,13 +6,13 @@ ghost use Rattle.apex_types.specs.Fields.{field_of};
 /// A field of a view.
 #[derive(Clone, Copy, Debug, PartialEq, Eq)]
 pub enum Field {
-    /// The kind of the record: 0 a call, 1 a return, 2 a dispatch, 3 a tick, 4 an arrival, 5 a departure.
+    /// The kind of the record: 0 a call, 1 a return, 2 a dispatch, 3 a tick, 4 an arrival, 5 a departure, 6 an error.
     Kind,
     /// The core of the record.
     Core,
     /// The time of that core after the record, in ticks.
     Time,
-    /// The partition of the process that calls, returns or is dispatched.
+    /// The partition of the process that calls, returns, is dispatched or has the error.
     Part,
     /// The number of that process in its partition.
     Proc,
@@ -20,7 +20,8 @@ pub enum Field {
     Service,
     /// The current priority of that process: the claimed one at a call.
     Prio,
-    /// The outcome: 0 to 6 for the codes in their order, 7 for a call that waits, 8 for one that does not return.
+    /// The outcome: 0 to 6 for the codes in their order, 7 for a call that waits, 8 for one that does not return and for an error that
+    /// restarts its partition.
     Out,
     /// The value that goes with the outcome.
     Val,

@@ -326,6 +326,7 @@ fn name_of_kind(kind: Kind) -> &'static str {
         Kind::Tick => "tick",
         Kind::Arrive => "arrive",
         Kind::Depart => "depart",
+        Kind::Error => "err",
     }
 }
 

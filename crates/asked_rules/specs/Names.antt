@@ -28,6 +28,7 @@ kind_number kind.Disp = 2
 kind_number kind.Tick = 3
 kind_number kind.Arrive = 4
 kind_number kind.Depart = 5
+kind_number kind.Error = 6
 
 -- the number that a name means in a field: kinds, services and outcomes have the names that they have in recordings
 abbrev pub number_named : Field → List ℕ → Option ℤ

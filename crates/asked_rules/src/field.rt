@@ -88,5 +88,6 @@ fn kind_number(kind: Kind) -> i64
         Kind::Tick => 3,
         Kind::Arrive => 4,
         Kind::Depart => 5,
+        Kind::Error => 6,
     }
 }

@@ -33,8 +33,8 @@ fn choice_rule(refusing: &Refusing<'_>, choice: &Option<Who>) -> &'static str {
     }
 }
 
-// Reports that a core is in a window of the partition.
-fn tell_own_window(words: &mut Words, refusal: &Refusal<'_>, part: PartId) {
+/// Reports that a core is in a window of the partition.
+pub fn tell_own_window(words: &mut Words, refusal: &Refusal<'_>, part: PartId) {
     words.next_line();
     words.say(format_args!(
         "core {} is in a window of partition {}: ",
@@ -82,7 +82,7 @@ fn tell_named(
 ) {
     match &refusal.ordered.rec.body {
         Body::Disp(Some(who)) => tell_dispatched(words, refusing, refusal.core(), who),
-        Body::Disp(None) | Body::Arrive(_) | Body::Depart(_) => {}
+        Body::Disp(None) | Body::Arrive(_) | Body::Depart(_) | Body::Error(_) => {}
         Body::Tick(_) => tell_occupant(words, refusal, refusing, occupant),
         Body::Call(call) => tell_actor(words, refusal, refusing, occupant, &call.who),
         Body::Ret(ret) => tell_actor(words, refusal, refusing, occupant, &ret.who),

@@ -27,6 +27,7 @@ impl ClaimField {
             | Cause::Skew
             | Cause::Idle
             | Cause::Window
+            | Cause::Deadline
             | Cause::Choice
             | Cause::Return
             | Cause::OutsideProfile

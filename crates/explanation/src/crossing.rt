@@ -15,7 +15,7 @@ const END: &str =
 pub fn crossing_of<'a>(refusal: &Refusal<'a>) -> Option<&'a Crossing> {
     match &refusal.ordered.rec.body {
         Body::Arrive(crossing) | Body::Depart(crossing) => Some(crossing),
-        Body::Call(_) | Body::Ret(_) | Body::Disp(_) | Body::Tick(_) => None,
+        Body::Call(_) | Body::Ret(_) | Body::Disp(_) | Body::Tick(_) | Body::Error(_) => None,
     }
 }
 
@@ -24,9 +24,12 @@ pub fn tell_inside(words: &mut Words, refusal: &Refusal<'_>) {
     words.next_line();
     words.say(match &refusal.ordered.rec.body {
         Body::Depart(_) => "no queuing channel of this number has a destination outside the module",
-        Body::Call(_) | Body::Ret(_) | Body::Disp(_) | Body::Tick(_) | Body::Arrive(_) => {
-            "the source of the channel is a port of a partition"
-        }
+        Body::Call(_)
+        | Body::Ret(_)
+        | Body::Disp(_)
+        | Body::Tick(_)
+        | Body::Arrive(_)
+        | Body::Error(_) => { "the source of the channel is a port of a partition" }
     });
     words.rule(END);
 }

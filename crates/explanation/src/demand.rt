@@ -15,13 +15,16 @@ pub fn tell_demand(words: &mut Words, subject: Subject, body: &Body, cause: Caus
             words.say("a tick must leave its core at most the skew ahead of every other core");
         }
         Cause::Idle => tell_idle(words, body),
-        Cause::Window => words.say("a call or a return must be in a window of its own partition"),
+        Cause::Window => words.say(
+            "a call, a return or an error must be in a window of its own partition",
+        ),
+        Cause::Deadline => tell_deadline(words, body),
         Cause::Choice => tell_choice(words, subject, body),
         Cause::Return => tell_return(words, body),
         Cause::OutsideProfile => words.say("this use of the service is outside the profile"),
         Cause::Prio => words.say("a call must show the current priority of its caller"),
         Cause::Chan => tell_channel(words, body),
-        Cause::Out => words.say("the outcome must be the one that the rules give"),
+        Cause::Out => tell_outcome(words, body),
         Cause::Val => words.say("the value must be the one that belongs to the outcome"),
         Cause::Data => tell_message(words, body),
         Cause::Woken => words.say("a record must name exactly the processes whose waits it ends"),
@@ -35,7 +38,39 @@ fn tell_idle(words: &mut Words, body: &Body) {
         ),
         Body::Disp(_) => words.say("outside every window, a dispatch must name no process"),
         Body::Tick(_) => words.say("outside every window, a core must be idle when it ticks"),
-        Body::Arrive(_) | Body::Depart(_) => {}
+        Body::Arrive(_) | Body::Depart(_) | Body::Error(_) => {}
+    }
+}
+
+fn tell_deadline(words: &mut Words, body: &Body) {
+    match body {
+        Body::Error(_) => {
+            words.say(
+                "an error of a missed deadline must be on the core of a process that has missed its deadline",
+            );
+        }
+        Body::Call(_)
+        | Body::Ret(_)
+        | Body::Disp(_)
+        | Body::Tick(_)
+        | Body::Arrive(_)
+        | Body::Depart(_) => {
+            words.say(
+                "a missed deadline must be reported before anything else happens on its core in a window of its partition",
+            );
+        }
+    }
+}
+
+fn tell_outcome(words: &mut Words, body: &Body) {
+    match body {
+        Body::Error(_) => words.say("the error must not restart its partition"),
+        Body::Call(_)
+        | Body::Ret(_)
+        | Body::Disp(_)
+        | Body::Tick(_)
+        | Body::Arrive(_)
+        | Body::Depart(_) => words.say("the outcome must be the one that the rules give"),
     }
 }
 
@@ -45,7 +80,7 @@ fn tell_channel(words: &mut Words, body: &Body) {
         Body::Depart(_) => words.say(
             "a message must depart from a queuing channel whose destination is outside",
         ),
-        Body::Call(_) | Body::Ret(_) | Body::Disp(_) | Body::Tick(_) => words.say(
+        Body::Call(_) | Body::Ret(_) | Body::Disp(_) | Body::Tick(_) | Body::Error(_) => words.say(
             "a call must name the channel of its port, or none if an error condition holds or it uses no port",
         ),
     }
@@ -59,7 +94,7 @@ fn tell_message(words: &mut Words, body: &Body) {
         Body::Depart(_) => {
             words.say("a message that departs must be the oldest of the channel");
         }
-        Body::Call(_) | Body::Ret(_) | Body::Disp(_) | Body::Tick(_) => {
+        Body::Call(_) | Body::Ret(_) | Body::Disp(_) | Body::Tick(_) | Body::Error(_) => {
             words.say("the message must be the one that belongs to the outcome");
         }
     }
@@ -80,7 +115,7 @@ fn tell_choice(words: &mut Words, subject: Subject, body: &Body) {
                 "a process that calls or returns must be the occupant of its core, and the choice",
             );
         }
-        Body::Arrive(_) | Body::Depart(_) => {}
+        Body::Arrive(_) | Body::Depart(_) | Body::Error(_) => {}
     }
 }
 
@@ -90,6 +125,6 @@ fn tell_return(words: &mut Words, body: &Body) {
         Body::Call(_) => {
             words.say("a process must return from its last call before it makes another");
         }
-        Body::Disp(_) | Body::Tick(_) | Body::Arrive(_) | Body::Depart(_) => {}
+        Body::Disp(_) | Body::Tick(_) | Body::Arrive(_) | Body::Depart(_) | Body::Error(_) => {}
     }
 }

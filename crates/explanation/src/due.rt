@@ -47,7 +47,7 @@ pub fn tell_named(words: &mut Words, refusal: &Refusal<'_>) {
             );
             words.rule(CROSSING);
         }
-        Body::Ret(_) | Body::Disp(_) => {}
+        Body::Ret(_) | Body::Disp(_) | Body::Error(_) => {}
     }
 }
 

@@ -3,6 +3,7 @@
 use crate::choice::tell_choice;
 use crate::claim::{tell_answer, tell_new_number, tell_refused_outcome, tell_through};
 use crate::crossing::{crossing_of, tell_crossing, tell_inside, tell_size};
+use crate::deadline::{tell_absent, tell_deadline, tell_missed};
 use crate::due::tell_named;
 use crate::module::{tell_left_back, tell_unknown_channel, tell_unknown_partition, tell_window};
 use crate::outside::{tell_initialising, tell_mutex_owner, tell_mutex_waiter};
@@ -16,12 +17,16 @@ use wording::Words;
 /// Reports what shows that the demand fails.
 pub fn tell_evidence(words: &mut Words, refusal: &Refusal<'_>, evidence: &Evidence<'_>) {
     match evidence {
-        Evidence::Nothing => {}
+        Evidence::Nothing => tell_absent(words, refusal),
         Evidence::UnknownPartition(number) => tell_unknown_partition(words, *number),
         Evidence::UnknownChannel(number) => tell_unknown_channel(words, *number),
         Evidence::LeftBack(core) => tell_left_back(words, refusal, *core),
         Evidence::Window { owner, occupant } => tell_window(words, refusal, *owner, *occupant),
         Evidence::Choice { choice, occupant } => tell_choice(words, refusal, choice, occupant),
+        Evidence::Missed { who, deadline } => tell_missed(words, refusal, who, *deadline),
+        Evidence::Deadline { affinity, deadline } => {
+            tell_deadline(words, refusal, *affinity, *deadline);
+        }
         Evidence::Waits => tell_waits(words),
         Evidence::Pending(outcome) => tell_pending(words, refusal, outcome),
         Evidence::NothingPending => tell_nothing_pending(words, refusal),

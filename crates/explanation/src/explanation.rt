@@ -112,7 +112,10 @@ fn tell_refusal(words: &mut Words, refusal: &Refusal<'_>) {
 
 // Whether the process that calls or returns is reported with the evidence.
 fn shows_actor(evidence: &Evidence<'_>) -> bool {
-    matches!(evidence, Evidence::Choice { .. } | Evidence::NothingPending)
+    matches!(
+        evidence,
+        Evidence::Choice { .. } | Evidence::Missed { .. } | Evidence::NothingPending
+    )
 }
 
 // Reports which piece rejects a record.

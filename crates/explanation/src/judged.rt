@@ -2,7 +2,7 @@
 
 use crate::held::{tell_lock, tell_object};
 use crate::processes::{peer_of, tell_numbered};
-use apex_machine::{Mode, StartCondition};
+use apex_machine::{Mode, Process, StartCondition};
 use apex_types::{
     Call, CallerOperation, NamedKind, ObjectKind, ProcId, ProcessOperation, Request, Who,
 };
@@ -141,6 +141,11 @@ fn tell_own(
                 words.say(format_args!(", and the time is {now}"));
             }
         }
+        CallerOperation::Replenish { .. } => {
+            if let Some(process) = state.processes().proc(caller) {
+                tell_next_release(words, process, now);
+            }
+        }
         CallerOperation::GetTime => {
             words.next_line();
             words.say(format_args!("the time of its core is {now}"));
@@ -167,5 +172,17 @@ fn tell_own(
         CallerOperation::SuspendSelf { .. }
         | CallerOperation::GetMyId
         | CallerOperation::TimedWait { .. } => {}
+    }
+}
+
+// Reports the next release of a process, if it is periodic, and the time of its core.
+fn tell_next_release(words: &mut Words, process: &Process, now: u64) {
+    words.next_line();
+    words.say(format_args!("the time of its core is {now}"));
+    if let Some(period) = process.period {
+        words.say(format_args!(
+            ", and its next release is {period} after its last one, which was at {}",
+            process.last_release
+        ));
     }
 }

@@ -23,6 +23,7 @@ mod claim;
 mod claimed;
 mod conditions;
 mod crossing;
+mod deadline;
 mod demand;
 mod due;
 mod ended;

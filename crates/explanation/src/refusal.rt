@@ -62,8 +62,12 @@ impl<'a> Refusal<'a> {
     pub fn call(&self) -> Option<&'a Call> {
         match &self.ordered.rec.body {
             Body::Call(call) => Some(call),
-            Body::Ret(_) | Body::Disp(_) | Body::Tick(_) | Body::Arrive(_) | Body::Depart(_) =>
-                None,
+            Body::Ret(_)
+            | Body::Disp(_)
+            | Body::Tick(_)
+            | Body::Arrive(_)
+            | Body::Depart(_)
+            | Body::Error(_) => None,
         }
     }
 
@@ -72,15 +76,16 @@ impl<'a> Refusal<'a> {
         match &self.ordered.rec.body {
             Body::Disp(who) => *who,
             Body::Call(_) | Body::Ret(_) => self.actor(),
-            Body::Tick(_) | Body::Arrive(_) | Body::Depart(_) => None,
+            Body::Tick(_) | Body::Arrive(_) | Body::Depart(_) | Body::Error(_) => None,
         }
     }
 
-    /// The process that calls or returns; None for any other record.
+    /// The process that calls or returns, or that has the error; None for any other record.
     pub fn actor(&self) -> Option<Who> {
         match &self.ordered.rec.body {
             Body::Call(call) => Some(call.who),
             Body::Ret(ret) => Some(ret.who),
+            Body::Error(report) => Some(report.who),
             Body::Disp(_) | Body::Tick(_) | Body::Arrive(_) | Body::Depart(_) => None,
         }
     }

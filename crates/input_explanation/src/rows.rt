@@ -73,11 +73,12 @@ fn tell_expected(words: &mut Words, fault: RowFault, column: Column, row: Row<'_
         ),
         RowFault::BadHex => expect(words, "hexadecimal digits, two for each byte"),
         RowFault::BadLength => expect_length(words, column, row.fields),
-        RowFault::BadOut => expect(words, "the name of a code, or in a call also wait or none"),
+        RowFault::BadOut => expect(words, outcomes_of(text(row.fields, Column::Kind))),
         RowFault::BadWoken => expect(
             words,
             "processes as part:proc in strictly ascending order, separated by semicolons, each proc 1 or more",
         ),
+        RowFault::BadError => expect(words, "DEADLINE_MISSED"),
         // No field has any of these.
         RowFault::Read
         | RowFault::Memory
@@ -87,11 +88,20 @@ fn tell_expected(words: &mut Words, fault: RowFault, column: Column, row: Row<'_
     }
 }
 
+// The outcomes that a row of this kind can have.
+fn outcomes_of(kind: &[u8]) -> &'static str {
+    if kind == b"err".as_slice() {
+        "none, or an empty field"
+    } else {
+        "the name of a code, or in a call also wait or none"
+    }
+}
+
 // The kinds of rows that a format has.
 fn kinds_of(format: Format) -> &'static str {
     match format {
         Format::One | Format::Two => "call, ret, disp or tick",
-        Format::Three => "call, ret, disp, tick, arrive or depart",
+        Format::Three => "call, ret, disp, tick, arrive, depart or err",
     }
 }
 

@@ -20,7 +20,7 @@ fn first_of(alloc: Global, text: &'static str, number: u32) -> Option<Result<Rec
 }
 
 // Each row with its fault and the field that has it; of several faulty fields, the first.
-const MISREADS: [(&'static str, RowFault, Option<Column>); 17] = [
+const MISREADS: [(&'static str, RowFault, Option<Column>); 19] = [
     ("0,tick", RowFault::FieldCount, None),
     ("0,x,32,,,,,,,,,,,,", RowFault::FieldCount, None),
     (
@@ -93,6 +93,16 @@ const MISREADS: [(&'static str, RowFault, Option<Column>); 17] = [
         "0,call,0,1,GET_TIME,,,,,,1,wait,,,,,x,y",
         RowFault::BadNumber,
         Some(Column::SecondValue),
+    ),
+    (
+        "0,err,0,1,,,,,,,,wait,,,,,,,x",
+        RowFault::BadOut,
+        Some(Column::Outcome),
+    ),
+    (
+        "0,err,0,1,,,,,,,,none,,,,,,,x",
+        RowFault::BadError,
+        Some(Column::Error),
     ),
 ];
 

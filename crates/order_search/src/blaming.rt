@@ -58,10 +58,17 @@ fn blame_in_partition(
     if cause == Cause::Choice {
         return blame_choice(piece, part, ordered, things);
     }
+    if cause == Cause::Deadline {
+        return blame_deadline(piece, part, ordered, time, things);
+    }
     match &ordered.rec.body {
         Body::Disp(_) => Ok(()),
         Body::Ret(ret) => {
             things.push(Thing::from(ret.who))?;
+            Ok(())
+        }
+        Body::Error(report) => {
+            things.push(Thing::from(report.who))?;
             Ok(())
         }
         Body::Call(_) | Body::Arrive(_) | Body::Depart(_) => {
@@ -82,7 +89,7 @@ fn blame_use(body: &Body, things: &mut Vec<Thing>) -> Result<(), AllocError> {
             things.push(Thing::from(call.who))?;
             touched_by_call(call, things)
         }
-        Body::Ret(_) | Body::Disp(_) | Body::Tick(_) => Ok(()),
+        Body::Ret(_) | Body::Disp(_) | Body::Tick(_) | Body::Error(_) => Ok(()),
     }
 }
 
@@ -104,6 +111,27 @@ fn blame_choice(
     Ok(())
 }
 
+// Adds the process whose deadline is missed and not reported, or that of the error.
+fn blame_deadline(
+    piece: &Piece,
+    part: PartId,
+    ordered: &Ordered,
+    time: u64,
+    things: &mut Vec<Thing>,
+) -> Result<(), AllocError> {
+    if let Body::Error(report) = &ordered.rec.body {
+        things.push(Thing::from(report.who))?;
+        return Ok(());
+    }
+    let Some(state) = partition_of(piece) else {
+        return Ok(());
+    };
+    if let Some((proc, _)) = state.processes().first_missed(ordered.core, time) {
+        things.push(Thing::from(Who { part, proc: *proc }))?;
+    }
+    Ok(())
+}
+
 /// The process that a record expects to be the choice.
 pub fn expected_by(piece: &Piece, ordered: &Ordered) -> Option<Who> {
     match &ordered.rec.body {
@@ -111,7 +139,7 @@ pub fn expected_by(piece: &Piece, ordered: &Ordered) -> Option<Who> {
         Body::Tick(_) => clock_of(piece)?.on(ordered.core),
         Body::Call(call) => Some(call.who),
         Body::Ret(ret) => Some(ret.who),
-        Body::Arrive(_) | Body::Depart(_) => None,
+        Body::Arrive(_) | Body::Depart(_) | Body::Error(_) => None,
     }
 }
 

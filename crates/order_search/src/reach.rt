@@ -88,6 +88,8 @@ pub fn is_free(reaches: &[Reach], body: &Body) -> bool {
             .as_slice()
             .iter()
             .all(|who| reach_of(reaches, who.part).alone),
+        // A status on another core of the partition can tell which deadline the process has.
+        Body::Error(report) => reach_of(reaches, report.who.part).one_core,
         // Whoever uses the channel can tell.
         Body::Arrive(_) | Body::Depart(_) => false,
         Body::Call(call) => is_free_call(reach_of(reaches, call.who.part), call),
@@ -136,6 +138,10 @@ pub fn touched(body: &Body, into: &mut Vec<Thing>) -> Result<(), AllocError> {
             Ok(())
         }
         Body::Call(call) => touched_by_call(call, into),
+        Body::Error(report) => {
+            into.push(Thing::from(report.who))?;
+            Ok(())
+        }
         Body::Arrive(crossing) | Body::Depart(crossing) => touched_by_crossing(crossing, into),
     }
 }
@@ -226,7 +232,7 @@ fn concerns_lock(request: &Request) -> bool {
     )
 }
 
-// Whether a call changes whether its caller is ready, or what goes before it among the ready processes.
+// Whether a call changes whether its caller is ready, what goes before it among the ready processes, or its deadline.
 fn changes_caller(call: &Call) -> bool {
     if call.claim.out == Out::Waits || call.claim.out == Out::Never {
         return true;
@@ -235,6 +241,7 @@ fn changes_caller(call: &Call) -> bool {
         &call.request,
         Request::Caller(CallerOperation::TimedWait { .. })
             | Request::Caller(CallerOperation::PeriodicWait)
+            | Request::Caller(CallerOperation::Replenish { .. })
             | Request::Object(_, ObjectOperation::Mutex(_))
             | Request::SetPartitionMode(_)
             | Request::Preemption(_)

@@ -17,7 +17,7 @@ use Rattle.apex_machine.specs.ObjectConditions.{message_conditions}
 use Rattle.apex_machine.specs.Ports.{channel_by, channel_of}
 use Rattle.apex_machine.specs.ServiceConditions.{conditions_of}
 use Rattle.apex_machine.specs.Services.{Answer, answer_of}
-use Rattle.apex_machine.specs.State.{Mutex, Partition, Port, created, given_object, item_at}
+use Rattle.apex_machine.specs.State.{Mutex, Partition, Port, created, given_object, item_at, time_of}
 use Rattle.apex_laws.specs.PartLaws.{IsOwnCall}
 use Rattle.apex_laws.proofs.SoundParts.{demands_none, running_is_in_no_set}
 use Rattle.partition_state.specs.Calls.{IsAtWork, IsClear, ReadsAtPort, served_demands}
@@ -50,39 +50,39 @@ has_size : {Object : Type 0} (size : Object → ℕ) (object : Option Object) (l
 has_size size None length e = λ same. cc
 has_size size (Some found) length e = λ same. cc
 
-pub buffer_found : (configuration : Configuration) (who : Who) (partition : Partition) (buffer : ℤ) (operation : BufferOperation)
-    → conditions_of configuration who partition (request.Object buffer (on.Buffer operation)) ≡ [] → given_object partition.buffers buffer ≢ None
-buffer_found configuration who partition buffer (BufferOperation.Send length time_out message) none =
+pub buffer_found : (configuration : Configuration) (now : ℕ) (who : Who) (partition : Partition) (buffer : ℤ) (operation : BufferOperation)
+    → conditions_of configuration now who partition (request.Object buffer (on.Buffer operation)) ≡ [] → given_object partition.buffers buffer ≢ None
+buffer_found configuration now who partition buffer (BufferOperation.Send length time_out message) none =
     has_size _ (given_object partition.buffers buffer) length (nil_left _ (time_out_conditions time_out) (nil_left _ (waiting_conditions who partition time_out) none))
-buffer_found configuration who partition buffer (BufferOperation.Receive time_out) none =
+buffer_found configuration now who partition buffer (BufferOperation.Receive time_out) none =
     is_first (given_object partition.buffers buffer) _ (time_out_conditions time_out) (nil_left _ (waiting_conditions who partition time_out) none)
 
-pub blackboard_found : (configuration : Configuration) (who : Who) (partition : Partition) (blackboard : ℤ) (operation : BlackboardOperation)
-    → conditions_of configuration who partition (request.Object blackboard (on.Blackboard operation)) ≡ [] → given_object partition.blackboards blackboard ≢ None
-blackboard_found configuration who partition blackboard (BlackboardOperation.Display length message) none = has_size _ (given_object partition.blackboards blackboard) length none
-blackboard_found configuration who partition blackboard (BlackboardOperation.Read time_out) none =
+pub blackboard_found : (configuration : Configuration) (now : ℕ) (who : Who) (partition : Partition) (blackboard : ℤ) (operation : BlackboardOperation)
+    → conditions_of configuration now who partition (request.Object blackboard (on.Blackboard operation)) ≡ [] → given_object partition.blackboards blackboard ≢ None
+blackboard_found configuration now who partition blackboard (BlackboardOperation.Display length message) none = has_size _ (given_object partition.blackboards blackboard) length none
+blackboard_found configuration now who partition blackboard (BlackboardOperation.Read time_out) none =
     is_first (given_object partition.blackboards blackboard) _ (time_out_conditions time_out) (nil_left _ (waiting_conditions who partition time_out) none)
-blackboard_found configuration who partition blackboard BlackboardOperation.Clear none = is_there (given_object partition.blackboards blackboard) _ none
+blackboard_found configuration now who partition blackboard BlackboardOperation.Clear none = is_there (given_object partition.blackboards blackboard) _ none
 
-pub semaphore_found : (configuration : Configuration) (who : Who) (partition : Partition) (semaphore : ℤ) (operation : SemaphoreOperation)
-    → conditions_of configuration who partition (request.Object semaphore (on.Semaphore operation)) ≡ [] → given_object partition.semaphores semaphore ≢ None
-semaphore_found configuration who partition semaphore (SemaphoreOperation.Wait time_out) none =
+pub semaphore_found : (configuration : Configuration) (now : ℕ) (who : Who) (partition : Partition) (semaphore : ℤ) (operation : SemaphoreOperation)
+    → conditions_of configuration now who partition (request.Object semaphore (on.Semaphore operation)) ≡ [] → given_object partition.semaphores semaphore ≢ None
+semaphore_found configuration now who partition semaphore (SemaphoreOperation.Wait time_out) none =
     is_first (given_object partition.semaphores semaphore) _ (time_out_conditions time_out) (nil_left _ (waiting_conditions who partition time_out) none)
-semaphore_found configuration who partition semaphore SemaphoreOperation.Signal none = is_there (given_object partition.semaphores semaphore) _ none
+semaphore_found configuration now who partition semaphore SemaphoreOperation.Signal none = is_there (given_object partition.semaphores semaphore) _ none
 
-pub event_found : (configuration : Configuration) (who : Who) (partition : Partition) (event : ℤ) (operation : EventOperation)
-    → conditions_of configuration who partition (request.Object event (on.Event operation)) ≡ [] → given_object partition.events event ≢ None
-event_found configuration who partition event (EventOperation.Wait time_out) none =
+pub event_found : (configuration : Configuration) (now : ℕ) (who : Who) (partition : Partition) (event : ℤ) (operation : EventOperation)
+    → conditions_of configuration now who partition (request.Object event (on.Event operation)) ≡ [] → given_object partition.events event ≢ None
+event_found configuration now who partition event (EventOperation.Wait time_out) none =
     is_first (given_object partition.events event) _ (time_out_conditions time_out) (nil_left _ (waiting_conditions who partition time_out) none)
-event_found configuration who partition event EventOperation.Set none = is_there (given_object partition.events event) _ none
-event_found configuration who partition event EventOperation.Reset none = is_there (given_object partition.events event) _ none
+event_found configuration now who partition event EventOperation.Set none = is_there (given_object partition.events event) _ none
+event_found configuration now who partition event EventOperation.Reset none = is_there (given_object partition.events event) _ none
 
-pub mutex_found : (configuration : Configuration) (who : Who) (partition : Partition) (mutex : ℤ) (operation : MutexOperation)
-    → conditions_of configuration who partition (request.Object mutex (on.Mutex operation)) ≡ [] → given_object partition.mutexes mutex ≢ None
-mutex_found configuration who partition mutex (MutexOperation.Acquire time_out) none =
+pub mutex_found : (configuration : Configuration) (now : ℕ) (who : Who) (partition : Partition) (mutex : ℤ) (operation : MutexOperation)
+    → conditions_of configuration now who partition (request.Object mutex (on.Mutex operation)) ≡ [] → given_object partition.mutexes mutex ≢ None
+mutex_found configuration now who partition mutex (MutexOperation.Acquire time_out) none =
     is_first (given_object partition.mutexes mutex) _ (time_out_conditions time_out) (nil_left _ _ (nil_left _ _ (nil_left _ _ none)))
-mutex_found configuration who partition mutex MutexOperation.Release none = is_there (given_object partition.mutexes mutex) _ none
-mutex_found configuration who partition mutex (MutexOperation.Reset process) none = is_first (given_object partition.mutexes mutex) _ _ (nil_left _ _ none)
+mutex_found configuration now who partition mutex MutexOperation.Release none = is_there (given_object partition.mutexes mutex) _ none
+mutex_found configuration now who partition mutex (MutexOperation.Reset process) none = is_first (given_object partition.mutexes mutex) _ _ (nil_left _ _ none)
 
 -- a call through a port goes to a channel
 
@@ -90,25 +90,25 @@ goes_through : (port : Option Port) → port ≢ None → channel_by port ≢ No
 goes_through None there = absurd (there refl)
 goes_through (Some port) there = λ same. cc
 
-pub sampling_goes_through : (configuration : Configuration) (who : Who) (partition : Partition) (port : ℤ) (operation : SamplingOperation)
-    → conditions_of configuration who partition (request.SamplingPort port operation) ≡ [] → channel_of partition (request.SamplingPort port operation) ≢ None
-sampling_goes_through configuration who partition port (SamplingOperation.Write length message) none =
+pub sampling_goes_through : (configuration : Configuration) (now : ℕ) (who : Who) (partition : Partition) (port : ℤ) (operation : SamplingOperation)
+    → conditions_of configuration now who partition (request.SamplingPort port operation) ≡ [] → channel_of partition (request.SamplingPort port operation) ≢ None
+sampling_goes_through configuration now who partition port (SamplingOperation.Write length message) none =
     goes_through (given_object partition.sampling_ports port) (is_there (given_object partition.sampling_ports port) _ (nil_left _ _ none))
-sampling_goes_through configuration who partition port SamplingOperation.Read none =
+sampling_goes_through configuration now who partition port SamplingOperation.Read none =
     goes_through (given_object partition.sampling_ports port) (is_there (given_object partition.sampling_ports port) _ none)
 
-pub queuing_goes_through : (configuration : Configuration) (who : Who) (partition : Partition) (port : ℤ) (operation : QueuingOperation)
-    → conditions_of configuration who partition (request.QueuingPort port operation) ≡ [] → channel_of partition (request.QueuingPort port operation) ≢ None
-queuing_goes_through configuration who partition port (QueuingOperation.Send length time_out message) none =
+pub queuing_goes_through : (configuration : Configuration) (now : ℕ) (who : Who) (partition : Partition) (port : ℤ) (operation : QueuingOperation)
+    → conditions_of configuration now who partition (request.QueuingPort port operation) ≡ [] → channel_of partition (request.QueuingPort port operation) ≢ None
+queuing_goes_through configuration now who partition port (QueuingOperation.Send length time_out message) none =
     goes_through (given_object partition.queuing_ports port) (is_there (given_object partition.queuing_ports port) _ (nil_left _ _ (nil_left _ (time_out_conditions time_out) (nil_left _ (waiting_conditions who partition time_out) none))))
-queuing_goes_through configuration who partition port (QueuingOperation.Receive time_out) none =
+queuing_goes_through configuration now who partition port (QueuingOperation.Receive time_out) none =
     goes_through (given_object partition.queuing_ports port) (is_first (given_object partition.queuing_ports port) _ (time_out_conditions time_out) (nil_left _ (waiting_conditions who partition time_out) none))
-queuing_goes_through configuration who partition port QueuingOperation.Clear none =
+queuing_goes_through configuration now who partition port QueuingOperation.Clear none =
     goes_through (given_object partition.queuing_ports port) (is_there (given_object partition.queuing_ports port) _ none)
 
-pub target_found : (configuration : Configuration) (who : Who) (partition : Partition) (process : ℤ)
-    → conditions_of configuration who partition (request.Process process ProcessOperation.Stop) ≡ [] → created partition.table process ≢ None
-target_found configuration who partition process none = is_first (created partition.table process) _ _ none
+pub target_found : (configuration : Configuration) (now : ℕ) (who : Who) (partition : Partition) (process : ℤ)
+    → conditions_of configuration now who partition (request.Process process ProcessOperation.Stop) ≡ [] → created partition.table process ≢ None
+target_found configuration now who partition process none = is_first (created partition.table process) _ _ none
 
 -- a read that is done is at a port that is created
 pub port_found : (configuration : Configuration) (number place core : ℕ) (cores : List CoreState) (partition : Partition) (call : CallRecord)
@@ -117,9 +117,9 @@ port_found configuration number place core cores partition call own = by call.re
   where
     by : (asked : Request) → call.request ≡ asked → ReadsAtPort call asked partition
     by (request.SamplingPort port SamplingOperation.Read) is = λ done.
-        let none = demands_none (conditions_of configuration call.who partition call.request) (channel_of partition call.request) number call.request
+        let none = demands_none (conditions_of configuration (time_of cores core) call.who partition call.request) (channel_of partition call.request) number call.request
         (answer_of cores core call.who partition call.request) call.claim
-        own.demands.1.1.1.1.1 done in
+        own.demands.1.1.1.1.1.1 done in
         is_there (given_object partition.sampling_ports port) _ (rw is at none)
     by _ is = tt
 
@@ -130,7 +130,7 @@ pub at_work : (configuration : Configuration) (cores : List CoreState) (place co
     → IsClear configuration cores place core partition call → IsAtWork place partition call.who
 at_work configuration cores place core partition call clear = record {
   sound = clear.sound;
-  nowhere = λ wanted. ((running_is_in_no_set call.who.part place core cores partition call.who clear.sound clear.caller.1.0).0 wanted).0;
+  nowhere = λ wanted. ((running_is_in_no_set call.who.part place core cores partition call.who clear.sound clear.caller.1.1.0).0 wanted).0;
 }
 
 -- what is demanded of an outcome on which no condition holds, through no channel
@@ -144,9 +144,9 @@ pub all_hold : (configuration : Configuration) (cores : List CoreState) (place c
     → AllHold (own_call_demands configuration call.who.part cores partition core call)
 all_hold configuration cores place core partition call clear served =
     let caller = clear.caller in
-    let outcome = outcome_holds (conditions_of configuration call.who partition call.request) (channel_of partition call.request) call.who.part call.request
+    let outcome = outcome_holds (conditions_of configuration (time_of cores core) call.who partition call.request) (channel_of partition call.request) call.who.part call.request
     (answer_of cores core call.who partition call.request) call.claim clear.conditions clear.through clear.apart served in
-    (caller.0, (caller.1.0, (caller.1.1.0, (caller.1.1.1.0, (caller.1.1.1.1.0, outcome)))))
+    (caller.0, (caller.1.0, (caller.1.1.0, (caller.1.1.1.0, (caller.1.1.1.1.0, (caller.1.1.1.1.1.0, outcome))))))
 
 -- so it is a lawful call of one of the partition's own processes
 pub own_call : (configuration : Configuration) (cores : List CoreState) (place core : ℕ) (partition : Partition) (call : CallRecord)

@@ -176,13 +176,13 @@ lock_self_stopped place call lock is never =
 pub lock_before : (configuration : Configuration) (cores : List CoreState) (place core : ℕ) (partition : Partition) (call : CallRecord)
     → IsClear configuration cores place core partition call → AreBelow place partition.lock.waiters
 lock_before configuration cores place core partition call clear =
-    (running_is_in_no_set call.who.part place core cores partition call.who clear.sound clear.caller.1.0).1.1
+    (running_is_in_no_set call.who.part place core cores partition call.who clear.sound clear.caller.1.1.0).1.1
 
 -- the caller is new there
 pub lock_new : (configuration : Configuration) (cores : List CoreState) (place core : ℕ) (partition : Partition) (call : CallRecord)
     → IsClear configuration cores place core partition call → IsNewInEach (entry_with (actor_of place call) []) (partition.lock.waiters ∷ [])
 lock_new configuration cores place core partition call clear =
-    let apart = (running_is_in_no_set call.who.part place core cores partition call.who clear.sound clear.caller.1.0).1.0 in
+    let apart = (running_is_in_no_set call.who.part place core cores partition call.who clear.sound clear.caller.1.1.0).1.0 in
     ((apart, no_place place partition.lock.waiters (are_before place partition.lock.waiters (lock_before configuration cores place core partition call clear))), tt)
 
 -- if no condition holds, the level can rise
@@ -193,11 +193,11 @@ when_is false one e = refl
 not_greatest : (level : ℕ) → nat_le GREATEST_LOCK_LEVEL level ≡ false → level < GREATEST_LOCK_LEVEL
 not_greatest level less = grind (arith, nat_tests)
 
-pub lock_owed : (configuration : Configuration) (partition : Partition) (place : ℕ) (call : CallRecord) (operation : LockOperation)
-    → conditions_of configuration call.who partition call.request ≡ [] → call.request ≡ request.Preemption operation → Owes (actor_of place call) operation partition.lock
-lock_owed configuration partition place call LockOperation.Lock none is = λ owns.
+pub lock_owed : (configuration : Configuration) (now : ℕ) (partition : Partition) (place : ℕ) (call : CallRecord) (operation : LockOperation)
+    → conditions_of configuration now call.who partition call.request ≡ [] → call.request ≡ request.Preemption operation → Owes (actor_of place call) operation partition.lock
+lock_owed configuration now partition place call LockOperation.Lock none is = λ owns.
     let least : (is_owner partition.lock.owner call.who.proc && nat_le GREATEST_LOCK_LEVEL partition.lock.level) ≡ false =
     when_is _ _ (nil_right _ _ (nil_left _ _ (rw is at none))) in
     let less : nat_le GREATEST_LOCK_LEVEL partition.lock.level ≡ false = rw owns at least in
     not_greatest partition.lock.level less
-lock_owed configuration partition place call LockOperation.Unlock none is = tt
+lock_owed configuration now partition place call LockOperation.Unlock none is = tt

@@ -7,7 +7,7 @@ use Rattle.apex_types.specs.declared.operation.ObjectOperation.TheVariants as on
 use Rattle.apex_types.specs.declared.request.Request.TheVariants as request
 use Rattle.apex_machine.specs.declared.state.CoreState.{CoreState}
 use Rattle.apex_machine.specs.Configuration.{Configuration}
-use Rattle.apex_machine.specs.State.{Mutex, Partition, given_object}
+use Rattle.apex_machine.specs.State.{Mutex, Partition, given_object, time_of}
 use Rattle.partition_objects.specs.Mutexes as mutexes
 use Rattle.scheduling.specs.declared.transfer.Transfer.{Transfer}
 use Rattle.scheduling.specs.Transfers.{IsTransferOf}
@@ -38,4 +38,4 @@ pub mutex_accepted : (configuration : Configuration) (cores : List CoreState) (p
     → IfOk result (λ transfer. IsTransferOf partition call.who.proc (request.Object mutex (on.Mutex operation)) transfer)
 mutex_accepted configuration cores place core partition call mutex operation clear asked (Err fault) transfers = tt
 mutex_accepted configuration cores place core partition call mutex operation clear asked (Ok transfer) transfers =
-    mutex_transfers (actor_of place call) partition mutex operation transfer (mutex_found configuration call.who partition mutex operation (rw asked at clear.conditions)) transfers
+    mutex_transfers (actor_of place call) partition mutex operation transfer (mutex_found configuration (time_of cores core) call.who partition mutex operation (rw asked at clear.conditions)) transfers

@@ -20,7 +20,7 @@ use Rattle.apex_machine.specs.Configuration.{Configuration}
 use Rattle.apex_machine.specs.Demands.{AllHold}
 use Rattle.apex_machine.specs.Objects.{acquired_from, blackboard_effect, board_read, buffer_effect, event_effect, event_waited, handed_on, message_by, messages_by, mutex_effect, mutex_released, semaphore_effect, semaphore_waited, signalled, up_by, value_by}
 use Rattle.apex_machine.specs.Queue.{Messages, received, sent}
-use Rattle.apex_machine.specs.State.{Blackboard, Buffer, Event, Mutex, Partition, Semaphore, change_at, given_object, item_at, set_at}
+use Rattle.apex_machine.specs.State.{Blackboard, Buffer, Event, Mutex, Partition, Semaphore, change_at, given_object, item_at, set_at, time_of}
 use Rattle.apex_machine.specs.Waiting.{first_waiter, is_waiting, set_after}
 use Rattle.apex_laws.specs.Laws.{IsInOrder, are_distinct}
 use Rattle.apex_laws.specs.PartObjects.{used_by, objects_changed}
@@ -320,7 +320,7 @@ buffers_served configuration cores place core partition call given operation cle
     let work = at_work configuration cores place core partition call clear in
     ap (λ buffers. record partition { buffers = buffers })
     (is ∙ becomes_there given partition.buffers (buffers.answer (actor_of place call) operation) _ _ call.claim (work.sound.objects kind.Buffer)
-    (buffer_found configuration call.who partition given operation (rw asked at clear.conditions)) holds
+    (buffer_found configuration (time_of cores core) call.who partition given operation (rw asked at clear.conditions)) holds
     (λ found at same. buffer_becomes place call given operation found asked (in_order place partition call.who work (set_at kind.Buffer (natural_of given) Senders) found.senders (rw at refl)) (in_order place partition call.who work (set_at kind.Buffer (natural_of given) Receivers) found.receivers (rw at refl)) same))
 
 pub blackboards_served : (configuration : Configuration) (cores : List CoreState) (place core : ℕ) (partition : Partition) (call : CallRecord) (given : ℤ) (operation : BlackboardOperation)
@@ -333,7 +333,7 @@ blackboards_served configuration cores place core partition call given operation
     let work = at_work configuration cores place core partition call clear in
     ap (λ blackboards. record partition { blackboards = blackboards })
     (is ∙ becomes_there given partition.blackboards (λ found. (blackboard_effect operation found).answer) _ _ call.claim (work.sound.objects kind.Blackboard)
-    (blackboard_found configuration call.who partition given operation (rw asked at clear.conditions)) holds
+    (blackboard_found configuration (time_of cores core) call.who partition given operation (rw asked at clear.conditions)) holds
     (λ found at same. blackboard_becomes place call given operation found asked (in_order place partition call.who work (set_at kind.Blackboard (natural_of given) Receivers) found.readers (rw at refl)) same))
 
 pub semaphores_served : (configuration : Configuration) (cores : List CoreState) (place core : ℕ) (partition : Partition) (call : CallRecord) (given : ℤ) (operation : SemaphoreOperation)
@@ -346,7 +346,7 @@ semaphores_served configuration cores place core partition call given operation 
     let work = at_work configuration cores place core partition call clear in
     ap (λ semaphores. record partition { semaphores = semaphores })
     (is ∙ becomes_there given partition.semaphores (λ found. (semaphore_effect operation found).answer) _ _ call.claim (work.sound.objects kind.Semaphore)
-    (semaphore_found configuration call.who partition given operation (rw asked at clear.conditions)) holds
+    (semaphore_found configuration (time_of cores core) call.who partition given operation (rw asked at clear.conditions)) holds
     (λ found at same. semaphore_becomes place call given operation found asked (in_order place partition call.who work (set_at kind.Semaphore (natural_of given) Receivers) found.waiters (rw at refl)) same))
 
 pub events_served : (configuration : Configuration) (cores : List CoreState) (place core : ℕ) (partition : Partition) (call : CallRecord) (given : ℤ) (operation : EventOperation)
@@ -359,7 +359,7 @@ events_served configuration cores place core partition call given operation clea
     let work = at_work configuration cores place core partition call clear in
     ap (λ events. record partition { events = events })
     (is ∙ becomes_there given partition.events (λ found. (event_effect operation found).answer) _ _ call.claim (work.sound.objects kind.Event)
-    (event_found configuration call.who partition given operation (rw asked at clear.conditions)) holds
+    (event_found configuration (time_of cores core) call.who partition given operation (rw asked at clear.conditions)) holds
     (λ found at same. event_becomes place call given operation found asked (in_order place partition call.who work (set_at kind.Event (natural_of given) Receivers) found.waiters (rw at refl)) same))
 
 pub mutexes_served : (configuration : Configuration) (cores : List CoreState) (place core : ℕ) (partition : Partition) (call : CallRecord) (given : ℤ) (operation : MutexOperation)
@@ -372,7 +372,7 @@ mutexes_served configuration cores place core partition call given operation cle
     let work = at_work configuration cores place core partition call clear in
     ap (λ mutexes. record partition { mutexes = mutexes })
     (is ∙ becomes_there given partition.mutexes (λ found. (mutex_effect call.who.proc operation found).answer) _ _ call.claim (work.sound.objects kind.Mutex)
-    (mutex_found configuration call.who partition given operation (rw asked at clear.conditions)) holds
+    (mutex_found configuration (time_of cores core) call.who partition given operation (rw asked at clear.conditions)) holds
     (λ found at same. mutex_becomes place call given operation found asked (in_order place partition call.who work (set_at kind.Mutex (natural_of given) Receivers) found.waiters (rw at refl)) same))
 
 -- the configuration says nothing of an operation on an object

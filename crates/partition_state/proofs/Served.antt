@@ -16,7 +16,7 @@ use Rattle.apex_machine.specs.Arguments.{natural_of}
 use Rattle.apex_machine.specs.Configuration.{Configuration}
 use Rattle.apex_machine.specs.Demands.{AllHold, Demand, Judges}
 use Rattle.apex_machine.specs.Services.{peer}
-use Rattle.apex_machine.specs.State.{Lock, Partition, created, with_objects, ObjectOf}
+use Rattle.apex_machine.specs.State.{Lock, Partition, created, with_objects, ObjectOf, time_of}
 use Rattle.apex_machine.specs.Waiting.{is_no_error, restart_of}
 use Rattle.apex_laws.specs.PartLaws.{IsOwnCall}
 use Rattle.apex_laws.specs.PartObjects.{left_by, objects_changed}
@@ -81,7 +81,7 @@ all_are_called configuration cores place core partition call clear holds goes_on
     by : (target : Option Process) → created partition.table process ≡ target
         → all_called configuration place call partition
         ≡ left_if_there (peer call.who process) target (with_lock_stopped (natural_of process) call.claim.woken partition)
-    by None e = absurd (target_found configuration call.who partition process (rw is at clear.conditions) e)
+    by None e = absurd (target_found configuration (time_of cores core) call.who partition process (rw is at clear.conditions) e)
     by (Some target) e =
         let held = rw is at holds in
         let done : is_no_error call.claim.out ≡ true = rw held.0 refl in

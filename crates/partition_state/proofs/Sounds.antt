@@ -16,7 +16,7 @@ use Rattle.apex_machine.specs.Answer.{NamesExactly}
 use Rattle.apex_machine.specs.Configuration.{Configuration, is_core}
 use Rattle.apex_machine.specs.Demands.{AllHold}
 use Rattle.apex_machine.specs.ServiceConditions.{conditions_of}
-use Rattle.apex_machine.specs.State.{Partition, is_named, is_same}
+use Rattle.apex_machine.specs.State.{Partition, is_named, is_same, time_of}
 use Rattle.apex_machine.specs.Waiting.{is_waiting}
 use Rattle.apex_laws.specs.PartBounds.{IsBoundedPart}
 use Rattle.apex_laws.proofs.BoundedParts.{releases_fit}
@@ -46,38 +46,38 @@ core_is configuration number (pos core) few of_module has =
     grind (arith, nat_tests)
 core_is configuration number (negsuc core) few of_module has = cc
 
-gives_soundly : (configuration : Configuration) (who : Who) (partition : Partition) (process : ℤ) (operation : ProcessOperation) → configuration.cores ≤ MOST_CORES → CoresAreOfModule configuration
-    → conditions_of configuration who partition (request.Process process operation) ≡ [] → GivesSoundly operation
-gives_soundly configuration who partition process (ProcessOperation.SetPriority priority) few of_module none = when_not _ _ (nil_right _ _ none)
-gives_soundly configuration who partition process (ProcessOperation.InitializeCoreAffinity core) few of_module none =
+gives_soundly : (configuration : Configuration) (now : ℕ) (who : Who) (partition : Partition) (process : ℤ) (operation : ProcessOperation) → configuration.cores ≤ MOST_CORES → CoresAreOfModule configuration
+    → conditions_of configuration now who partition (request.Process process operation) ≡ [] → GivesSoundly operation
+gives_soundly configuration now who partition process (ProcessOperation.SetPriority priority) few of_module none = when_not _ _ (nil_right _ _ none)
+gives_soundly configuration now who partition process (ProcessOperation.InitializeCoreAffinity core) few of_module none =
     core_is configuration who.part core few of_module (when_not _ _ (nil_right _ _ none))
-gives_soundly configuration who partition process _ few of_module none = tt
+gives_soundly configuration now who partition process _ few of_module none = tt
 
 asks_soundly : (configuration : Configuration) (cores : List CoreState) (core : ℕ) (partition : Partition) (call : CallRecord) (asked : Request)
-    → configuration.cores ≤ MOST_CORES → CoresAreOfModule configuration → conditions_of configuration call.who partition asked ≡ [] → call.request ≡ asked
+    → configuration.cores ≤ MOST_CORES → CoresAreOfModule configuration → conditions_of configuration (time_of cores core) call.who partition asked ≡ [] → call.request ≡ asked
     → AllHold (served_demands cores core partition call) → AsksSoundly partition.table call asked
 asks_soundly configuration cores core partition call (request.CreateProcess name priority period time_capacity) few of_module none is served =
     λ done. let given = rw is at served in
     (given.1.0.val, when_not _ _ (nil_right _ _ (nil_left _ _ (nil_left _ _ (nil_left _ _ (nil_left _ _ none))))), nobody call.claim.woken given.1.1.1.0)
 asks_soundly configuration cores core partition call (request.Process process operation) few of_module none is served =
-    λ done. gives_soundly configuration call.who partition process operation few of_module none
+    λ done. gives_soundly configuration (time_of cores core) call.who partition process operation few of_module none
 asks_soundly configuration cores core partition call _ few of_module none is served = tt
 
 -- waits
 
-waits_soundly : (configuration : Configuration) (who : Who) (partition : Partition) (asked : Request) → NumbersAreKept partition
-    → conditions_of configuration who partition asked ≡ [] → WaitsSoundly asked
-waits_soundly configuration who partition (request.Object number (on.Buffer operation)) kept none =
-    given_fits partition.buffers number kept.buffers (buffer_found configuration who partition number operation none)
-waits_soundly configuration who partition (request.Object number (on.Blackboard operation)) kept none =
-    given_fits partition.blackboards number kept.blackboards (blackboard_found configuration who partition number operation none)
-waits_soundly configuration who partition (request.Object number (on.Semaphore operation)) kept none =
-    given_fits partition.semaphores number kept.semaphores (semaphore_found configuration who partition number operation none)
-waits_soundly configuration who partition (request.Object number (on.Event operation)) kept none =
-    given_fits partition.events number kept.events (event_found configuration who partition number operation none)
-waits_soundly configuration who partition (request.Object number (on.Mutex operation)) kept none =
-    given_fits partition.mutexes number kept.mutexes (mutex_found configuration who partition number operation none)
-waits_soundly configuration who partition _ kept none = tt
+waits_soundly : (configuration : Configuration) (now : ℕ) (who : Who) (partition : Partition) (asked : Request) → NumbersAreKept partition
+    → conditions_of configuration now who partition asked ≡ [] → WaitsSoundly asked
+waits_soundly configuration now who partition (request.Object number (on.Buffer operation)) kept none =
+    given_fits partition.buffers number kept.buffers (buffer_found configuration now who partition number operation none)
+waits_soundly configuration now who partition (request.Object number (on.Blackboard operation)) kept none =
+    given_fits partition.blackboards number kept.blackboards (blackboard_found configuration now who partition number operation none)
+waits_soundly configuration now who partition (request.Object number (on.Semaphore operation)) kept none =
+    given_fits partition.semaphores number kept.semaphores (semaphore_found configuration now who partition number operation none)
+waits_soundly configuration now who partition (request.Object number (on.Event operation)) kept none =
+    given_fits partition.events number kept.events (event_found configuration now who partition number operation none)
+waits_soundly configuration now who partition (request.Object number (on.Mutex operation)) kept none =
+    given_fits partition.mutexes number kept.mutexes (mutex_found configuration now who partition number operation none)
+waits_soundly configuration now who partition _ kept none = tt
 
 -- releases
 
@@ -94,7 +94,7 @@ pub sound_served : (configuration : Configuration) (cores : List CoreState) (pla
     → configuration.cores ≤ MOST_CORES → CoresAreOfModule configuration → NumbersAreKept partition → place < PLACE_COUNT → IsSound partition.table call
 sound_served configuration cores place core partition call clear served few of_module kept below = record {
   asks = asks_soundly configuration cores core partition call call.request few of_module clear.conditions refl served;
-  waits = λ waiting. waits_soundly configuration call.who partition call.request kept clear.conditions;
+  waits = λ waiting. waits_soundly configuration (time_of cores core) call.who partition call.request kept clear.conditions;
   releases = releases_soundly place partition call.who.proc call.request clear.bounded below;
 }
 

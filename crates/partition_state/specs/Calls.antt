@@ -17,7 +17,7 @@ use Rattle.apex_machine.specs.Demands.{AllHold, Demand, FirstFails, answer_deman
 use Rattle.apex_machine.specs.Ports.{channel_of, use_of}
 use Rattle.apex_machine.specs.ServiceConditions.{conditions_of}
 use Rattle.apex_machine.specs.Services.{NewNumber, answer_by, answer_of, done_with, peer}
-use Rattle.apex_machine.specs.State.{Partition, change_at, created, given_object, is_free, objects_of}
+use Rattle.apex_machine.specs.State.{Partition, change_at, created, given_object, is_free, objects_of, time_of}
 use Rattle.apex_laws.specs.Laws.{entries_at}
 use Rattle.apex_laws.specs.PartLaws.{IsSoundPart}
 use Rattle.apex_laws.specs.PartBounds.{IsBoundedPart}
@@ -53,7 +53,7 @@ pub record IsClear (configuration : Configuration) (cores : List CoreState) (pla
   pub sound : IsSoundPart call.who.part place partition
   pub bounded : IsBoundedPart place partition
   pub caller : AllHold (caller_demands configuration call.who.part cores partition core call)
-  pub conditions : conditions_of configuration call.who partition call.request ≡ []
+  pub conditions : conditions_of configuration (time_of cores core) call.who partition call.request ≡ []
   pub through : channel_of partition call.request ≡ None
   pub apart : call.claim.chan ≡ None
 

@@ -7,6 +7,7 @@ ghost use Rattle.apex_machine.specs.Services as services;
 ghost use Rattle.apex_machine.specs.Services.{peer};
 ghost use Rattle.apex_machine.specs.State.{created};
 ghost use Rattle.apex_machine.specs.Statuses as statuses;
+ghost use Rattle.wait_set.specs.GivenNumbers.{value_given};
 ghost use Rattle.wait_set.specs.Givens.{answer_given};
 
 use crate::state::PartitionState;
@@ -28,7 +29,7 @@ impl PartitionState {
     }
 
     /// What GET_PROCESS_STATUS gives this caller for the created process of the number that it gives: the state, the current priority, and
-    /// the deadline, which is -1 if there is none. Done, if there is no such process. Takes no memory.
+    /// the deadline, if there is one. Done, if there is no such process. Takes no memory.
     pub(crate) fn process_answer<'a>(
         &self,
         moment: &Moment<'_>,
@@ -50,7 +51,7 @@ impl PartitionState {
         Given::values(
             GivenValue::Natural(state_number(moment, own, found)),
             Some(GivenValue::Natural(u64::from(found.current_priority))),
-            Some(GivenValue::BelowZero(-1)),
+            Some(deadline_value(found.deadline)),
         )
     }
 }
@@ -74,6 +75,16 @@ fn start_number(start: StartCondition) -> u64
     match start {
         StartCondition::NormalStart => 0,
         StartCondition::PartitionRestart => 1,
+    }
+}
+
+// A deadline, as services report it: -1 if there is none.
+fn deadline_value(deadline: Option<u64>) -> GivenValue
+    ensures { value_given result ≡ statuses.deadline_number deadline }
+{
+    match deadline {
+        Some(deadline) => GivenValue::Natural(deadline),
+        None => GivenValue::BelowZero(-1),
     }
 }
 

@@ -1,10 +1,10 @@
 -- The cores of a part: how many there are, and how their times grow.
-use Rattle.std.proofs.Common.{◌≡◌, ◌∙◌, ℕ, zero, suc, ◌+◌, ◌≤◌, List, [], ◌∷◌, ◌++◌, ◌<◌, true, false, if◌then◌else◌, length, map, refl, ap, sym, arith}
+use Rattle.std.proofs.Common.{◌≡◌, ◌∙◌, ℕ, zero, suc, ◌+◌, ◌≤◌, List, [], ◌∷◌, ◌++◌, ◌<◌, true, false, if◌then◌else◌, length, map, refl, ap, sym, arith, nat_eq}
 use Rattle.std.proofs.lemmas.List.{length-map}
 use Rattle.std.specs.Prelude.{replicate}
 use Rattle.apex_types.specs.declared.limits.TheConstants.{PLACE_COUNT}
 use Rattle.apex_types.specs.declared.record.Body.{Body}
-use Rattle.apex_types.specs.declared.record.Body.TheVariants.{Arrive, Call, Depart, Ret, Disp, Tick}
+use Rattle.apex_types.specs.declared.record.Body.TheVariants.{Arrive, Call, Depart, Ret, Disp, Tick, Error}
 use Rattle.apex_types.specs.declared.record.Ordered.{Ordered}
 use Rattle.apex_types.specs.declared.shape.End.TheVariants.{Senders, Receivers}
 use Rattle.apex_machine.specs.declared.state.CoreState.{CoreState}
@@ -41,6 +41,7 @@ length-cores_by core (Call call) cores = refl
 length-cores_by core (Ret ret) cores = refl
 length-cores_by core (Arrive crossing) cores = refl
 length-cores_by core (Depart crossing) cores = refl
+length-cores_by core (Error report) cores = refl
 length-cores_by core (Disp who) cores = length-at_core (λ state. record state { occupant = who }) core cores
 length-cores_by core (Tick woken) cores = length-at_core (λ state. record state { time = state.time + 1 }) core cores
 
@@ -63,6 +64,7 @@ time_by at (Call call) cores core = omega arith
 time_by at (Ret ret) cores core = omega arith
 time_by at (Arrive crossing) cores core = omega arith
 time_by at (Depart crossing) cores core = omega arith
+time_by at (Error report) cores core = omega arith
 time_by at (Disp who) cores core = dispatch_time who at cores core
 time_by at (Tick woken) cores core = tick_time at cores core
 
@@ -170,6 +172,12 @@ set_before place (Arrive crossing) wanted entries fits all =
     all_without (EnteredBefore place) (EnteredBefore (place + 1)) (λ who. is_named who crossing.woken) (λ entry stays before. before_later place (place + 1) (omega arith) entry before) entries all
 set_before place (Depart crossing) wanted entries fits all =
     all_without (EnteredBefore place) (EnteredBefore (place + 1)) (λ who. is_named who crossing.woken) (λ entry stays before. before_later place (place + 1) (omega arith) entry before) entries all
+set_before place (Error report) wanted entries fits all =
+    elim report.restarts
+    as (λ restarts. AllEntries (EnteredBefore (place + 1)) (if restarts then without (λ who. nat_eq who.part report.who.part) entries else entries)) [
+      | true ↦ all_without (EnteredBefore place) (EnteredBefore (place + 1)) (λ who. nat_eq who.part report.who.part) (λ entry stays before. before_later place (place + 1) (omega arith) entry before) entries all
+      | false ↦ all_weaker (EnteredBefore place) (EnteredBefore (place + 1)) (before_later place (place + 1) (omega arith)) entries all
+    ]
 set_before place (Call call) wanted entries fits all =
     let stay = all_without (EnteredBefore place) (EnteredBefore (place + 1)) (ends_wait call) (λ entry stays before. before_later place (place + 1) (omega arith) entry before) entries all in
     elim (enters call wanted)

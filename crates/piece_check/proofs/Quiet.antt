@@ -1,7 +1,7 @@
 -- A tick that ends no wait changes nothing of a channel except a time.
 use Rattle.std.proofs.Common.{◌≡◌, ◌∷◌, ◌+◌, ℕ, List, [], Bool, true, false, Option, Some, None, refl, ap}
 use Rattle.apex_types.specs.declared.record.Body.{Body}
-use Rattle.apex_types.specs.declared.record.Body.TheVariants.{Arrive, Call, Depart, Ret, Disp, Tick}
+use Rattle.apex_types.specs.declared.record.Body.TheVariants.{Arrive, Call, Depart, Ret, Disp, Tick, Error}
 use Rattle.apex_types.specs.declared.record.Ordered.{Ordered}
 use Rattle.apex_machine.specs.declared.state.Entry.{Entry}
 use Rattle.apex_machine.specs.Configuration.{Configuration}
@@ -29,6 +29,7 @@ quiet_is (Ret ret) quiet = let clash : false ≡ true = quiet in cc
 quiet_is (Disp who) quiet = let clash : false ≡ true = quiet in cc
 quiet_is (Arrive crossing) quiet = let clash : false ≡ true = quiet in cc
 quiet_is (Depart crossing) quiet = let clash : false ≡ true = quiet in cc
+quiet_is (Error report) quiet = let clash : false ≡ true = quiet in cc
 
 -- so it is a local step of a channel
 pub quiet_step : (configuration : Configuration) (number : ℕ) (times : List ℕ) (channel : Channel) (ordered : Ordered) → is_quiet ordered.rec.body ≡ true

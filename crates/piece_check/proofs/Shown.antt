@@ -1,5 +1,5 @@
 -- What shows that a demand fails, as the code finds it.
-use Rattle.std.proofs.Common.{◌≡◌, ◌⊎◌, ℕ, List, Option, Some, None, Bool, true, false, refl, ap, ◌∙◌, option_map, inl, inr}
+use Rattle.std.proofs.Common.{◌≡◌, ◌⊎◌, ℕ, List, Option, Some, None, Bool, true, false, nat_eq, refl, ap, sym, ◌∙◌, option_map, inl, inr}
 use Rattle.std.specs.List.{find}
 use Rattle.apex_types.specs.declared.cause.Cause.{Cause}
 use Rattle.apex_types.specs.declared.cause.Cause.TheVariants as cause
@@ -7,10 +7,13 @@ use Rattle.apex_machine.specs.declared.state.Process.{Process}
 use Rattle.apex_machine.specs.Answer.{Answer}
 use Rattle.apex_machine.specs.Channels.{is_from_outside, is_to_outside, size_of}
 use Rattle.apex_machine.specs.Configuration.{Configuration}
+use Rattle.apex_machine.specs.Deadlines.{has_missed, is_reached}
 use Rattle.apex_machine.specs.Objects.{is_owner}
 use Rattle.apex_machine.specs.Ports.{departed}
 use Rattle.apex_machine.specs.Queue.{Messages}
-use Rattle.apex_machine.specs.State.{Channel, Content, Mutex, Queued, Sampled}
+use Rattle.apex_machine.specs.State.{Channel, Content, Mutex, Queued, Sampled, Table}
+use Rattle.apex_laws.proofs.Booleans.{not_second}
+use Rattle.module_config.proofs.Shown.{found-passes}
 use Rattle.wait_set.specs.declared.given.Given.{Given}
 use Rattle.wait_set.specs.Givens.{answer_given}
 use Rattle.channel.specs.Held.{ForQueuing, ForSampling, SaysTheSame, Settings}
@@ -18,7 +21,7 @@ use Rattle.channel.specs.Kinds as kinds
 use Rattle.channel.specs.Kinds.{is_sampled}
 use Rattle.piece_check.specs.declared.evidence.Evidence.{Evidence}
 use Rattle.piece_check.specs.declared.evidence.Evidence.TheVariants as evidence
-use Rattle.piece_check.specs.Evidence.{ShowsDeparted, ShowsDeparture, ShowsPriority, first_mutex, is_elsewhere}
+use Rattle.piece_check.specs.Evidence.{ShowsDeparted, ShowsDeparture, ShowsMissed, ShowsPriority, first_mutex, is_elsewhere}
 
 -- the number of the entry that a search finds is that of the first mutex of which the test holds
 pub first_is : {Found : Type 0} (test : Mutex → Bool) (mutexes : List (ℕ × Mutex)) (see : Found → ℕ × Mutex) (found : Option Found)
@@ -35,6 +38,21 @@ pub priority_shown : (mutexes : List (ℕ × Mutex)) (number recorded : ℕ) (pr
     → ShowsPriority mutexes number recorded found
     (evidence.Priority process.current_priority process.base_priority process.retained_priority owned elsewhere)
 priority_shown mutexes number recorded process found owned elsewhere there is_owned is_other = rw (← there, is_owned, is_other) refl
+
+-- deadlines
+
+-- a process without a deadline has missed none
+none_to_miss : (core now : ℕ) (process : Process) → process.deadline ≡ None → has_missed core now process ≡ false
+none_to_miss core now process none = not_second (nat_eq process.affinity core) (is_reached now process.deadline) (rw none refl)
+
+-- so a process that a search finds for its missed deadline has one
+pub missed_has_one : (number core now : ℕ) (table : Table) (missed : ℕ) (process : Process)
+    → Some (missed, process) ≡ find (λ entry. has_missed core now entry.1) table → process.deadline ≡ None
+    → ShowsMissed number (find (λ entry. has_missed core now entry.1) table) evidence.Nothing
+missed_has_one number core now table missed process found none =
+    let passes = found-passes (λ (entry : ℕ × Process). has_missed core now entry.1) table (missed, process) (sym found) in
+    let clash : false ≡ true = sym (none_to_miss core now process none) ∙ passes in
+    cc
 
 -- what a configuration says of a channel, if its settings are these
 

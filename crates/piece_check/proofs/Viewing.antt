@@ -2,7 +2,7 @@
 use Rattle.std.proofs.Common.{◌≡◌, ◌∙◌, ℕ, Some, None, Bool, true, false, ◌||◌, if◌then◌else◌, nat_eq, refl, ap, sym, arith}
 use Rattle.std.proofs.lemmas.Bool.Decides.{nat_tests}
 use Rattle.apex_types.specs.declared.record.Body.{Body}
-use Rattle.apex_types.specs.declared.record.Body.TheVariants.{Arrive, Call, Depart, Ret, Disp, Tick}
+use Rattle.apex_types.specs.declared.record.Body.TheVariants.{Arrive, Call, Depart, Ret, Disp, Tick, Error}
 use Rattle.apex_types.specs.declared.record.Ordered.{Ordered}
 use Rattle.apex_types.specs.declared.view.View.{View}
 use Rattle.apex_machine.specs.Configuration.{Configuration}
@@ -60,6 +60,7 @@ no_view configuration (PartitionPart number cores partition) ordered untouched =
     by_body (Tick woken) untouched = refl
     by_body (Arrive crossing) untouched = refl
     by_body (Depart crossing) untouched = refl
+    by_body (Error report) untouched = refl
 no_view configuration (ChannelPart number times channel) ordered untouched = refl
 
 -- a record that does not touch a piece has no view from it
@@ -77,6 +78,7 @@ judge_gives (ModulePart cores) ordered of = by_body ordered.rec.body of
     by_body (Tick woken) of = (_, refl)
     by_body (Arrive crossing) of = (_, refl)
     by_body (Depart crossing) of = (_, refl)
+    by_body (Error report) of = (_, refl)
 judge_gives (PartitionPart number cores partition) ordered of = by_body ordered.rec.body of
   where
     by_body : (body : Body) → OfPartition number ≡ judge_by body → (view : View) × partition_view number cores partition.table ordered.core body ≡ Some view
@@ -86,6 +88,7 @@ judge_gives (PartitionPart number cores partition) ordered of = by_body ordered.
     by_body (Tick woken) of = cc
     by_body (Arrive crossing) of = cc
     by_body (Depart crossing) of = cc
+    by_body (Error report) of = cc
 judge_gives (ChannelPart number times channel) ordered of = by_body ordered.rec.body of
   where
     by_body : (body : Body) → OfChannel number ≡ judge_by body → (view : View) × view_in (ChannelPart number times channel) ordered ≡ Some view
@@ -95,6 +98,7 @@ judge_gives (ChannelPart number times channel) ordered of = by_body ordered.rec.
     by_body (Tick woken) of = cc
     by_body (Arrive crossing) of = cc
     by_body (Depart crossing) of = cc
+    by_body (Error report) of = cc
 
 -- the judge of a record gives its view
 pub view_of_judge : (part : Part) (ordered : Ordered) → IsPartOf (judge ordered) part → (view : View) × view_in part ordered ≡ Some view
@@ -110,6 +114,7 @@ giver (ModulePart cores) ordered view gives = by_body ordered.rec.body gives
     by_body (Tick woken) gives = refl
     by_body (Arrive crossing) gives = refl
     by_body (Depart crossing) gives = refl
+    by_body (Error report) gives = refl
 giver (PartitionPart number cores partition) ordered view gives = by_body ordered.rec.body gives
   where
     by_body : (body : Body) → partition_view number cores partition.table ordered.core body ≡ Some view → OfPartition number ≡ judge_by body
@@ -119,6 +124,7 @@ giver (PartitionPart number cores partition) ordered view gives = by_body ordere
     by_body (Tick woken) gives = cc
     by_body (Arrive crossing) gives = cc
     by_body (Depart crossing) gives = cc
+    by_body (Error report) gives = cc
 giver (ChannelPart number times channel) ordered view gives = cc
 
 -- only the judge of a record gives a view of it

@@ -4,7 +4,7 @@ use Rattle.std.specs.List.{find, position_from}
 use Rattle.apex_types.specs.declared.cause.Cause.{Cause}
 use Rattle.apex_types.specs.declared.cause.Cause.TheVariants as cause
 use Rattle.apex_types.specs.declared.record.Body.{Body}
-use Rattle.apex_types.specs.declared.record.Body.TheVariants.{Arrive, Call, Depart, Ret, Disp, Tick}
+use Rattle.apex_types.specs.declared.record.Body.TheVariants.{Arrive, Call, Depart, Ret, Disp, Tick, Error}
 use Rattle.apex_types.specs.declared.record.Call.{Call as CallRecord}
 use Rattle.apex_types.specs.declared.record.Ordered.{Ordered}
 use Rattle.apex_types.specs.declared.record.Who.{Who}
@@ -20,6 +20,7 @@ use Rattle.apex_machine.specs.Choice.{partition_choice}
 use Rattle.apex_machine.specs.Conditions.{owns_mutex}
 use Rattle.apex_machine.specs.Configuration.{Configuration, has_partition}
 use Rattle.apex_machine.specs.Demands.{AllWaitAt, WakesHere, has_entry_in, window_now}
+use Rattle.apex_machine.specs.Deadlines.{has_missed}
 use Rattle.apex_machine.specs.DueTimes.{falls_due}
 use Rattle.apex_machine.specs.Objects.{is_owner}
 use Rattle.apex_machine.specs.Pieces.{ChannelPart, ModulePart, Part, PartitionPart, time_at}
@@ -47,6 +48,7 @@ processes_named (Disp (Some who)) = who ∷ []
 processes_named (Tick woken) = woken
 processes_named (Arrive crossing) = crossing.woken
 processes_named (Depart crossing) = crossing.woken
+processes_named (Error report) = report.who ∷ []
 
 -- the channel that a record names
 abbrev pub channel_named : Body → Option ℕ
@@ -137,13 +139,29 @@ ShowsOfCall configuration cores partition core call cause.OutsideProfile shown =
 ShowsOfCall configuration cores partition core call cause.Prio shown =
     ShowsPriority partition.mutexes call.who.proc call.claim.prio (item_at partition.table call.who.proc) shown
 ShowsOfCall configuration cores partition core call _ shown =
-    ShowsClaim (conditions_of configuration call.who partition call.request) (channel_of partition call.request) (creates call.request)
+    ShowsClaim (conditions_of configuration (time_of cores core) call.who partition call.request) (channel_of partition call.request) (creates call.request)
     (answer_of cores core call.who partition call.request) shown
 
 -- what is shown of a call; of another partition's call, the processes that it names, which `may_wake` and `misnaming` judge
 abbrev pub ShowsOfAnyCall : Bool → Configuration → List CoreState → Partition → ℕ → CallRecord → Cause → Evidence → Type 0
 ShowsOfAnyCall true configuration cores partition core call cause shown = ShowsOfCall configuration cores partition core call cause shown
 ShowsOfAnyCall false configuration cores partition core call cause shown = shown ≡ evidence.Named
+
+-- Deadline, of a record that no missed deadline may come before: the first process that has missed its deadline, with the deadline
+abbrev pub ShowsMissed : ℕ → Option (ℕ × Process) → Evidence → Type 0
+ShowsMissed number (Some entry) (evidence.Missed who deadline) = (who ≡ record { part = number; proc = entry.0 }) × (entry.1.deadline ≡ Some deadline)
+ShowsMissed number None evidence.Nothing = Unit {0}
+ShowsMissed number found _ = ⊥
+
+-- Deadline, of an error: the core and the deadline of the process, if there is one of its number
+abbrev pub ShowsDeadline : Option Process → Evidence → Type 0
+ShowsDeadline (Some process) shown = shown ≡ evidence.Deadline process.affinity process.deadline
+ShowsDeadline None shown = shown ≡ evidence.Nothing
+
+-- what is shown of the deadlines of a partition, by the record
+abbrev pub ShowsOfDeadlines : ℕ → List CoreState → Table → ℕ → Body → Evidence → Type 0
+ShowsOfDeadlines number cores table core (Error report) shown = ShowsDeadline (item_at table report.who.proc) shown
+ShowsOfDeadlines number cores table core body shown = ShowsMissed number (find (λ entry. has_missed core (time_of cores core) entry.1) table) shown
 
 -- what is shown of a record: of a return the pending outcome, of a tick, an arrival and a departure the processes that it names
 abbrev pub ShowsOfBody : Configuration → ℕ → List CoreState → Partition → ℕ → Body → Cause → Evidence → Type 0
@@ -154,15 +172,17 @@ ShowsOfBody configuration number cores partition core (Tick woken) cause shown =
 ShowsOfBody configuration number cores partition core (Arrive crossing) cause shown = shown ≡ evidence.Named
 ShowsOfBody configuration number cores partition core (Depart crossing) cause shown = shown ≡ evidence.Named
 ShowsOfBody configuration number cores partition core (Disp who) cause shown = shown ≡ evidence.Nothing
+ShowsOfBody configuration number cores partition core (Error report) cause shown = shown ≡ evidence.Nothing
 
--- what a partition shows: the window of the core, or its choice, each with the occupant; else what the record shows. Names, Skew and Idle
--- are demands of the module alone
+-- what a partition shows: the window of the core, or its choice, each with the occupant; a deadline; else what the record shows. Names, Skew
+-- and Idle are demands of the module alone
 abbrev pub ShowsOfPartition : Configuration → ℕ → List CoreState → Partition → ℕ → Body → Cause → Evidence → Type 0
 ShowsOfPartition configuration number cores partition core body cause.Names shown = shown ≡ evidence.Nothing
 ShowsOfPartition configuration number cores partition core body cause.Skew shown = shown ≡ evidence.Nothing
 ShowsOfPartition configuration number cores partition core body cause.Idle shown = shown ≡ evidence.Nothing
 ShowsOfPartition configuration number cores partition core body cause.Window shown =
     shown ≡ evidence.Window (window_now configuration cores core) (occupant_of cores core)
+ShowsOfPartition configuration number cores partition core body cause.Deadline shown = ShowsOfDeadlines number cores partition.table core body shown
 ShowsOfPartition configuration number cores partition core body cause.Choice shown =
     shown ≡ evidence.Choice (partition_choice number core partition) (occupant_of cores core)
 ShowsOfPartition configuration number cores partition core body cause shown = ShowsOfBody configuration number cores partition core body cause shown

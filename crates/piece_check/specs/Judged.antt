@@ -12,7 +12,7 @@ use Rattle.apex_machine.specs.After.{own_partition}
 use Rattle.apex_machine.specs.Demands.{AllHold, AllWaitAt, Demand, caller_demands, module_demands, own_call_demands, partition_demands}
 use Rattle.apex_machine.specs.Pieces.{Part, PartitionPart}
 use Rattle.apex_machine.specs.Ports.{channel_of}
-use Rattle.apex_machine.specs.State.{Partition, channel_set}
+use Rattle.apex_machine.specs.State.{Partition, channel_set, time_of}
 use Rattle.apex_machine.specs.ServiceConditions.{conditions_of}
 use Rattle.apex_machine.specs.Waiting.{restart_of}
 use Rattle.partition_state.specs.Calls.{LeavesObjects}
@@ -46,7 +46,7 @@ own_demands configuration piece core call = own_call_demands configuration piece
 -- the call goes through no channel and claims none
 pub record IsForService (configuration : Configuration) (piece : PartitionPiece) (core : ℕ) (call : CallRecord) : Type 0 where
   pub caller : AllHold (own_caller_demands configuration piece core call)
-  pub clear : conditions_of configuration call.who piece.state call.request ≡ []
+  pub clear : conditions_of configuration (time_of piece.clock.cores core) call.who piece.state call.request ≡ []
   pub through : channel_of piece.state call.request ≡ None
   pub apart : call.claim.chan ≡ None
 

@@ -1,7 +1,7 @@
 -- What callers see of a piece, and what a step needs of it.
 use Rattle.std.specs.Prelude.{◌≡◌, ℕ, ◌<◌, ◌≤◌, List, Bool, Option, Some, None, length, map, slice_index_or}
 use Rattle.apex_types.specs.declared.record.Body.{Body}
-use Rattle.apex_types.specs.declared.record.Body.TheVariants.{Arrive, Call, Depart, Ret, Disp, Tick}
+use Rattle.apex_types.specs.declared.record.Body.TheVariants.{Arrive, Call, Depart, Ret, Disp, Tick, Error}
 use Rattle.apex_machine.specs.declared.state.CoreState.{CoreState}
 use Rattle.apex_machine.specs.declared.state.Entry.{Entry}
 use Rattle.apex_machine.specs.Configuration.{Configuration}
@@ -103,6 +103,7 @@ MayTakeMemory (Disp who) = ⊥
 MayTakeMemory (Tick woken) = ⊥
 MayTakeMemory (Arrive crossing) = Unit {0}
 MayTakeMemory (Depart crossing) = Unit {0}
+MayTakeMemory (Error report) = ⊥
 
 -- only a record that may take memory is refused for a lack of it
 abbrev pub WantsWhereAllowed : Body → ObjFault → Type 0

@@ -91,6 +91,11 @@ impl ChannelPiece {
                 self.channel.release(woken.as_slice());
                 self.times.advance(ordered.core);
             }
+            Body::Error(report) => {
+                if report.restarts {
+                    self.channel.leave_all(report.who.part);
+                }
+            }
             Body::Ret(_) | Body::Disp(_) => {}
         }
         Ok(())
@@ -138,9 +143,12 @@ impl ChannelPiece {
             Body::Depart(crossing) if crossing.chan == self.channel.number() => {
                 self.channel.judge_departure(crossing)
             }
-            Body::Arrive(_) | Body::Depart(_) | Body::Tick(_) | Body::Ret(_) | Body::Disp(_) => {
-                Ok(())
-            }
+            Body::Arrive(_)
+            | Body::Depart(_)
+            | Body::Error(_)
+            | Body::Tick(_)
+            | Body::Ret(_)
+            | Body::Disp(_) => { Ok(()) }
         }
     }
 

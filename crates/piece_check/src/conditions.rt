@@ -6,6 +6,7 @@ ghost use Rattle.apex_machine.specs.Conditions.{creation_conditions, time_out_co
 ghost use Rattle.apex_machine.specs.ServiceConditions as services;
 
 mod creations;
+mod deadlines;
 mod errors;
 mod objects;
 mod port_services;
@@ -27,9 +28,14 @@ use processes::{Scheduling, caller_conditions, create_process, process_condition
 use reported::{id_conditions, status_conditions};
 use wait_set::Conditions;
 
-/// The error conditions that hold for a call of one of the partition's processes.
-pub(crate) fn conditions_of(config: &Config, state: &PartitionState, call: &Call) -> Conditions
-    ensures { result ≡ services.conditions_of config.now call.now.who state.now call.now.request }
+/// The error conditions that hold for a call of one of the partition's processes at this time of its core, in ticks.
+pub(crate) fn conditions_of(
+    config: &Config,
+    now: u64,
+    state: &PartitionState,
+    call: &Call,
+) -> Conditions
+    ensures { result ≡ services.conditions_of config.now now call.now.who state.now call.now.request }
 {
     let who = call.who;
     match &call.request {
@@ -49,7 +55,7 @@ pub(crate) fn conditions_of(config: &Config, state: &PartitionState, call: &Call
         Request::Process(process, operation) => {
             process_conditions(config, state, who, *process, operation)
         }
-        Request::Caller(operation) => caller_conditions(state, who, operation),
+        Request::Caller(operation) => caller_conditions(now, state, who, operation),
         Request::SetPartitionMode(mode) => set_mode(state.processes().mode(), *mode),
         Request::Create(name, object) => create_conditions(config, who.part, state, name, object),
         Request::Object(number, operation) => object_conditions(state, who, *number, operation),

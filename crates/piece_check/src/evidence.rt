@@ -1,10 +1,11 @@
 // What shows that a demand of a piece fails.
 
 ghost use Rattle.std.specs.Prelude.{◌≡◌, ◌↔◌, ◌+◌, ◌∷◌, ◌||◌, ℕ, List, [], Some, IsTrue, nat_le, not};
-ghost use Rattle.std.specs.List.{position_from};
+ghost use Rattle.std.specs.List.{position_from, find};
 ghost use Rattle.apex_types.specs.declared.record.Who.{Who as WhoValue};
 ghost use Rattle.apex_types.specs.declared.request.Request.TheVariants as requests;
 ghost use Rattle.apex_machine.specs.Configuration.{Configuration};
+ghost use Rattle.apex_machine.specs.Deadlines.{has_missed};
 ghost use Rattle.apex_machine.specs.Demands.{has_entry_in};
 ghost use Rattle.apex_machine.specs.Objects.{is_owner};
 ghost use Rattle.apex_machine.specs.Pieces.{time_at};
@@ -15,7 +16,7 @@ ghost use Rattle.apex_machine.specs.State.{item_at, time_of};
 ghost use Rattle.apex_machine.specs.Step.{due_of};
 ghost use Rattle.channel.specs.Held.{IsConfigured};
 ghost use Rattle.partition_state.specs.Calls.{creates};
-ghost use Rattle.piece_check.specs.Evidence.{IsEvidence, ShowsClaim, ShowsArrival, ShowsDeparted, ShowsDeparture, ShowsEnd, ShowsNames, ShowsOfBody, ShowsOfCall, ShowsOfModule, ShowsOutside, ShowsPending, ShowsPriority, ShowsSkew, ShowsThrough, ShowsWaits, channel_named, first_mutex, first_unknown, is_elsewhere, leaves_back, processes_named};
+ghost use Rattle.piece_check.specs.Evidence.{IsEvidence, ShowsClaim, ShowsArrival, ShowsDeparted, ShowsDeparture, ShowsEnd, ShowsNames, ShowsOfBody, ShowsOfCall, ShowsOfModule, ShowsOutside, ShowsPending, ShowsPriority, ShowsSkew, ShowsThrough, ShowsWaits, channel_named, first_mutex, first_unknown, is_elsewhere, leaves_back, processes_named, ShowsDeadline, ShowsMissed, ShowsOfDeadlines};
 ghost use Rattle.piece_check.specs.Held.{channel_part, partition_part};
 ghost use Rattle.piece_check.specs.Parts.{AgreesOn};
 
@@ -50,6 +51,17 @@ pub enum Evidence<'a> {
     Window {
         owner: Option<PartId>,
         occupant: Option<Who>,
+    },
+    /// Deadline, of a record that no missed deadline may come before: the first process of the core that has missed its deadline, and the
+    /// deadline, in ticks.
+    Missed {
+        who: Who,
+        deadline: u64,
+    },
+    /// Deadline, of an error: the core on which the process runs, and its deadline, in ticks, if it has one.
+    Deadline {
+        affinity: CoreId,
+        deadline: Option<u64>,
     },
     /// Choice: the choice of the core among the processes of the partition, and the core's occupant.
     Choice {
@@ -126,6 +138,7 @@ impl ModulePiece {
                 occupant: self.clock.on(core),
             },
             Cause::Window
+            | Cause::Deadline
             | Cause::Choice
             | Cause::Return
             | Cause::OutsideProfile
@@ -164,6 +177,7 @@ impl PartitionPiece {
                 choice: self.state.choice_on(self.number, core),
                 occupant: self.clock.on(core),
             },
+            Cause::Deadline => self.shown_deadline(ordered),
             Cause::Names | Cause::Skew | Cause::Idle => Evidence::Nothing,
             Cause::Return
             | Cause::OutsideProfile
@@ -176,7 +190,25 @@ impl PartitionPiece {
         }
     }
 
-    // What is shown of a record, apart from its window and its choice.
+    // What is shown of the deadlines of the partition: of an error the deadline of its process, of any other record the first that is missed.
+    fn shown_deadline(&self, ordered: &Ordered) -> Evidence<'_>
+        ensures { ShowsOfDeadlines self.now.number self.now.clock.cores self.now.state.table ordered.now.core ordered.now.rec.body result }
+    {
+        match &ordered.rec.body {
+            Body::Error(report) => shown_deadline_of(&self.state, report.who.proc),
+            Body::Call(_)
+            | Body::Ret(_)
+            | Body::Disp(_)
+            | Body::Tick(_)
+            | Body::Arrive(_)
+            | Body::Depart(_) => {
+                let now = self.clock.now(ordered.core);
+                shown_missed(&self.state, self.number, ordered.core, now)
+            }
+        }
+    }
+
+    // What is shown of a record, apart from its window, the deadlines and its choice.
     fn shown_of_body(&self, config: &Config, ordered: &Ordered, cause: Cause) -> Evidence<'_>
         ensures { ShowsOfBody config.now self.now.number self.now.clock.cores self.now.state ordered.now.core ordered.now.rec.body cause result }
     {
@@ -190,7 +222,7 @@ impl PartitionPiece {
             }
             Body::Ret(ret) => shown_pending(&self.state, ret.who.proc),
             Body::Tick(_) | Body::Arrive(_) | Body::Depart(_) => Evidence::Named,
-            Body::Disp(_) => Evidence::Nothing,
+            Body::Disp(_) | Body::Error(_) => Evidence::Nothing,
         }
     }
 
@@ -218,15 +250,16 @@ impl PartitionPiece {
             | Cause::Skew
             | Cause::Idle
             | Cause::Window
+            | Cause::Deadline
             | Cause::Choice => self.shown_claim(config, ordered, call),
         }
     }
 
     // What a call can claim.
     fn shown_claim(&self, config: &Config, ordered: &Ordered, call: &Call) -> Evidence<'_>
-        ensures { ShowsClaim (services.conditions_of config.now call.now.who self.now.state call.now.request) (channel_of self.now.state call.now.request) (creates call.now.request) (answer_of self.now.clock.cores ordered.now.core call.now.who self.now.state call.now.request) result }
+        ensures { ShowsClaim (services.conditions_of config.now (time_of self.now.clock.cores ordered.now.core) call.now.who self.now.state call.now.request) (channel_of self.now.state call.now.request) (creates call.now.request) (answer_of self.now.clock.cores ordered.now.core call.now.who self.now.state call.now.request) result }
     {
-        let conditions = conditions_of(config, &self.state, call);
+        let conditions = conditions_of(config, self.clock.now(ordered.core), &self.state, call);
         if !conditions.is_empty() {
             return Evidence::Conditions(conditions);
         }
@@ -258,13 +291,14 @@ impl ChannelPiece {
                 | Cause::Skew
                 | Cause::Idle
                 | Cause::Window
+                | Cause::Deadline
                 | Cause::Return
                 | Cause::OutsideProfile
                 | Cause::Prio => self.shown_through(ordered.core, call),
             },
             Body::Arrive(_) => self.shown_of_arrival(cause),
             Body::Depart(_) => self.shown_of_departure(cause),
-            Body::Ret(_) | Body::Disp(_) | Body::Tick(_) => Evidence::Nothing,
+            Body::Ret(_) | Body::Disp(_) | Body::Tick(_) | Body::Error(_) => Evidence::Nothing,
         }
     }
 
@@ -291,6 +325,7 @@ impl ChannelPiece {
             | Cause::Skew
             | Cause::Idle
             | Cause::Window
+            | Cause::Deadline
             | Cause::Choice
             | Cause::Return
             | Cause::OutsideProfile
@@ -311,6 +346,7 @@ impl ChannelPiece {
             | Cause::Skew
             | Cause::Idle
             | Cause::Window
+            | Cause::Deadline
             | Cause::Choice
             | Cause::Return
             | Cause::OutsideProfile
@@ -393,6 +429,7 @@ fn first_unknown_of(config: &Config, body: &Body) -> Option<Who>
             }
         }
         Body::Ret(ret) => unless_known(config, ret.who),
+        Body::Error(report) => unless_known(config, report.who),
         Body::Disp(Some(who)) => unless_known(config, *who),
         Body::Disp(None) => None,
         Body::Tick(woken) => first_unknown_among(config, woken.as_slice()),
@@ -430,7 +467,7 @@ fn channel_of_body(body: &Body) -> Option<ChanId>
     match body {
         Body::Call(call) => call.claim.chan,
         Body::Arrive(crossing) | Body::Depart(crossing) => Some(crossing.chan),
-        Body::Ret(_) | Body::Disp(_) | Body::Tick(_) => None,
+        Body::Ret(_) | Body::Disp(_) | Body::Tick(_) | Body::Error(_) => None,
     }
 }
 
@@ -452,6 +489,35 @@ fn is_left_back(now: u64, skew: u64, other: &CoreState) -> bool
         return false;
     }
     now - other.time >= skew
+}
+
+// The core and the deadline of a process.
+fn shown_deadline_of<'a>(state: &PartitionState, process: ProcId) -> Evidence<'a>
+    ensures { ShowsDeadline (item_at state.now.table process) result }
+{
+    match state.processes().proc(process) {
+        Some(found) => Evidence::Deadline {
+            affinity: found.affinity,
+            deadline: found.deadline,
+        },
+        None => Evidence::Nothing,
+    }
+}
+
+// The first process of a core that has missed its deadline at this time.
+fn shown_missed<'a>(state: &PartitionState, part: PartId, core: CoreId, now: u64) -> Evidence<'a>
+    ensures { ShowsMissed part (find (λ entry. has_missed core now entry.1) state.now.table) result }
+{
+    let Some((proc, found)) = state.processes().first_missed(core, now) else {
+        return Evidence::Nothing;
+    };
+    match found.deadline {
+        Some(deadline) => Evidence::Missed {
+            who: Who { part, proc: *proc },
+            deadline,
+        },
+        None => Evidence::Nothing,
+    }
 }
 
 // The pending outcome of a process.

@@ -10,11 +10,11 @@
 //! - For the records of a round, `Touched` lists for each piece exactly the records that touch it.
 //!
 //! The number of a piece gives its subject (`subject_of`), and the subject gives the records that touch the piece. The module's piece holds
-//! the clocks. A partition's piece holds the clocks and a `PartitionState`. It judges windows, the choice, what is due and the ticks. For a
-//! call of its own process it judges what comes before the outcome, with the error conditions and the profile; if a condition holds, it
-//! also judges the outcome. If none holds, the state judges the outcome of a call through no channel; for a call through a channel, the
-//! piece judges what the partition can see. A channel's piece holds the times and a `Channel`, which judges the outcome of the calls
-//! through it. A process leaves the channel when a tick, a STOP or a restart ends its wait.
+//! the clocks. A partition's piece holds the clocks and a `PartitionState`. It judges windows, deadlines, the choice, what is due, the ticks
+//! and the errors. For a call of its own process it judges what comes before the outcome, with the error conditions and the profile; if a
+//! condition holds, it also judges the outcome. If none holds, the state judges the outcome of a call through no channel; for a call through
+//! a channel, the piece judges what the partition can see. A channel's piece holds the times and a `Channel`, which judges the outcome of the
+//! calls through it. A process leaves the channel when a tick, a STOP or a restart ends its wait.
 //!
 //! A step requires that the part is one that records of smaller places have left (`HoldsBefore`), and that what was given for a channel
 //! is what the configuration says of it (`IsOf`). It leaves both true. Before its step a piece may pass a record by (`Piece::pass_by`):
@@ -31,10 +31,10 @@
 //! A partition gives views of its own calls and returns, the module of all other records, and a channel of nothing. A view takes no
 //! memory; it is requested only if rules are given. `Touched` is made anew for each round, in one pass, and its lists keep their memory. A
 //! call goes to the module, its caller's partition, the partitions that it names and the channel that it claims. An arrival and a departure
-//! go to the module, the partitions that they name and their channel. A return goes to the
-//! module and its partition, and a dispatch to the module and all partitions. A tick goes to all, so its index is kept once for all pieces,
-//! and a piece goes over the ticks and its own list as one (`Indices`). For a STOP that is done and for a restart all pieces are looked at,
-//! because such a call may touch channels that it does not claim.
+//! go to the module, the partitions that they name and their channel. A return and an error go to the module and their partition, and a
+//! dispatch goes to the module and all partitions. A tick goes to all, so its index is kept once for all pieces, and a piece goes over the
+//! ticks and its own list as one (`Indices`). For a STOP that is done, and for a call or an error that restarts a partition, all pieces are
+//! looked at, because such a record may touch channels that it does not name.
 //!
 //! `Windows` looks up the window of each record's core once for all pieces that judge the record (`Piece::step_at`). A piece takes such a
 //! window only if it is of the core and of the core's present time, and looks it up otherwise. So which windows are there changes no answer.

@@ -3,11 +3,11 @@
 ghost use Rattle.std.specs.Prelude.{◌≡◌, ◌≤◌, IfOk, OnOk, [], length};
 ghost use Rattle.apex_machine.specs.Pieces.{Piece, pieces};
 ghost use Rattle.piece_check.specs.Subjects.{piece_of};
-ghost use Rattle.piece_check.specs.Touching.{HasList, IsEntered, IsPut, PartitionFits, ends_with, is_claimed, is_home_of, is_of_call, is_of_crossing, is_of_return, is_same_piece, is_touched_first, list_of, slot, with_last};
+ghost use Rattle.piece_check.specs.Touching.{HasList, IsEntered, IsPut, PartitionFits, ends_with, is_claimed, is_home_of, is_of_call, is_of_crossing, is_of_own, is_same_piece, is_touched_first, list_of, slot, with_last};
 
 use crate::subject::{Subject, count, stops_some, subject_of};
 use apex_types::limits::GREATEST_CHANNEL;
-use apex_types::{Body, Call, ChanId, Crossing, Ordered, Return, Who};
+use apex_types::{Body, Call, ChanId, Crossing, Ordered, PartId, Who};
 use module_config::Config;
 use std::alloc::{AllocError, Global};
 use std::marker::Model;
@@ -90,9 +90,16 @@ impl Lists {
                     self.enter_call(index, call)
                 }
             }
-            Body::Ret(ret) => self.enter_return(index, ret),
+            Body::Ret(ret) => self.enter_own(index, ret.who.part),
             Body::Disp(_) => self.enter_first(config, config.partition_count() + 1, index, ordered),
             Body::Arrive(crossing) | Body::Depart(crossing) => self.enter_crossing(index, crossing),
+            Body::Error(report) => {
+                if report.restarts {
+                    self.enter_first(config, count(config), index, ordered)
+                } else {
+                    self.enter_own(index, report.who.part)
+                }
+            }
             Body::Tick(_) => Ok(()),
         }
     }
@@ -128,12 +135,12 @@ impl Lists {
         self.enter_channel(index, &call.claim.chan)
     }
 
-    // A return touches the module and its partition.
-    fn enter_return(&mut self, index: usize, ret: &Return) -> Result<(), AllocError>
-        ensures { OnOk result (IsPut index (is_of_return ret.now) (list_of self.old) (list_of self.new)) }
+    // A return touches the module and its partition, and so does an error that restarts no partition.
+    fn enter_own(&mut self, index: usize, part: PartId) -> Result<(), AllocError>
+        ensures { OnOk result (IsPut index (is_of_own part) (list_of self.old) (list_of self.new)) }
     {
         self.put(&Subject::Module, index)?;
-        self.put(&Subject::Partition(ret.who.part), index)
+        self.put(&Subject::Partition(part), index)
     }
 
     // An arrival and a departure touch the module, the partitions that they name, and their channel.

@@ -1,6 +1,6 @@
 // The piece of the module: configured names, the skew, and idle cores outside all windows.
 
-ghost use Rattle.std.specs.Prelude.{◌≡◌, ◌<◌, ◌∷◌, [], IfErr, IfSome, OnErr, OnOk, is_none, length};
+ghost use Rattle.std.specs.Prelude.{◌≡◌, ◌<◌, ◌∷◌, [], IfErr, IfSome, OnErr, OnOk, is_none, length, ℕ};
 ghost use Rattle.apex_types.specs.declared.limits.TheConstants.{PLACE_COUNT};
 ghost use Rattle.apex_types.specs.declared.record.Body.TheVariants as body;
 ghost use Rattle.apex_machine.specs.State.{cold_state, time_of};
@@ -11,11 +11,14 @@ ghost use Rattle.partition_state.specs.Calls.{RefusesOrWants};
 ghost use Rattle.piece_check.specs.Judged.{Judges, asked_by_module};
 ghost use Rattle.piece_check.specs.Parts.{HoldsBefore, WantsWhereAllowed};
 ghost use Rattle.piece_check.specs.Found.{IsWindowAt};
+ghost use Rattle.piece_check.specs.declared.module_piece.ModulePiece.{ModulePiece as ModulePieceValue};
 
 use crate::names::{all_configured, channel_configured, one_configured};
-use crate::views::{crossing_view, dispatch_view, tick_view};
+use crate::views::{crossing_view, dispatch_view, error_view, tick_view};
 use crate::windows::{WindowAt, window_by};
-use apex_types::{Body, Call, Cause, CoreId, Crossing, Ordered, Return, View, Who, Woken};
+use apex_types::{
+    Body, Call, Cause, CoreId, Crossing, ErrorReport, Ordered, Return, View, Who, Woken,
+};
 use module_config::Config;
 use scheduling::Clock;
 use wait_set::ObjFault;
@@ -57,7 +60,9 @@ impl ModulePiece {
         self.judge(config, ordered, window)
             .map_err(ObjFault::Unlawful)?;
         match &ordered.rec.body {
-            Body::Call(_) | Body::Ret(_) | Body::Arrive(_) | Body::Depart(_) => Ok(()),
+            Body::Call(_) | Body::Ret(_) | Body::Arrive(_) | Body::Depart(_) | Body::Error(_) => Ok(
+                (),
+            ),
             Body::Disp(who) => {
                 self.clock.dispatch(ordered.core, *who);
                 Ok(())
@@ -90,10 +95,11 @@ impl ModulePiece {
             Body::Disp(who) => self.judge_dispatch(config, core, window, *who),
             Body::Tick(woken) => self.judge_tick(config, core, window, woken),
             Body::Arrive(crossing) | Body::Depart(crossing) => judge_crossing(config, crossing),
+            Body::Error(report) => judge_error(config, report),
         }
     }
 
-    /// The view of a dispatch, a tick, an arrival or a departure, from the part before it. Takes no memory.
+    /// The view of a dispatch, a tick, an arrival, a departure or an error, from the part before it. Takes no memory.
     pub(crate) fn view(&self, ordered: &Ordered) -> Option<View>
         requires { time_of self.now.clock.cores ordered.now.core < PLACE_COUNT }
         ensures { result ≡ view_in (ModulePart self.now.clock.cores) ordered.now }
@@ -105,6 +111,7 @@ impl ModulePiece {
             Body::Tick(woken) => Some(tick_view(core, now + 1, woken)),
             Body::Arrive(crossing) => Some(crossing_view(4, core, now, crossing)),
             Body::Depart(crossing) => Some(crossing_view(5, core, now, crossing)),
+            Body::Error(report) => Some(error_view(core, now, report)),
             Body::Call(_) | Body::Ret(_) => None,
         }
     }
@@ -208,6 +215,17 @@ fn judge_crossing(config: &Config, crossing: &Crossing) -> Result<(), Cause>
     let are_configured = all_configured(config, crossing.woken.as_slice())
         && config.has_channel(crossing.chan);
     if are_configured {
+        Ok(())
+    } else {
+        Err(Cause::Names)
+    }
+}
+
+// An error is of a configured partition. The partition judges when it may be reported.
+fn judge_error(config: &Config, report: &ErrorReport) -> Result<(), Cause>
+    ensures { (piece : ModulePieceValue) (core : ℕ) → Judges (asked_by_module config.now piece core (body.Error report.now)) result }
+{
+    if config.has_partition(report.who.part) {
         Ok(())
     } else {
         Err(Cause::Names)

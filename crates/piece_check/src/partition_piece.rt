@@ -1,11 +1,11 @@
-// The piece of a partition: its windows, its choices, and the claims of its own calls and returns.
+// The piece of a partition: its windows, its deadlines, its choices, and the claims of its own calls and returns.
 
 ghost use Rattle.std.specs.Prelude.{◌≡◌, ◌<◌, ◌↔◌, [], nat_eq, IfErr, IfOk, IfSome, IsTrue, Some, None, OnOk, OnErr, length, false};
 ghost use Rattle.std.specs.Option.{option_copied};
 ghost use Rattle.apex_types.specs.declared.limits.TheConstants.{PLACE_COUNT};
 ghost use Rattle.apex_types.specs.declared.record.Body.TheVariants as body;
 ghost use Rattle.apex_machine.specs.State.{cold_state, item_at, time_of};
-ghost use Rattle.apex_machine.specs.Step.{HasNoneDue, HasPriority, due_of};
+ghost use Rattle.apex_machine.specs.Step.{HasNoneDue, HasPriority, due_of, NoneMissed};
 ghost use Rattle.apex_machine.specs.Demands.{AllHold, FirstFails, IsRunning, LocalStep, ReturnsValues, WakesHere, demands, foreign_call_demands, window_now};
 ghost use Rattle.apex_machine.specs.After.{partition_by, partition_woken};
 ghost use Rattle.apex_machine.specs.Pieces.{OfPartition, PartitionPart, part};
@@ -28,8 +28,8 @@ use crate::waking::set_woken_by;
 use crate::windows::{WindowAt, window_by};
 use apex_machine::{Outcome, WaitingSet};
 use apex_types::{
-    Body, Call, Cause, CoreId, Crossing, End, Ordered, PartId, Place, ProcId, Return, Service,
-    View, Who, Woken,
+    Body, Call, Cause, CoreId, Crossing, End, ErrorReport, Ordered, PartId, Place, ProcId, Return,
+    Service, View, Who, Woken,
 };
 use module_config::Config;
 use partition_state::PartitionState;
@@ -120,6 +120,15 @@ impl PartitionPiece {
                 self.wake_at(End::Receivers, ordered.pos, crossing, message)
             }
             Body::Depart(crossing) => self.wake_at(End::Senders, ordered.pos, crossing, &[]),
+            Body::Error(report) => match self.judge_error(config, core, window, report) {
+                Ok(()) => {
+                    if report.who.part == self.number {
+                        self.state.take_deadline(report.who.proc);
+                    }
+                    Ok(())
+                }
+                Err(cause) => Err(ObjFault::Unlawful(cause)),
+            },
             Body::Tick(woken) => match self.judge_tick(config, core, window, woken) {
                 Ok(()) => {
                     self.state.tick(self.number, ordered.pos, woken);
@@ -153,6 +162,7 @@ impl PartitionPiece {
             Body::Tick(woken) => self.judge_tick(config, core, None, woken),
             Body::Arrive(crossing) => self.judge_crossing(End::Receivers, crossing),
             Body::Depart(crossing) => self.judge_crossing(End::Senders, crossing),
+            Body::Error(report) => self.judge_error(config, core, None, report),
         }
     }
 
@@ -179,7 +189,8 @@ impl PartitionPiece {
                     None
                 }
             }
-            Body::Disp(_) | Body::Tick(_) | Body::Arrive(_) | Body::Depart(_) => None,
+            Body::Disp(_) | Body::Tick(_) | Body::Arrive(_) | Body::Depart(_) | Body::Error(_) =>
+                None,
         }
     }
 
@@ -276,11 +287,14 @@ impl PartitionPiece {
     ) -> Result<Conditions, Cause>
         requires { IfSome window (IsWindowAt config.now) }
         ensures ok { OnOk result (AllHold (own_caller_demands config.now self.now core call.now)) }
-        ensures conditions { IfOk result (λ conditions. conditions ≡ services.conditions_of config.now call.now.who self.now.state call.now.request) }
+        ensures conditions { IfOk result (λ conditions. conditions ≡ services.conditions_of config.now (time_of self.now.clock.cores core) call.now.who self.now.state call.now.request) }
         ensures refused { IfErr result (FirstFails (own_caller_demands config.now self.now core call.now)) }
     {
         if !self.is_in_window(config, core, window) {
             return Err(Cause::Window);
+        }
+        if !self.misses_none(core) {
+            return Err(Cause::Deadline);
         }
         if !self.is_running(core, call.who) {
             return Err(Cause::Choice);
@@ -288,7 +302,7 @@ impl PartitionPiece {
         if !self.has_none_due(call.who.proc) {
             return Err(Cause::Return);
         }
-        let conditions = conditions_of(config, &self.state, call);
+        let conditions = conditions_of(config, self.clock.now(core), &self.state, call);
         if !is_within(&conditions, &self.state, call.who, &call.request) {
             return Err(Cause::OutsideProfile);
         }
@@ -304,7 +318,7 @@ impl PartitionPiece {
         requires place { ordered.now.pos < PLACE_COUNT }
         requires holds_before { HoldsBefore ordered.now.pos (partition_part self.old) }
         requires caller { AllHold (own_caller_demands config.now self.old ordered.now.core call.now) }
-        requires clear { services.conditions_of config.now call.now.who self.old.state call.now.request ≡ [] }
+        requires clear { services.conditions_of config.now (time_of self.old.clock.cores ordered.now.core) call.now.who self.old.state call.now.request ≡ [] }
         requires through { channel_of self.old.state call.now.request ≡ None }
         requires apart { call.now.claim.chan ≡ None }
         ensures ok { OnOk result (AllHold (own_demands config.now self.old ordered.now.core call.now)) }
@@ -402,7 +416,7 @@ impl PartitionPiece {
         }
     }
 
-    // In the partition's windows a dispatch names its choice.
+    // In the partition's windows a dispatch finds no missed deadline, and names the partition's choice.
     fn judge_dispatch(
         &self,
         config: &Config,
@@ -413,16 +427,20 @@ impl PartitionPiece {
         requires { IfSome window (IsWindowAt config.now) }
         ensures { Judges (asked_by_partition config.now self.now core (body.Disp who)) result }
     {
-        if self.is_in_window(config, core, window)
-            && self.state.choice_on(self.number, core) != who
-        {
+        if !self.is_in_window(config, core, window) {
+            return Ok(());
+        }
+        if !self.misses_none(core) {
+            return Err(Cause::Deadline);
+        }
+        if self.state.choice_on(self.number, core) != who {
             return Err(Cause::Choice);
         }
         Ok(())
     }
 
-    // In the partition's windows a tick finds the partition's choice as the occupant. Of the partition's processes it names those that fall
-    // due.
+    // In the partition's windows a tick finds no missed deadline, and the partition's choice as the occupant. Of the partition's processes it
+    // names those that fall due.
     fn judge_tick(
         &self,
         config: &Config,
@@ -434,12 +452,7 @@ impl PartitionPiece {
         requires time { time_of self.now.clock.cores core < PLACE_COUNT }
         ensures { Judges (asked_by_partition config.now self.now core (body.Tick woken.now)) result }
     {
-        let occupant = self.clock.on(core);
-        if self.is_in_window(config, core, window)
-            && self.state.choice_on(self.number, core) != occupant
-        {
-            return Err(Cause::Choice);
-        }
+        self.judge_dispatch(config, core, window, self.clock.on(core))?;
         let next = self.clock.now(core) + 1;
         if !self
             .state
@@ -462,8 +475,13 @@ impl PartitionPiece {
         requires { IfSome window (IsWindowAt config.now) }
         ensures { Judges (foreign_call_demands config.now self.now.number self.now.clock.cores self.now.state core call.now) result }
     {
-        if self.is_in_window(config, core, window) && !self.is_running(core, call.who) {
-            return Err(Cause::Choice);
+        if self.is_in_window(config, core, window) {
+            if !self.misses_none(core) {
+                return Err(Cause::Deadline);
+            }
+            if !self.is_running(core, call.who) {
+                return Err(Cause::Choice);
+            }
         }
         if !self.wakes_here(call) {
             return Err(Cause::Woken);
@@ -498,6 +516,9 @@ impl PartitionPiece {
         if !self.is_in_window(config, core, window) {
             return Err(Cause::Window);
         }
+        if !self.misses_none(core) {
+            return Err(Cause::Deadline);
+        }
         if !self.is_running(core, ret.who) {
             return Err(Cause::Choice);
         }
@@ -517,6 +538,38 @@ impl PartitionPiece {
             return Err(Cause::Data);
         }
         Ok(())
+    }
+
+    // A missed deadline is reported in a window of the partition and on the core of its process, and restarts no partition.
+    fn judge_error(
+        &self,
+        config: &Config,
+        core: CoreId,
+        window: Option<WindowAt>,
+        report: &ErrorReport,
+    ) -> Result<(), Cause>
+        requires { IfSome window (IsWindowAt config.now) }
+        ensures { Judges (asked_by_partition config.now self.now core (body.Error report.now)) result }
+    {
+        if !self.is_in_window(config, core, window) {
+            return Err(Cause::Window);
+        }
+        let now = self.clock.now(core);
+        if !self.state.processes().is_missed(report.who.proc, core, now) {
+            return Err(Cause::Deadline);
+        }
+        if report.restarts {
+            return Err(Cause::Out);
+        }
+        Ok(())
+    }
+
+    // Whether no process of the partition that runs on this core has missed its deadline.
+    fn misses_none(&self, core: CoreId) -> bool
+        ensures { IsTrue result ↔ NoneMissed self.now.clock.cores core self.now.state }
+    {
+        let now = self.clock.now(core);
+        !self.state.processes().is_some_missed(core, now)
     }
 
     // Whether the core's present window is the partition's.

@@ -70,8 +70,8 @@ impl Subject {
     }
 }
 
-// Whether a record touches the partition of this number: each tick and each dispatch touches it, and so do its own calls and returns and a
-// call, an arrival or a departure that names one of its processes.
+// Whether a record touches the partition of this number: each tick and each dispatch touches it, and so do its own calls and returns, the
+// errors of its processes, and a call, an arrival or a departure that names one of its processes.
 fn touches_partition(number: PartId, body: &Body) -> bool
     ensures { (configuration : Configuration) → result ≡ touched_by configuration body.now (OfPartition number) }
 {
@@ -81,6 +81,7 @@ fn touches_partition(number: PartId, body: &Body) -> bool
             call.who.part == number || names_one_of(call.claim.woken.as_slice(), number)
         }
         Body::Ret(ret) => ret.who.part == number,
+        Body::Error(report) => report.who.part == number,
         Body::Arrive(crossing) | Body::Depart(crossing) => {
             names_one_of(crossing.woken.as_slice(), number)
         }
@@ -98,6 +99,7 @@ fn touches_channel(config: &Config, number: ChanId, body: &Body) -> bool
             call.claim.chan == Some(number) || stops_at_end(config, number, call)
         }
         Body::Arrive(crossing) | Body::Depart(crossing) => crossing.chan == number,
+        Body::Error(report) => { report.restarts && config.is_at_end(number, report.who.part) }
         Body::Ret(_) | Body::Disp(_) => false,
     }
 }

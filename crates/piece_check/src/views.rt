@@ -7,7 +7,7 @@ ghost use Rattle.apex_machine.specs.Views as rules;
 ghost use Rattle.apex_machine.specs.Views.{core_view, elapsed_field, priority_field, value_number, who_field};
 
 use apex_machine::Process;
-use apex_types::{Call, CoreId, Crossing, Return, View, Who, Woken};
+use apex_types::{Call, CoreId, Crossing, ErrorReport, Out, Return, View, Who, Woken};
 
 /// The number of a field that the record does not have.
 const ABSENT: i64 = -1;
@@ -109,6 +109,37 @@ pub(crate) fn crossing_view(kind: i64, core: CoreId, now: u64, crossing: &Crossi
         val: ABSENT,
         elapsed: ABSENT,
         woken: count_field(&crossing.woken),
+    }
+}
+
+/// The view of an error, at this time of its core.
+pub(crate) fn error_view(core: CoreId, now: u64, report: &ErrorReport) -> View
+    requires { now < PLACE_COUNT }
+    ensures { result ≡ rules.error_view core now report.now }
+{
+    View {
+        kind: 6,
+        core: i64::from(core.number()),
+        time: now as i64,
+        part: i64::from(report.who.part.number()),
+        proc: i64::from(report.who.proc.number()),
+        service: ABSENT,
+        prio: ABSENT,
+        out: restart_field(report.restarts),
+        val: ABSENT,
+        elapsed: ABSENT,
+        woken: 0,
+    }
+}
+
+// The outcome of an error: that of a call that does not return, if the error restarts its partition.
+fn restart_field(restarts: bool) -> i64
+    ensures { result ≡ rules.restart_field restarts }
+{
+    if restarts {
+        i64::from(Out::Never.number())
+    } else {
+        ABSENT
     }
 }
 

@@ -31,6 +31,6 @@ pub(crate) fn set_woken_by_record(body: &Body) -> Option<WaitingSet>
         Body::Call(call) => set_woken_by(call),
         Body::Arrive(crossing) => Some(WaitingSet::of_channel(crossing.chan, End::Receivers)),
         Body::Depart(crossing) => Some(WaitingSet::of_channel(crossing.chan, End::Senders)),
-        Body::Ret(_) | Body::Disp(_) | Body::Tick(_) => None,
+        Body::Ret(_) | Body::Disp(_) | Body::Tick(_) | Body::Error(_) => None,
     }
 }

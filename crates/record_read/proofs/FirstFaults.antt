@@ -17,7 +17,7 @@ use Rattle.record_read.specs.Column.{columns_between}
 use Rattle.record_read.specs.declared.column.Column.{Column}
 use Rattle.record_read.specs.declared.column.Column.TheVariants as column
 use Rattle.record_read.specs.declared.fault.RowFault.{RowFault}
-use Rattle.record_read.specs.declared.fault.RowFault.TheVariants.{BadHex, BadKind, BadLength, BadName, BadNumber, BadOut, BadService, BadWoken, FieldCount, FieldNotForKind, Memory, SeqGap, TooMany}
+use Rattle.record_read.specs.declared.fault.RowFault.TheVariants.{BadHex, BadKind, BadLength, BadName, BadNumber, BadOut, BadService, BadWoken, FieldCount, FieldNotForKind, Memory, SeqGap, TooMany, BadError}
 use Rattle.record_read.specs.declared.misread.Misread.{Misread}
 use Rattle.apex_types.specs.declared.format.Format.{Format}
 use Rattle.apex_types.specs.declared.format.Format.TheVariants as format
@@ -25,19 +25,19 @@ use Rattle.record_read.specs.declared.kind.Kind.{Kind}
 use Rattle.record_read.specs.declared.kind.Kind.TheVariants as kind
 use Rattle.apex_types.specs.Services.{arguments_of}
 use Rattle.record_read.specs.Field.{all_empty, argument, empty, filled, maybe, maybe_argument, maybe_number, maybe_signed, number, signed, text_at}
-use Rattle.record_read.specs.FirstFault.{ArgumentFault, ArrivalFault, At, CallFault, ClaimFault, DepartureFault, DispatchFault, DispatchedFault, FaultOf, HoldsCode, HoldsKind, HoldsNone, IsMisread, MayHoldNumber, MessageFault, MustAllBeEmpty, MustBeBytes, MustBeEmpty, MustBeGiven, MustBeMessageIf, MustHold, MustHoldIf, MustHoldNumber, NameFault, OtherNumber, ProcessFault, RequestFault, ReturnFault, SentFault, TickFault, ◌or_else◌}
+use Rattle.record_read.specs.FirstFault.{ArgumentFault, ArrivalFault, At, CallFault, ClaimFault, DepartureFault, DispatchFault, DispatchedFault, FaultOf, HoldsCode, HoldsKind, HoldsNone, IsMisread, MayHoldNumber, MessageFault, MustAllBeEmpty, MustBeBytes, MustBeEmpty, MustBeGiven, MustBeMessageIf, MustHold, MustHoldIf, MustHoldNumber, NameFault, OtherNumber, ProcessFault, RequestFault, ReturnFault, SentFault, TickFault, ◌or_else◌, ErrorFault, HoldsError}
 use Rattle.apex_types.specs.Format.{field_count}
-use Rattle.record_read.specs.Grammar.{GoesWith, HoldsName, HoldsNumber, HoldsOutcome, HoldsProcesses, HoldsService, HoldsSigned, MayHold, Row}
+use Rattle.record_read.specs.Grammar.{GoesWith, HoldsName, HoldsNumber, HoldsOutcome, HoldsProcesses, HoldsService, HoldsSigned, MayHold, Row, HoldsRestart}
 use Rattle.record_read.specs.GrammarLaws.{FaultsAreOfRows, FirstFaultsDecide}
 use Rattle.record_read.specs.Memory.{NeedsMemory}
-use Rattle.record_read.specs.Named.{code_named, code_of, kind_in, kind_of, out_named, out_of, service_in, service_of}
+use Rattle.record_read.specs.Named.{code_named, code_of, kind_in, kind_of, out_named, out_of, service_in, service_of, error_named, error_of, restart_of}
 use Rattle.record_read.specs.Payload.{from_hex, goes_with, maybe_message, message_in, message_of, name_in, name_of, required_message}
-use Rattle.record_read.specs.Row.{arrival_in, body_in, call_in, claim_in, departure_in, dispatch_in, proc_of, record_of, request_in, return_in, row_in, tick_in, who_in}
+use Rattle.record_read.specs.Row.{arrival_in, body_in, call_in, claim_in, departure_in, dispatch_in, proc_of, record_of, request_in, return_in, row_in, tick_in, who_in, error_in}
 use Rattle.record_read.specs.Steps.{◌>>=◌, IsOfRow, Refuses, RefusesAt, fault_only, located, misread_at, no_field}
 use Rattle.record_read.specs.Woken.{woken_of}
 use Rattle.record_read.proofs.GrammarFields.{argument_holds, holds_argument, holds_number, holds_signed, maybe_number_holds, number_holds, same_ok, signed_holds, no_fault}
 use Rattle.record_read.proofs.GrammarLists.{hold_processes, processes_hold}
-use Rattle.record_read.proofs.GrammarNames.{code_is, is_code, is_kind, is_outcome, is_service, kind_is, outcome_is, service_is}
+use Rattle.record_read.proofs.GrammarNames.{code_is, is_code, is_kind, is_outcome, is_service, kind_is, outcome_is, service_is, error_is, is_error, is_restart, restart_is}
 use Rattle.record_read.proofs.GrammarTexts.{holds_name, length_decides, name_holds}
 
 -- a step has a fault exactly if a relation says so, and one that it may have
@@ -320,6 +320,18 @@ out_fails : (text : List ℕ) → Fails (out_of text) (MustHold BadOut HoldsOutc
 unfolding out_of filled
 out_fails text = must_hold out_of BadOut HoldsOutcome text tt refl (λ b bs e same. or_bad (out_named (b ∷ bs)) BadOut e same) (outcome_is text) (is_outcome text)
 
+error_fails : (text : List ℕ) → Fails (error_of text) (MustHold BadError HoldsError text)
+unfolding error_of filled
+error_fails text = must_hold error_of BadError HoldsError text tt refl (λ b bs e same. or_bad (error_named (b ∷ bs)) BadError e same) (error_is text) (is_error text)
+
+restart_fails : (text : List ℕ) → Fails (restart_of text) (HoldsNone BadOut HoldsRestart text)
+unfolding restart_of
+restart_fails text = none_held (restart_of text) BadOut HoldsRestart text tt (only text) (restart_is text) (is_restart text)
+  where
+    only : (text : List ℕ) (e : RowFault) → restart_of text ≡ Err e → e ≡ BadOut
+    only [] e same = no_value _ e same
+    only (b ∷ bs) e same = test_bad _ true BadOut e same
+
 woken_fails : (text : List ℕ) → Fails (woken_of text) (HoldsNone BadWoken HoldsProcesses text)
 unfolding woken_of
 woken_fails text = none_held (woken_of text) BadWoken HoldsProcesses text tt (only text) (processes_hold text) (hold_processes text)
@@ -462,6 +474,15 @@ departure_fails fields =
     field_step _ _ _ _ _ _ (woken_fails (text_at fields column.Woken)) (λ woken is.
     last_step _ _ _ (all_empty_fail fields (columns_between column.SecondValue column.Error))))))
 
+report_fails : (fields : Fields) → FailsAt (error_in fields) (ErrorFault (text_at fields))
+unfolding error_in
+report_fails fields =
+    step _ _ _ _ (who_fails fields) (λ who is.
+    step _ _ _ _ (all_empty_fail fields (columns_between column.Service column.Priority)) (λ unused is.
+    field_step _ _ _ _ _ _ (restart_fails (text_at fields column.Outcome)) (λ restarts is.
+    step _ _ _ _ (all_empty_fail fields (columns_between column.Value column.ThirdValue)) (λ unused_too is.
+    last_field _ _ _ _ _ (error_fails (text_at fields column.Error))))))
+
 body_fails : (format : Format) (which : Kind) (fields : Fields) → FailsAt (body_in format which fields) (FaultOf which format (text_at fields))
 unfolding body_in
 body_fails format kind.Call fields = last_step _ _ _ (call_fails format fields)
@@ -470,6 +491,7 @@ body_fails format kind.Disp fields = last_step _ _ _ (dispatch_fails fields)
 body_fails format kind.Tick fields = last_step _ _ _ (tick_fails fields)
 body_fails format kind.Arrive fields = last_step _ _ _ (arrival_fails fields)
 body_fails format kind.Depart fields = last_step _ _ _ (departure_fails fields)
+body_fails format kind.Error fields = last_step _ _ _ (report_fails fields)
 
 -- the number of a row
 seq_fails : (next given : ℕ) (fields : Fields) → number (MOST_RECORDS - 1) (text_at fields column.Sequence) ≡ Ok given

@@ -1,5 +1,5 @@
 -- What is given by its name: a step of the reader gives it exactly if the field is its name.
-use Rattle.std.proofs.Common.{◌≡◌, ◌∙◌, ℕ, List, [], ◌∷◌, Bool, true, false, Option, Some, None, Ok, refl, sym, ap, subst, if◌then◌else◌}
+use Rattle.std.proofs.Common.{◌≡◌, ◌∙◌, ℕ, List, [], ◌∷◌, Bool, true, false, Option, Some, None, Ok, Err, refl, sym, ap, subst, if◌then◌else◌}
 use Rattle.std.specs.Prelude.{IsTrue, codes, option_map}
 use Rattle.std.specs.List.{find, list_all}
 use Rattle.std.specs.Str.{bytes_eq}
@@ -15,16 +15,19 @@ use Rattle.apex_types.specs.declared.service.Service.TheVariants as service
 use Rattle.apex_types.specs.declared.service.TheConstants.{SERVICES}
 use Rattle.apex_types.specs.CodeName as CodeName
 use Rattle.apex_types.specs.Services as Services
-use Rattle.record_read.specs.declared.fault.RowFault.TheVariants.{BadKind, BadOut, BadService, FieldNotForKind}
+use Rattle.record_read.specs.declared.fault.RowFault.TheVariants.{BadError, BadKind, BadOut, BadService, FieldNotForKind}
 use Rattle.apex_types.specs.declared.format.Format.{Format}
 use Rattle.record_read.specs.declared.kind.Kind.{Kind}
 use Rattle.record_read.specs.declared.kind.Kind.TheVariants as kind
 use Rattle.apex_types.specs.Services.{is_in}
 use Rattle.record_read.specs.Field.{filled}
 use Rattle.record_read.specs.FirstFault.{HoldsKind}
-use Rattle.record_read.specs.Grammar.{HoldsOutcome, HoldsService}
-use Rattle.record_read.specs.Named.{all_codes, code_named, code_of, has_kind, kind_in, kind_name, kind_named, kind_of, out_named, out_of, service_among, service_in, service_named, service_of}
-use Rattle.record_read.proofs.GrammarFields.{found_first, no_fault, ok_some}
+use Rattle.record_read.specs.Grammar.{HoldsOutcome, HoldsService, HoldsRestart}
+use Rattle.record_read.specs.Named.{all_codes, all_errors, code_named, code_of, has_kind, kind_in, kind_name, kind_named, kind_of, out_named, out_of, service_among, service_in, service_named, service_of, error_named, error_of, restart_of}
+use Rattle.record_read.proofs.GrammarFields.{found_first, no_fault, ok_some, same_ok}
+use Rattle.apex_types.specs.ErrorName as ErrorName
+use Rattle.apex_types.specs.declared.error.ErrorCode.{ErrorCode}
+use Rattle.apex_types.specs.declared.error.ErrorCode.TheVariants as error
 
 -- the first of two finds: the text has the first name and this is what it names, or the second find gives it
 first_is : {A : Type 0} (name text : List ℕ) (named : A) (others : Option A) (found : A) (Holds : A → Type 0) → (name ≡ text → Holds named)
@@ -44,8 +47,9 @@ kind_named_is text k e =
     (first_is text (codes "disp") kind.Disp _ k (λ found. text ≡ kind_name found) (λ same. same)
     (first_is text (codes "tick") kind.Tick _ k (λ found. text ≡ kind_name found) (λ same. same)
     (first_is text (codes "arrive") kind.Arrive _ k (λ found. text ≡ kind_name found) (λ same. same)
-    (first_is text (codes "depart") kind.Depart None k (λ found. text ≡ kind_name found) (λ same. same)
-    (λ none. absurd (none-some k none))))))) e
+    (first_is text (codes "depart") kind.Depart _ k (λ found. text ≡ kind_name found) (λ same. same)
+    (first_is text (codes "err") kind.Error None k (λ found. text ≡ kind_name found) (λ same. same)
+    (λ none. absurd (none-some k none)))))))) e
 
 -- a field that is read as a kind is its name, and the kind is in the format
 pub kind_is : (format : Format) (text : List ℕ) (k : Kind) → kind_of format text ≡ Ok k → HoldsKind format text k
@@ -121,6 +125,44 @@ of_code_name _ = refl
 -- a field that is the name of a code is read as it
 pub is_code : (text : List ℕ) (c : Code) → text ≡ CodeName.name_of c → code_of text ≡ Ok c
 is_code text c e = ap code_of e ∙ of_code_name c
+
+-- a text that names an error among some is its name
+error_among_is : (errors : List ErrorCode) (text : List ℕ) (e : ErrorCode) → find (λ other. bytes_eq (ErrorName.name_of other) text) errors ≡ Some e → text ≡ ErrorName.name_of e
+error_among_is [] text e found = absurd (none-some e found)
+error_among_is (first ∷ others) text e found =
+    first_is (ErrorName.name_of first) text first (find (λ other. bytes_eq (ErrorName.name_of other) text) others) e (λ named. text ≡ ErrorName.name_of named) sym (error_among_is others text e) found
+
+-- a field that is read as an error is its name
+pub error_is : (text : List ℕ) (e : ErrorCode) → error_of text ≡ Ok e → text ≡ ErrorName.name_of e
+unfolding error_of filled
+error_is [] e read = no_fault FieldNotForKind e read
+error_is (b ∷ bs) e read = error_among_is all_errors (b ∷ bs) e (ok_some (error_named (b ∷ bs)) BadError e read)
+
+-- the name of an error names it
+of_error_name : (e : ErrorCode) → error_of (ErrorName.name_of e) ≡ Ok e
+unfolding error_of filled
+of_error_name error.DeadlineMissed = refl
+
+-- a field that is the name of an error is read as it
+pub is_error : (text : List ℕ) (e : ErrorCode) → text ≡ ErrorName.name_of e → error_of text ≡ Ok e
+is_error text e same = ap error_of same ∙ of_error_name e
+
+-- a field that says whether an error restarts its partition holds what is read
+pub restart_is : (text : List ℕ) (restarts : Bool) → restart_of text ≡ Ok restarts → HoldsRestart text restarts
+unfolding restart_of
+restart_is [] false e = refl
+restart_is [] true e = absurd (let f : false ≡ true = same_ok false true e in cc)
+restart_is (b ∷ bs) restarts e = by (bytes_eq (b ∷ bs) (codes "none")) refl e
+  where
+    by : (same : Bool) → bytes_eq (b ∷ bs) (codes "none") ≡ same → (if same then Ok true else Err BadOut) ≡ Ok restarts → HoldsRestart (b ∷ bs) restarts
+    by true same e = subst (HoldsRestart (b ∷ bs)) (same_ok true restarts e) ((bytes_eq-Decides (b ∷ bs) (codes "none")).0 same)
+    by false same e = no_fault BadOut restarts e
+
+-- a field that holds whether an error restarts its partition is read as it
+pub is_restart : (text : List ℕ) (restarts : Bool) → HoldsRestart text restarts → restart_of text ≡ Ok restarts
+unfolding restart_of
+is_restart text true h = rw h refl
+is_restart text false h = rw h refl
 
 -- a text that names a code holds that code as its outcome
 answer_is : (text : List ℕ) (o : Out) (found : Option Code) → code_named text ≡ found → option_map out.Answer found ≡ Some o → HoldsOutcome text o

@@ -27,15 +27,16 @@ use Rattle.apex_types.specs.Services.{arguments_of}
 use Rattle.apex_types.specs.Arguments.{request_of}
 use Rattle.record_read.specs.Field.{all_empty, empty, empty_between, maybe_number, text_at}
 use Rattle.apex_types.specs.Format.{field_count}
-use Rattle.record_read.specs.Grammar.{AreEmpty, Dispatches, HasRowsOf, HoldsClaim, HoldsNumber, HoldsRequest, IsRow, IsRowOf, IsRowOfArrival, IsRowOfCall, IsRowOfDeparture, IsRowOfDispatch, IsRowOfReturn, IsRowOfTick, NamesProcess}
+use Rattle.record_read.specs.Grammar.{AreEmpty, Dispatches, HasRowsOf, HoldsClaim, HoldsNumber, HoldsRequest, IsRow, IsRowOf, IsRowOfArrival, IsRowOfCall, IsRowOfDeparture, IsRowOfDispatch, IsRowOfReturn, IsRowOfTick, NamesProcess, IsRowOfError}
 use Rattle.record_read.specs.GrammarLaws.{OneRecordOfARow, RowsAreTheGrammar}
 use Rattle.record_read.specs.Named.{has_kind, kind_name}
-use Rattle.record_read.specs.Row.{arrival_in, body_in, call_in, claim_in, departure_in, dispatch_in, proc_of, record_of, request_in, return_in, row_in, tick_in, who_in}
+use Rattle.record_read.specs.Row.{arrival_in, body_in, call_in, claim_in, departure_in, dispatch_in, proc_of, record_of, request_in, return_in, row_in, tick_in, who_in, error_in}
 use Rattle.record_read.specs.Steps.{◌>>=◌, fault_only, no_field}
 use Rattle.record_read.proofs.GrammarFields.{argument_holds, empty_is, field_ok, holds_argument, holds_maybe_number, holds_maybe_signed, holds_number, maybe_number_holds, maybe_signed_holds, no_fault, number_holds, same_ok, step_ok, test_ok}
 use Rattle.record_read.proofs.GrammarLists.{hold_processes, processes_hold}
-use Rattle.record_read.proofs.GrammarNames.{code_is, is_code, is_kind, is_outcome, is_service, kind_is, outcome_is, service_is}
+use Rattle.record_read.proofs.GrammarNames.{code_is, is_code, is_kind, is_outcome, is_service, kind_is, outcome_is, service_is, error_is, is_error, is_restart, restart_is}
 use Rattle.record_read.proofs.GrammarTexts.{data_holds, holds_data, holds_message, holds_name, holds_passing, message_holds, name_holds, passing_holds}
+use Rattle.apex_types.specs.declared.record.ErrorReport.{ErrorReport}
 
 -- fields without a fault that must be empty are empty
 all_are_empty : (fields : Fields) (columns : List Column) → all_empty fields columns ≡ Ok tt → AreEmpty (map (text_at fields) columns)
@@ -371,6 +372,36 @@ is_departure fields crossing h =
       are_empty_between fields column.SecondValue column.Error (later_empty front back unused),
     ) refl
 
+-- a row of this kind that is read as an error is its row
+report_is : (fields : Fields) (report : ErrorReport) → text_at fields column.Kind ≡ codes "err" → error_in fields ≡ Ok report → IsRowOfError (text_at fields) report
+unfolding error_in
+report_is fields report named e =
+    let who = step_ok _ _ report e in
+    let unused = step_ok _ _ report who.2 in
+    let restarts = field_ok _ _ _ report unused.2 in
+    let unused_too = step_ok _ _ report restarts.2 in
+    let error = field_ok _ _ _ report unused_too.2 in
+    subst (IsRowOfError (text_at fields)) (same_ok (record { who = who.0; error = error.0; restarts = restarts.0 }) report error.2) (record {
+      kind = named;
+      who = who_is fields who.0 who.1;
+      restarts = restart_is (text_at fields column.Outcome) restarts.0 restarts.1;
+      error = error_is (text_at fields column.Error) error.0 error.1;
+      unused = all_are_empty fields _ unused.1;
+      unused_too = all_are_empty fields _ unused_too.1;
+    })
+
+-- the row of an error is read as the error
+is_report : (fields : Fields) (report : ErrorReport) → IsRowOfError (text_at fields) report → error_in fields ≡ Ok report
+unfolding error_in
+is_report fields report h =
+    rw (
+      is_who fields report.who h.who,
+      are_empty_between fields column.Service column.Priority h.unused,
+      is_restart (text_at fields column.Outcome) report.restarts h.restarts,
+      are_empty_between fields column.Value column.ThirdValue h.unused_too,
+      is_error (text_at fields column.Error) report.error h.error,
+    ) refl
+
 -- the kind of the row of something recorded
 abbrev pub kind_recorded : Body → Kind
 kind_recorded (body.Call call) = kind.Call
@@ -379,6 +410,7 @@ kind_recorded (body.Disp who) = kind.Disp
 kind_recorded (body.Tick woken) = kind.Tick
 kind_recorded (body.Arrive crossing) = kind.Arrive
 kind_recorded (body.Depart crossing) = kind.Depart
+kind_recorded (body.Error report) = kind.Error
 
 -- what is made of a value that was read is of the kind that all that is made has
 made_of_kind : {A : Type 0} (read : Result A Misread) (made : A → Body) (k : Kind) (b : Body) → ((x : A) → kind_recorded (made x) ≡ k)
@@ -395,6 +427,7 @@ kind_kept which fields kind.Disp b e = made_of_kind (dispatch_in fields) body.Di
 kind_kept which fields kind.Tick b e = made_of_kind (tick_in fields) body.Tick kind.Tick b (λ woken. refl) e
 kind_kept which fields kind.Arrive b e = made_of_kind (arrival_in fields) body.Arrive kind.Arrive b (λ crossing. refl) e
 kind_kept which fields kind.Depart b e = made_of_kind (departure_in fields) body.Depart kind.Depart b (λ crossing. refl) e
+kind_kept which fields kind.Error b e = made_of_kind (error_in fields) body.Error kind.Error b (λ report. refl) e
 
 -- a format that has the kind of a record has the rows of it
 has_rows : (which : Format) (b : Body) → IsTrue (has_kind which (kind_recorded b)) → HasRowsOf which b
@@ -405,12 +438,14 @@ has_rows format.One (body.Disp who) known = tt
 has_rows format.One (body.Tick woken) known = tt
 has_rows format.One (body.Arrive crossing) known = absurd (let f : false ≡ true = known in cc)
 has_rows format.One (body.Depart crossing) known = absurd (let f : false ≡ true = known in cc)
+has_rows format.One (body.Error report) known = absurd (let f : false ≡ true = known in cc)
 has_rows format.Two (body.Call call) known = tt
 has_rows format.Two (body.Ret ret) known = tt
 has_rows format.Two (body.Disp who) known = tt
 has_rows format.Two (body.Tick woken) known = tt
 has_rows format.Two (body.Arrive crossing) known = absurd (let f : false ≡ true = known in cc)
 has_rows format.Two (body.Depart crossing) known = absurd (let f : false ≡ true = known in cc)
+has_rows format.Two (body.Error report) known = absurd (let f : false ≡ true = known in cc)
 
 -- a format that has the rows of a record has the kind of it
 rows_had : (which : Format) (b : Body) → HasRowsOf which b → IsTrue (has_kind which (kind_recorded b))
@@ -420,18 +455,21 @@ rows_had format.Three (body.Disp who) has = refl
 rows_had format.Three (body.Tick woken) has = refl
 rows_had format.Three (body.Arrive crossing) has = refl
 rows_had format.Three (body.Depart crossing) has = refl
+rows_had format.Three (body.Error report) has = refl
 rows_had format.One (body.Call call) has = refl
 rows_had format.One (body.Ret ret) has = refl
 rows_had format.One (body.Disp who) has = refl
 rows_had format.One (body.Tick woken) has = refl
 rows_had format.One (body.Arrive crossing) has = absurd has
 rows_had format.One (body.Depart crossing) has = absurd has
+rows_had format.One (body.Error report) has = absurd has
 rows_had format.Two (body.Call call) has = refl
 rows_had format.Two (body.Ret ret) has = refl
 rows_had format.Two (body.Disp who) has = refl
 rows_had format.Two (body.Tick woken) has = refl
 rows_had format.Two (body.Arrive crossing) has = absurd has
 rows_had format.Two (body.Depart crossing) has = absurd has
+rows_had format.Two (body.Error report) has = absurd has
 
 -- a row of a kind that is read as something recorded is its row
 body_is : (format : Format) (fields : Fields) (k : Kind) (b : Body) → text_at fields column.Kind ≡ kind_name k → body_in format k fields ≡ Ok b → IsRowOf format (text_at fields) b
@@ -448,6 +486,8 @@ body_is format fields kind.Arrive b named e =
     let crossing = step_ok _ _ b e in subst (IsRowOf format (text_at fields)) (same_ok (body.Arrive crossing.0) b crossing.2) (arrival_is fields crossing.0 named crossing.1)
 body_is format fields kind.Depart b named e =
     let crossing = step_ok _ _ b e in subst (IsRowOf format (text_at fields)) (same_ok (body.Depart crossing.0) b crossing.2) (departure_is fields crossing.0 named crossing.1)
+body_is format fields kind.Error b named e =
+    let report = step_ok _ _ b e in subst (IsRowOf format (text_at fields)) (same_ok (body.Error report.0) b report.2) (report_is fields report.0 named report.1)
 
 -- the row of something recorded names its kind, and is read as a row of that kind
 is_body : (format : Format) (fields : Fields) (b : Body) → IsRowOf format (text_at fields) b
@@ -459,6 +499,7 @@ is_body format fields (body.Disp who) h = (h.kind, rw (is_dispatch fields who h)
 is_body format fields (body.Tick named) h = (h.kind, rw (is_tick fields named h) refl)
 is_body format fields (body.Arrive crossing) h = (h.kind, rw (is_arrival fields crossing h) refl)
 is_body format fields (body.Depart crossing) h = (h.kind, rw (is_departure fields crossing h) refl)
+is_body format fields (body.Error report) h = (h.kind, rw (is_report fields report h) refl)
 
 -- a test that let a value through
 test_then : {A Fault : Type 0} (test : Bool) (fault : Fault) (read : Result A Fault) (y : A) → (if test then read else Err fault) ≡ Ok y → (test ≡ true) × (read ≡ Ok y)

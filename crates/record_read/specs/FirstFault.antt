@@ -5,6 +5,8 @@ use Rattle.hex.specs.Hex.{decode_of}
 use Rattle.csv_rows.specs.Stream.{Fields}
 use Rattle.apex_types.specs.declared.limits.TheConstants.{GREATEST_CHANNEL, GREATEST_NUMBER, GREATEST_PARTITION, GREATEST_PRIORITY, LONGEST_MESSAGE, MOST_RECORDS}
 use Rattle.apex_types.specs.CodeName as CodeName
+use Rattle.apex_types.specs.ErrorName as ErrorName
+use Rattle.apex_types.specs.declared.error.ErrorCode.{ErrorCode}
 use Rattle.apex_types.specs.declared.code.Code.{Code}
 use Rattle.apex_types.specs.declared.service.Numbers.{Numbers}
 use Rattle.apex_types.specs.declared.service.Presence.{Presence}
@@ -13,7 +15,7 @@ use Rattle.apex_types.specs.declared.service.Service.{Service}
 use Rattle.record_read.specs.declared.column.Column.{Column}
 use Rattle.record_read.specs.declared.column.Column.TheVariants as column
 use Rattle.record_read.specs.declared.fault.RowFault.{RowFault}
-use Rattle.record_read.specs.declared.fault.RowFault.TheVariants.{BadHex, BadKind, BadLength, BadName, BadNumber, BadOut, BadService, BadWoken, FieldCount, FieldNotForKind, SeqGap, TooMany}
+use Rattle.record_read.specs.declared.fault.RowFault.TheVariants.{BadError, BadHex, BadKind, BadLength, BadName, BadNumber, BadOut, BadService, BadWoken, FieldCount, FieldNotForKind, SeqGap, TooMany}
 use Rattle.record_read.specs.declared.misread.Misread.{Misread}
 use Rattle.apex_types.specs.declared.format.Format.{Format}
 use Rattle.apex_types.specs.declared.format.Format.TheVariants as format
@@ -23,7 +25,7 @@ use Rattle.apex_types.specs.Services.{arguments_of}
 use Rattle.apex_types.specs.Format.{field_count}
 use Rattle.record_read.specs.Column.{columns_between}
 use Rattle.record_read.specs.Field.{text_at}
-use Rattle.record_read.specs.Grammar.{GoesWith, HoldsArgument, HoldsName, HoldsNumber, HoldsOutcome, HoldsProcesses, HoldsService, HoldsSigned, MayHold, Row}
+use Rattle.record_read.specs.Grammar.{GoesWith, HoldsArgument, HoldsName, HoldsNumber, HoldsOutcome, HoldsProcesses, HoldsRestart, HoldsService, HoldsSigned, MayHold, Row}
 use Rattle.record_read.specs.Named.{has_kind, kind_name}
 use Rattle.record_read.specs.Steps.{no_field}
 
@@ -215,6 +217,19 @@ DepartureFault row =
     or_else At column.Data MustBeGiven row
     or_else PassingFault row
 
+-- the name of an error
+abbrev pub HoldsError : List ℕ → ErrorCode → Type 0
+HoldsError text error = text ≡ ErrorName.name_of error
+
+-- the fields of an error after its kind
+abbrev pub ErrorFault : Row → Misread → Type 0
+ErrorFault row =
+    ProcessFault row
+    or_else MustAllBeEmpty (columns_between column.Service column.Priority) row
+    or_else At column.Outcome (HoldsNone BadOut HoldsRestart) row
+    or_else MustAllBeEmpty (columns_between column.Value column.ThirdValue) row
+    or_else At column.Error (MustHold BadError HoldsError) row
+
 -- the fields after the kind
 abbrev pub FaultOf : Kind → Format → Row → Misread → Type 0
 FaultOf kind.Call format row misread = CallFault format row misread
@@ -223,6 +238,7 @@ FaultOf kind.Disp format row misread = DispatchFault row misread
 FaultOf kind.Tick format row misread = TickFault row misread
 FaultOf kind.Arrive format row misread = ArrivalFault row misread
 FaultOf kind.Depart format row misread = DepartureFault row misread
+FaultOf kind.Error format row misread = ErrorFault row misread
 
 -- the row of this number, in a recording of this format, has this fault in this field: the recording has too many rows, or else the row has
 -- more or fewer fields than the format, and neither is a fault of one field; or else it is the fault of the first faulty field

@@ -1,5 +1,5 @@
--- The grammar of rows: which rows are the row of a call, of a return, of a dispatch, of a tick, or of a message that passes an end
--- outside, by what their fields hold.
+-- The grammar of rows: which rows are the row of a call, of a return, of a dispatch, of a tick, of a message that passes an end outside, or
+-- of an error, by what their fields hold.
 use Rattle.std.specs.Prelude.{◌≡◌, ◌≢◌, ◌⊎◌, ◌≤◌, ◌<◌, ℕ, ℤ, pos, negsuc, List, [], ◌∷◌, ◌++◌, Bool, true, false, Option, Some, None, Ok, IsTrue, codes, length, map, FitsSigned}
 use Rattle.std.specs.Fmt.{decimal, signed_decimal}
 use Rattle.std.specs.Int.{w64}
@@ -8,6 +8,7 @@ use Rattle.hex.specs.Hex.{decode_of}
 use Rattle.csv_rows.specs.Stream.{Fields}
 use Rattle.apex_types.specs.declared.limits.TheConstants.{GREATEST_CHANNEL, GREATEST_NUMBER, GREATEST_PARTITION, GREATEST_PRIORITY, LONGEST_MESSAGE, LONGEST_NAME, MOST_RECORDS}
 use Rattle.apex_types.specs.CodeName as CodeName
+use Rattle.apex_types.specs.ErrorName as ErrorName
 use Rattle.apex_types.specs.Rising.{IsRising}
 use Rattle.apex_types.specs.Services as Services
 use Rattle.apex_types.specs.declared.record.Body.{Body}
@@ -33,6 +34,7 @@ use Rattle.apex_types.specs.Arguments.{request_of}
 use Rattle.record_read.specs.Field.{text_at}
 use Rattle.apex_types.specs.Format.{field_count}
 use Rattle.record_read.specs.Payload.{is_printable}
+use Rattle.apex_types.specs.declared.record.ErrorReport.{ErrorReport}
 
 -- what one field holds
 
@@ -223,11 +225,26 @@ pub record IsRowOfDeparture (row : Row) (crossing : Crossing) : Type 0 where
   pub woken : HoldsProcesses (row column.Woken) crossing.woken
   pub unused : AreEmpty (map row (column.Partition ∷ column.Process ∷ column.Service ∷ column.FirstNumber ∷ column.SecondNumber ∷ column.ThirdNumber ∷ column.Name ∷ column.Message ∷ column.Priority ∷ column.Outcome ∷ column.Value ∷ column.SecondValue ∷ column.ThirdValue ∷ column.Error ∷ []))
 
--- a format has the rows of a kind of record: before format 3 no message passes an end outside
+-- whether an error restarts its partition: `none`, or else an empty field
+abbrev pub HoldsRestart : List ℕ → Bool → Type 0
+HoldsRestart text true = text ≡ codes "none"
+HoldsRestart text false = text ≡ []
+
+-- the row of an error
+pub record IsRowOfError (row : Row) (report : ErrorReport) : Type 0 where
+  pub kind : row column.Kind ≡ codes "err"
+  pub who : NamesProcess row report.who
+  pub restarts : HoldsRestart (row column.Outcome) report.restarts
+  pub error : row column.Error ≡ ErrorName.name_of report.error
+  pub unused : AreEmpty (map row (column.Service ∷ column.FirstNumber ∷ column.SecondNumber ∷ column.ThirdNumber ∷ column.Name ∷ column.Message ∷ column.Priority ∷ []))
+  pub unused_too : AreEmpty (map row (column.Value ∷ column.Data ∷ column.Channel ∷ column.Woken ∷ column.SecondValue ∷ column.ThirdValue ∷ []))
+
+-- a format has the rows of a kind of record: before format 3 no message passes an end outside, and no error is reported
 abbrev pub HasRowsOf : Format → Body → Type 0
 HasRowsOf format.Three said = Unit {0}
 HasRowsOf _ (body.Arrive crossing) = ⊥
 HasRowsOf _ (body.Depart crossing) = ⊥
+HasRowsOf _ (body.Error report) = ⊥
 HasRowsOf _ said = Unit {0}
 
 -- one case for each kind of row
@@ -238,6 +255,7 @@ IsRowOf format row (body.Disp who) = IsRowOfDispatch row who
 IsRowOf format row (body.Tick woken) = IsRowOfTick row woken
 IsRowOf format row (body.Arrive crossing) = IsRowOfArrival row crossing
 IsRowOf format row (body.Depart crossing) = IsRowOfDeparture row crossing
+IsRowOf format row (body.Error report) = IsRowOfError row report
 
 -- fields are the row of a record, in a recording of this format: there are as many as the format has, the first holds the record's number,
 -- which is the row's, and the others are the row of what the record says

@@ -32,7 +32,7 @@ TickNeeds woken = woken ≢ []
 abbrev pub CrossingNeeds : Crossing → Type 0
 CrossingNeeds crossing = (crossing.message ≢ []) ⊎ (crossing.woken ≢ [])
 
--- a dispatch needs no memory
+-- a dispatch and an error need no memory
 abbrev pub BodyNeeds : Body → Type 0
 BodyNeeds (body.Call call) = CallNeeds call
 BodyNeeds (body.Ret ret) = ReturnNeeds ret
@@ -40,6 +40,7 @@ BodyNeeds (body.Disp who) = ⊥
 BodyNeeds (body.Tick woken) = TickNeeds woken
 BodyNeeds (body.Arrive crossing) = CrossingNeeds crossing
 BodyNeeds (body.Depart crossing) = CrossingNeeds crossing
+BodyNeeds (body.Error report) = ⊥
 
 -- a record needs memory
 abbrev pub NeedsMemory : Record → Type 0

@@ -25,10 +25,11 @@ use Rattle.apex_types.specs.Arguments.{request_of}
 use Rattle.record_read.specs.Field.{argument, empty, empty_between, maybe_number, maybe_signed, number, read_at}
 use Rattle.apex_types.specs.Format.{field_count}
 use Rattle.record_read.specs.Format.{format_of}
-use Rattle.record_read.specs.Named.{code_of, kind_of, out_of, service_of}
+use Rattle.record_read.specs.Named.{code_of, error_of, kind_of, out_of, restart_of, service_of}
 use Rattle.record_read.specs.Payload.{maybe_message, message_in, name_in, required_message}
 use Rattle.record_read.specs.Steps.{◌>>=◌, fault_only, located, no_field}
 use Rattle.record_read.specs.Woken.{woken_of}
+use Rattle.apex_types.specs.declared.record.ErrorReport.{ErrorReport}
 
 -- the process of a call or a return
 unfoldable pub who_in : Fields → Result Who Misread
@@ -127,6 +128,16 @@ departure_in fields = do
   unused_last ← empty_between fields column.SecondValue column.Error
   Ok (record { chan = chan; message = message; woken = woken })
 
+-- an error: its process, whether it restarts the partition, and which it is
+unfoldable pub error_in : Fields → Result ErrorReport Misread
+error_in fields = do
+  who ← who_in fields
+  unused ← empty_between fields column.Service column.Priority
+  restarts ← read_at restart_of fields column.Outcome
+  unused_too ← empty_between fields column.Value column.ThirdValue
+  error ← read_at error_of fields column.Error
+  Ok (record { who = who; error = error; restarts = restarts })
+
 -- what a row of this kind records, in a recording of this format
 unfoldable pub body_in : Format → Kind → Fields → Result Body Misread
 body_in format kind.Call fields = call_in format fields >>= (λ call. Ok (body.Call call))
@@ -135,6 +146,7 @@ body_in format kind.Disp fields = dispatch_in fields >>= (λ who. Ok (body.Disp 
 body_in format kind.Tick fields = tick_in fields >>= (λ woken. Ok (body.Tick woken))
 body_in format kind.Arrive fields = arrival_in fields >>= (λ crossing. Ok (body.Arrive crossing))
 body_in format kind.Depart fields = departure_in fields >>= (λ crossing. Ok (body.Depart crossing))
+body_in format kind.Error fields = error_in fields >>= (λ report. Ok (body.Error report))
 
 -- the row of this number, counted from 0, in a recording of this format: its record, or its first fault with the column of the field that
 -- has it; a recording has at most 4,294,967,295 rows

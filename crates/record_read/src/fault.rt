@@ -23,7 +23,7 @@ pub enum RowFault {
     /// The row's number is not the next one.
     #[error("the row's sequence number is not the next one")]
     SeqGap,
-    /// The kind is not one of the four.
+    /// The kind is not known, or the recording's format does not have it.
     #[error("unknown kind of row")]
     BadKind,
     /// A field that must be empty is filled, or one that must be filled is empty.
@@ -47,6 +47,9 @@ pub enum RowFault {
     /// The list of processes is malformed, or not in rising order.
     #[error("a list of processes is malformed or out of order")]
     BadWoken,
+    /// The error is not one that the row can report.
+    #[error("unknown error")]
+    BadError,
     /// A fault was reported before.
     #[error("an earlier fault has ended the recording")]
     Ended,

@@ -20,6 +20,8 @@ pub enum Kind {
     Arrive,
     /// A message that departs to the outside.
     Depart,
+    /// An error of a process.
+    Error,
 }
 
 impl Kind {
@@ -29,7 +31,7 @@ impl Kind {
     {
         match self {
             Kind::Call | Kind::Ret | Kind::Disp | Kind::Tick => Format::One,
-            Kind::Arrive | Kind::Depart => Format::Three,
+            Kind::Arrive | Kind::Depart | Kind::Error => Format::Three,
         }
     }
 }

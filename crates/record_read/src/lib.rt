@@ -14,6 +14,7 @@ mod call;
 mod column;
 mod crossing;
 mod dispatch;
+mod error;
 mod fault;
 mod field;
 mod format;

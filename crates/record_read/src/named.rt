@@ -4,7 +4,7 @@ ghost use Rattle.std.specs.Prelude.{◌≡◌, ◌≤◌, ◌==◌, IfErr, IsTru
 ghost use Rattle.std.specs.List.{list_all};
 ghost use Rattle.std.specs.Str.{bytes_eq};
 ghost use Rattle.record_read.specs.Field.{read_at};
-ghost use Rattle.record_read.specs.Named.{code_named, code_of, kind_in, kind_named, kind_of, name_lengths, out_named, out_of, service_among, service_in, service_named, service_of};
+ghost use Rattle.record_read.specs.Named.{code_named, code_of, kind_in, kind_named, kind_of, name_lengths, out_named, out_of, service_among, service_in, service_named, service_of, error_named, error_of, restart_of};
 ghost use Rattle.record_read.specs.Steps.{IsOfRow};
 
 use crate::column::Column;
@@ -12,7 +12,7 @@ use crate::fault::RowFault;
 use crate::field::{required, text};
 use crate::kind::Kind;
 use crate::misread::Misread;
-use apex_types::{Code, Format, Out, SERVICES, Service, ServiceRow};
+use apex_types::{Code, ErrorCode, Format, Out, SERVICES, Service, ServiceRow};
 use csv_rows::RowFields;
 
 // All codes, the most frequent one first.
@@ -25,6 +25,9 @@ const CODES: [Code; 7] = [
     Code::InvalidMode,
     Code::TimedOut,
 ];
+
+// All errors that a row can report.
+const ERRORS: [ErrorCode; 1] = [ErrorCode::DeadlineMissed];
 
 /// The kind of a row of this format, which must be given.
 #[tactic(auto, unfolding(crate::specs::Named::kind_of))]
@@ -71,6 +74,8 @@ pub fn find_kind(text: &[u8]) -> Option<Kind>
         Some(Kind::Arrive)
     } else if text == b"depart".as_slice() {
         Some(Kind::Depart)
+    } else if text == b"err".as_slice() {
+        Some(Kind::Error)
     } else {
         None
     }
@@ -124,6 +129,39 @@ pub fn read_code(fields: &RowFields) -> Result<Code, Misread>
     required(Column::Outcome, name, find_code(name), RowFault::BadOut)
 }
 
+/// Whether an error restarts its partition: its outcome is then `none`, and else empty.
+#[tactic(auto, unfolding(crate::specs::Named::restart_of))]
+pub fn read_restart(fields: &RowFields) -> Result<bool, Misread>
+    ensures value { result ≡ read_at restart_of fields.now Column.Outcome }
+    ensures own { IfErr result (λ misread. IsOfRow misread.fault) }
+{
+    let name = text(fields, Column::Outcome);
+    if name.is_empty() {
+        Ok(false)
+    } else if name == b"none".as_slice() {
+        Ok(true)
+    } else {
+        Err(Misread::at(Column::Outcome, RowFault::BadOut))
+    }
+}
+
+/// The error of a row, which must be given.
+#[tactic(auto, unfolding(crate::specs::Named::error_of))]
+pub fn read_error_code(fields: &RowFields) -> Result<ErrorCode, Misread>
+    ensures value { result ≡ read_at error_of fields.now Column.Error }
+    ensures own { IfErr result (λ misread. IsOfRow misread.fault) }
+{
+    let name = text(fields, Column::Error);
+    required(Column::Error, name, find_error(name), RowFault::BadError)
+}
+
+// The error of this name.
+fn find_error(text: &[u8]) -> Option<ErrorCode>
+    ensures { result ≡ error_named text.now }
+{
+    ERRORS.iter().copied().find(|error| error.name() == text)
+}
+
 /// The outcome that has this name in rows, if there is one. Takes no memory.
 #[tactic(auto, unfolding(crate::specs::Named::out_named))]
 pub fn find_out(text: &[u8]) -> Option<Out>
@@ -153,10 +191,10 @@ pub fn find_service(text: &[u8]) -> Option<Service>
     service_from(first_of_length(text.len()), &SERVICES, text)
 }
 
-// The place in the table of the first name of each length, or 62 for a length that no name has.
+// The place in the table of the first name of each length, or 63 for a length that no name has.
 const FIRST_OF_LENGTH: [u8; 33] = [
-    62, 62, 62, 62, 3, 2, 7, 5, 12, 4, 10, 15, 6, 11, 0, 19, 20, 17, 13, 34, 31, 33, 32, 36, 48,
-    62, 58, 62, 62, 62, 62, 62, 1,
+    63, 63, 63, 63, 3, 2, 7, 5, 12, 4, 10, 15, 6, 11, 0, 19, 20, 17, 13, 34, 31, 33, 32, 36, 48,
+    63, 58, 63, 63, 63, 63, 63, 1,
 ];
 
 // The place at which the search for a name of this length begins, so that few names are compared.

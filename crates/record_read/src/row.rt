@@ -11,6 +11,7 @@ use crate::call::read_call;
 use crate::column::Column;
 use crate::crossing::{read_arrival, read_departure};
 use crate::dispatch::{read_dispatch, read_tick};
+use crate::error::read_error;
 use crate::fault::RowFault;
 use crate::field::required_number;
 use crate::kind::Kind;
@@ -72,6 +73,7 @@ fn read_record(
         Kind::Tick => Body::Tick(read_tick(alloc, fields)?),
         Kind::Arrive => Body::Arrive(read_arrival(alloc, fields)?),
         Kind::Depart => Body::Depart(read_departure(alloc, fields)?),
+        Kind::Error => Body::Error(read_error(fields)?),
     };
     Ok(Record { seq: next, body })
 }

@@ -8,3 +8,4 @@ pub mod Going
 pub mod LastOnes
 pub mod Onward
 pub mod LastLines
+pub mod Sent

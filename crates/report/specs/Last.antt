@@ -28,6 +28,7 @@ kind_in (body.Disp who) = kind.Disp
 kind_in (body.Tick woken) = kind.Tick
 kind_in (body.Arrive crossing) = kind.Arrive
 kind_in (body.Depart crossing) = kind.Depart
+kind_in (body.Error report) = kind.Error
 
 -- a record as it is reported: its place in the proposed order, its core, its number there and its kind
 abbrev pub item_of : Ordered → LastItem

@@ -144,5 +144,6 @@ fn kind_of(body: &Body) -> Kind
         Body::Tick(_) => Kind::Tick,
         Body::Arrive(_) => Kind::Arrive,
         Body::Depart(_) => Kind::Depart,
+        Body::Error(_) => Kind::Error,
     }
 }

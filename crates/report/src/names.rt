@@ -24,7 +24,7 @@ pub fn name_of_cause(cause: Cause) -> &'static [u8]
     ensures { result.now ≡ cause_name cause }
 {
     name_of!(cause, Cause:
-        Names Skew Idle Window Choice Return OutsideProfile Prio Chan Out Val Data Woken)
+        Names Skew Idle Window Deadline Choice Return OutsideProfile Prio Chan Out Val Data Woken)
 }
 
 // The name of a fault of the arguments.
@@ -64,7 +64,7 @@ pub fn name_of_row_fault(fault: RowFault) -> &'static [u8]
 {
     name_of!(fault, RowFault:
         Read Memory TooMany FieldCount BadNumber SeqGap BadKind FieldNotForKind BadService BadName
-        BadHex BadLength BadOut BadWoken Ended)
+        BadHex BadLength BadOut BadWoken BadError Ended)
 }
 
 // The name of a kind of records.
@@ -78,5 +78,6 @@ pub fn name_of_kind(kind: Kind) -> &'static [u8]
         Kind::Tick => b"tick",
         Kind::Arrive => b"arrive",
         Kind::Depart => b"depart",
+        Kind::Error => b"err",
     }
 }

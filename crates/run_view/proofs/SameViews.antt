@@ -1,5 +1,5 @@
 -- Views that are equal.
-use Rattle.std.proofs.Common.{◌≡◌, ℕ, Option, Decides, rules, refl, ap, ◌∙◌}
+use Rattle.std.proofs.Common.{◌≡◌, ◌==◌, ℕ, Option, Decides, rules, refl, ap, ◌∙◌}
 use Rattle.std.proofs.lemmas.Bool.Decides.{Decides-and, Decides-eqb}
 use Rattle.apex_types.specs.contracts.service.ServicePartialEq.TheImpl as services
 use Rattle.apex_types.specs.declared.record.Who.{Who}
@@ -38,14 +38,15 @@ same_state (state.Suspended a) (state.Suspended b) = (λ holds. ap state.Suspend
 same_state a b = (λ holds. cc, λ same. cc)
 
 -- a view of a process with these fields
-abbrev view_of : ProcessState → ℕ → ℕ → ℕ → ℕ → Option Service → ProcessView
-view_of state current base affinity position due =
-    record { state = state; current_priority = current; base_priority = base; affinity = affinity; ready_position = position; due = due }
+abbrev view_of : ProcessState → ℕ → ℕ → ℕ → ℕ → Option Service → Option ℕ → ProcessView
+view_of state current base affinity position due deadline =
+    record { state = state; current_priority = current; base_priority = base; affinity = affinity; ready_position = position; due = due; deadline = deadline }
 
-same_fields : (a b : ProcessState) (c d e f g h i j : ℕ) (k l : Option Service) → a ≡ b → c ≡ d → e ≡ f → g ≡ h → i ≡ j → k ≡ l → view_of a c e g i k ≡ view_of b d f h j l
-same_fields a b c d e f g h i j k l states currents bases affinities positions dues =
-    ap (λ one. view_of one c e g i k) states ∙ ap (λ one. view_of b one e g i k) currents ∙ ap (λ one. view_of b d one g i k) bases
-    ∙ ap (λ one. view_of b d f one i k) affinities ∙ ap (λ one. view_of b d f h one k) positions ∙ ap (λ one. view_of b d f h j one) dues
+same_fields : (a b : ProcessState) (c d e f g h i j : ℕ) (k l : Option Service) (m n : Option ℕ) → a ≡ b → c ≡ d → e ≡ f → g ≡ h → i ≡ j → k ≡ l → m ≡ n → view_of a c e g i k m ≡ view_of b d f h j l n
+same_fields a b c d e f g h i j k l m n states currents bases affinities positions dues deadlines =
+    ap (λ one. view_of one c e g i k m) states ∙ ap (λ one. view_of b one e g i k m) currents ∙ ap (λ one. view_of b d one g i k m) bases
+    ∙ ap (λ one. view_of b d f one i k m) affinities ∙ ap (λ one. view_of b d f h one k m) positions ∙ ap (λ one. view_of b d f h j one m) dues
+    ∙ ap (view_of b d f h j l) deadlines
 
 -- views of a process are equal exactly if they are the same
 same_view : (a b : ProcessView) → Decides (process_views.eq-value.it a b) (a ≡ b)
@@ -54,10 +55,11 @@ same_view a b =
     (Decides-and _ _ (Decides-eqb a.current_priority b.current_priority)
     (Decides-and _ _ (Decides-eqb a.base_priority b.base_priority)
     (Decides-and _ _ (Decides-eqb a.affinity b.affinity)
-    (Decides-and _ _ (Decides-eqb a.ready_position b.ready_position) (same_option services.eq-value.it same_service a.due b.due))))) in (
+    (Decides-and _ _ (Decides-eqb a.ready_position b.ready_position)
+    (Decides-and _ _ (same_option services.eq-value.it same_service a.due b.due) (same_option ◌==◌ Decides-eqb a.deadline b.deadline)))))) in (
       λ holds. (let found = fields.0 holds in
-          same_fields a.state b.state a.current_priority b.current_priority a.base_priority b.base_priority a.affinity b.affinity a.ready_position b.ready_position a.due b.due found.0 found.1.0
-          found.1.1.0 found.1.1.1.0 found.1.1.1.1.0 found.1.1.1.1.1),
+          same_fields a.state b.state a.current_priority b.current_priority a.base_priority b.base_priority a.affinity b.affinity a.ready_position b.ready_position a.due b.due a.deadline b.deadline found.0 found.1.0
+          found.1.1.0 found.1.1.1.0 found.1.1.1.1.0 found.1.1.1.1.1.0 found.1.1.1.1.1.1),
       λ same. fields.1 (
         ap (λ (one : ProcessView). one.state) same,
         (
@@ -66,7 +68,10 @@ same_view a b =
             ap (λ (one : ProcessView). one.base_priority) same,
             (
               ap (λ (one : ProcessView). one.affinity) same,
-              (ap (λ (one : ProcessView). one.ready_position) same, ap (λ (one : ProcessView). one.due) same),
+              (
+                ap (λ (one : ProcessView). one.ready_position) same,
+                (ap (λ (one : ProcessView). one.due) same, ap (λ (one : ProcessView). one.deadline) same),
+              ),
             ),
           ),
         ),

@@ -80,10 +80,11 @@ abbrev pub lawful_names : Part → ℕ → Body → List Lawful
 lawful_names part core (Tick woken) = put_right_at_tick part core woken
 lawful_names part core body = []
 
--- what follows from the evidence of a refusal: the choice of the core, the priority of the caller, what a call can claim, or the processes
--- that a tick names wrongly; a picture shows nothing of other evidence
+-- what follows from the evidence of a refusal: the choice of the core, the deadline that must be reported first, the priority of the caller,
+-- what a call can claim, or the processes that a tick names wrongly; a picture shows nothing of other evidence
 abbrev pub FollowsFrom : Evidence → Part → ℕ → Body → Cause → List Lawful → Type 0
 FollowsFrom (evidence.Choice choice occupant) part core body cause shown = shown ≡ lawful.Runs core choice ∷ []
+FollowsFrom (evidence.Missed who deadline) part core body cause shown = shown ≡ lawful.Misses who deadline ∷ []
 FollowsFrom (evidence.Priority current base before owned elsewhere) part core body cause shown = shown ≡ lawful_priority body current
 FollowsFrom (evidence.Answer given) part core body cause shown = IsLawfulClaim (answer_given given) body cause shown
 FollowsFrom evidence.Named part core body cause shown = shown ≡ lawful_names part core body

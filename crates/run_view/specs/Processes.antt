@@ -18,7 +18,7 @@ abbrev pub state_of : Process → ProcessState
 state_of process =
     if process.alive then (if process.suspended then Suspended process.wait else state_by_wait process.wait) else Dormant
 
--- a process: its state, its priorities, its core, its ready position, and the service of its pending outcome
+-- a process: its state, its priorities, its core, its ready position, the service of its pending outcome, and its deadline
 abbrev pub shown_process : Process → ProcessView
 shown_process process = record {
   state = state_of process;
@@ -27,6 +27,7 @@ shown_process process = record {
   affinity = process.affinity;
   ready_position = process.ready_position;
   due = option_map (λ outcome. outcome.service) process.due;
+  deadline = process.deadline;
 }
 
 -- a process with its number

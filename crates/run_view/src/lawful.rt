@@ -26,6 +26,8 @@ pub enum Lawful {
     HasPriority(Who, u8),
     /// This process gets this outcome.
     Gets(Who, Out),
+    /// This process has missed this deadline, in ticks, which must be reported first.
+    Misses(Who, u64),
 }
 
 /// What would have been lawful for a record that this piece rejects for this cause, by the evidence of the piece. The piece is as it was
@@ -44,6 +46,7 @@ pub fn lawful_of(
     let body = &ordered.rec.body;
     match piece.evidence(config, ordered, cause) {
         Evidence::Choice { choice, .. } => only(alloc, Lawful::Runs(ordered.core, choice)),
+        Evidence::Missed { who, deadline } => only(alloc, Lawful::Misses(who, deadline)),
         Evidence::Priority { current, .. } => lawful_priority(alloc, body, current),
         Evidence::Answer(given) => lawful_claim(alloc, &given, body, cause),
         Evidence::Named => lawful_names(alloc, piece, ordered.core, body),
@@ -64,9 +67,12 @@ fn lawful_priority(alloc: Global, body: &Body, current: u8) -> Result<Vec<Lawful
 {
     match body {
         Body::Call(call) => only(alloc, Lawful::HasPriority(call.who, current)),
-        Body::Ret(_) | Body::Disp(_) | Body::Tick(_) | Body::Arrive(_) | Body::Depart(_) => {
-            Ok(Vec::new(alloc))
-        }
+        Body::Ret(_)
+        | Body::Disp(_)
+        | Body::Tick(_)
+        | Body::Arrive(_)
+        | Body::Depart(_)
+        | Body::Error(_) => Ok(Vec::new(alloc)),
     }
 }
 
@@ -85,7 +91,7 @@ fn lawful_claim(
             Cause::Woken => put_right_by(alloc, given, &crossing.woken),
             _ => Ok(Vec::new(alloc)),
         },
-        Body::Ret(_) | Body::Disp(_) | Body::Tick(_) => Ok(Vec::new(alloc)),
+        Body::Ret(_) | Body::Disp(_) | Body::Tick(_) | Body::Error(_) => Ok(Vec::new(alloc)),
     }
 }
 
@@ -100,9 +106,12 @@ fn lawful_names(
 {
     match body {
         Body::Tick(woken) => put_right_at_tick(alloc, piece, core, woken),
-        Body::Call(_) | Body::Ret(_) | Body::Disp(_) | Body::Arrive(_) | Body::Depart(_) => {
-            Ok(Vec::new(alloc))
-        }
+        Body::Call(_)
+        | Body::Ret(_)
+        | Body::Disp(_)
+        | Body::Arrive(_)
+        | Body::Depart(_)
+        | Body::Error(_) => Ok(Vec::new(alloc)),
     }
 }
 
@@ -122,6 +131,7 @@ fn lawful_call(
         | Cause::Skew
         | Cause::Idle
         | Cause::Window
+        | Cause::Deadline
         | Cause::Choice
         | Cause::Return
         | Cause::OutsideProfile

@@ -103,7 +103,7 @@ impl MessageLinks {
             Body::Call(call) => self.follow_call(pieces, ordered, call),
             Body::Arrive(crossing) => self.follow_crossing(pieces, crossing, Way::In),
             Body::Depart(crossing) => self.follow_crossing(pieces, crossing, Way::Out),
-            Body::Ret(_) | Body::Disp(_) | Body::Tick(_) => Ok(NOTHING),
+            Body::Ret(_) | Body::Disp(_) | Body::Tick(_) | Body::Error(_) => Ok(NOTHING),
         }
     }
 

@@ -16,8 +16,8 @@ pub enum ProcessState {
     Suspended(Wait),
 }
 
-/// A process: its state, its priorities, its core, its ready position, and the service from which it must return before its next
-/// call.
+/// A process: its state, its priorities, its core, its ready position, the service from which it must return before its next call, and its
+/// deadline, in ticks, if it has one.
 #[derive(Clone, Copy, Debug, PartialEq, Eq)]
 pub struct ProcessView {
     pub state: ProcessState,
@@ -26,6 +26,7 @@ pub struct ProcessView {
     pub affinity: CoreId,
     pub ready_position: u64,
     pub due: Option<Service>,
+    pub deadline: Option<u64>,
 }
 
 /// What a partition holds of a process.
@@ -42,6 +43,7 @@ pub fn process_view(process: &Process) -> ProcessView
             Some(outcome) => Some(outcome.service),
             None => None,
         },
+        deadline: process.deadline,
     }
 }
 

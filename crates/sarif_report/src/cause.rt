@@ -9,6 +9,7 @@ pub fn name_of_cause(cause: Cause) -> &'static str {
         Cause::Skew => "Skew",
         Cause::Idle => "Idle",
         Cause::Window => "Window",
+        Cause::Deadline => "Deadline",
         Cause::Choice => "Choice",
         Cause::Return => "Return",
         Cause::OutsideProfile => "OutsideProfile",
@@ -29,7 +30,10 @@ pub fn help_of_cause(cause: Cause) -> &'static str {
         Cause::Idle => {
             "Outside every window, a core has no calls, no returns, no dispatches of a process and no ticks while it is occupied."
         }
-        Cause::Window => "A call or a return is in a window of its own partition.",
+        Cause::Window => "A call, a return or an error is in a window of its own partition.",
+        Cause::Deadline => {
+            "A missed deadline is reported before any other record of its core in a window of its partition, and only a missed deadline is reported."
+        }
         Cause::Choice => {
             "A dispatch names the choice of its core. At every other record, the occupant is the choice, and a call or a return is the occupant's."
         }

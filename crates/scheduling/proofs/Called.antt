@@ -15,13 +15,14 @@ use Rattle.apex_machine.specs.declared.state.Process.{Process}
 use Rattle.apex_machine.specs.Configuration.{Configuration, first_core, period_of}
 use Rattle.apex_machine.specs.State.{Partition, Table, each_item, is_free, is_named, item_at, time_of}
 use Rattle.apex_machine.specs.Answer.{is_new}
-use Rattle.apex_machine.specs.DueTimes.{next_release}
 use Rattle.apex_machine.specs.Processes.{caller_after, new_process, set_by, stopped, woken_by}
 use Rattle.apex_machine.specs.Waiting.{is_no_error, stop_of, stops, message_of}
 use Rattle.apex_machine.specs.After.{adjusted, called, created_by, is_done, mode_by, numbered, partition_called}
 use Rattle.scheduling.specs.Changes.{only, with_each}
 use Rattle.scheduling.specs.Peers.{peer_at, peer_woken, is_peer, stopped_by, wakes}
 use Rattle.scheduling.specs.Processes.{Processes, processes_in, processes_of}
+use Rattle.scheduling.specs.Releases.{IsNextOf}
+use Rattle.scheduling.specs.declared.process.NextRelease.{NextRelease}
 use Rattle.scheduling.specs.Sound.{AsksSoundly, is_periodic_wait}
 use Rattle.scheduling.proofs.Carried.{append-nothing, carried}
 use Rattle.scheduling.proofs.Numbers.{new-absent}
@@ -251,10 +252,10 @@ periodic-between place period first cores call partition old (request.Caller Cal
     by false refused = adjusted-not place period first cores call partition old refused
 periodic-between place period first cores call partition old _ is periodic = cc
 
-pub caller-settled : (place now period first : ℕ) (cores : List CoreState) (call : CallRecord) (partition : Partition) (old middle own : Processes) (next : ℕ) (change : Process → Process)
+pub caller-settled : (place now period first : ℕ) (cores : List CoreState) (call : CallRecord) (partition : Partition) (old middle own : Processes) (next : NextRelease) (change : Process → Process)
     → middle ≡ between place period first cores call partition old → IsDistinct nat_eq (keys_of old.table)
-    → ((process : Process) → (is_periodic_wait call.request ≡ true → next_release process ≡ next) → change process ≡ caller_after place now call process)
-    → (is_periodic_wait call.request ≡ true → (process : Process) → item_at old.table call.who.proc ≡ Some process → next ≡ next_release process)
+    → ((process : Process) → (is_periodic_wait call.request ≡ true → IsNextOf next process) → change process ≡ caller_after place now call process)
+    → (is_periodic_wait call.request ≡ true → (process : Process) → item_at old.table call.who.proc ≡ Some process → IsNextOf next process)
     → own ≡ with_each (only call.who.proc change) middle → own ≡ with_each (only call.who.proc (caller_after place now call)) middle
 caller-settled place now period first cores call partition old middle own next change adjusts distinct same next_is is = by (is_periodic_wait call.request) refl
   where
@@ -262,12 +263,12 @@ caller-settled place now period first cores call partition old middle own next c
     by true periodic =
         let unchanged : middle ≡ old = adjusts ∙ sym (periodic-between place period first cores call partition old call.request refl periodic) in
         let agree : each_item (only call.who.proc change) old.table ≡ each_item (only call.who.proc (caller_after place now call)) old.table
-        = agree_at call.who.proc change (caller_after place now call) old.table distinct (λ process found. same process (λ asked. sym (next_is periodic process found))) in
+        = agree_at call.who.proc change (caller_after place now call) old.table distinct (λ process found. same process (λ asked. next_is periodic process found)) in
         is ∙ ap (with_each (only call.who.proc change)) unchanged ∙ ap (with_table old) agree ∙ ap (with_each (only call.who.proc (caller_after place now call))) (sym unchanged)
     by false other =
         is ∙ ap (with_table middle) (each_item-congr _ _ (λ number process. settles number process (nat_eq number call.who.proc) refl) middle.table)
       where
-        contrary : is_periodic_wait call.request ≡ true → (process : Process) → next_release process ≡ next
+        contrary : is_periodic_wait call.request ≡ true → (process : Process) → IsNextOf next process
         contrary h process = let clash : false ≡ true = sym other ∙ h in cc
 
         settles : (number : ℕ) (process : Process) (b : Bool) → nat_eq number call.who.proc ≡ b

@@ -9,7 +9,7 @@ use Rattle.scheduling.specs.declared.order.DueTime.{DueTime}
 use Rattle.scheduling.specs.declared.order.Rank.{Rank}
 use Rattle.scheduling.specs.Kept.{IsKept}
 use Rattle.scheduling.specs.Orders.{IsInOrder, IsStrictOrder, Sequence, inserted, keys_in, with_key, without_key}
-use Rattle.scheduling.specs.Ranks.{due_before, due_laws, due_time_of, rank_before, rank_laws, rank_of}
+use Rattle.scheduling.specs.Ranks.{deadline_time_of, due_before, due_laws, due_time_of, rank_before, rank_laws, rank_of}
 use Rattle.scheduling.proofs.Orders.{IsInOrder-inserted, inserted-twice, without-with}
 use Rattle.scheduling.proofs.Tables.{NumbersFit-push, lookup-item_at}
 
@@ -140,40 +140,48 @@ pub found_there : (number : ℕ) (old : Process) (entries : Table) → Some old 
 found_there number old entries found = sym (found ∙ lookup-item_at number entries)
 
 -- what is kept once a process has changed
-pub IsKept-written : (number : ℕ) (old written : Process) (entries next : Table) (spare spare_new : ℕ) (ready ready_new : Sequence Rank) (due due_new : Sequence DueTime)
-    → IsKept entries spare ready due → Some old ≡ lookup (nat_eq number) entries → next ≡ set_value (nat_eq number) entries written
+pub IsKept-written : (number : ℕ) (old written : Process) (entries next : Table) (spare spare_new : ℕ) (ready ready_new : Sequence Rank) (due due_new deadlines deadlines_new : Sequence DueTime)
+    → IsKept entries spare ready due deadlines → Some old ≡ lookup (nat_eq number) entries → next ≡ set_value (nat_eq number) entries written
     → ready_new.keys ≡ with_key rank_before (rank_of number written) (without_key rank_before (rank_of number old) ready.keys) → ready.room ≤ ready_new.room
     → due_new.keys ≡ with_key due_before (due_time_of number written) (without_key due_before (due_time_of number old) due.keys) → due.room ≤ due_new.room
-    → IsKept next spare_new ready_new due_new
-IsKept-written number old written entries next spare spare_new ready ready_new due due_new kept found is r_put r_grows d_put d_grows =
+    → deadlines_new.keys ≡ with_key due_before (deadline_time_of number written) (without_key due_before (deadline_time_of number old) deadlines.keys) → deadlines.room ≤ deadlines_new.room
+    → IsKept next spare_new ready_new due_new deadlines_new
+IsKept-written number old written entries next spare spare_new ready ready_new due due_new deadlines deadlines_new kept found is r_put r_grows d_put d_grows m_put m_grows =
     let there = found_there number old entries found in
     let long : length next ≡ length entries = ap length is ∙ length-set_value (nat_eq number) entries written in
     record {
       numbers = rw (is, keys-set_value (nat_eq number) entries written) kept.numbers;
       ranks = rw is (put_back rank_before rank_laws rank_of number old written entries ready.keys ready_new.keys there kept.ranks r_put);
       due_times = rw is (put_back due_before due_laws due_time_of number old written entries due.keys due_new.keys there kept.due_times d_put);
+      deadline_times = rw is (put_back due_before due_laws deadline_time_of number old written entries deadlines.keys deadlines_new.keys there kept.deadline_times m_put);
       ready_room = omega (arith, long, kept.ready_room, r_grows);
       due_room = omega (arith, long, kept.due_room, d_grows);
+      deadline_room = omega (arith, long, kept.deadline_room, m_grows);
       first_process = omega (arith, long, length-table_without number old entries there);
       first_rank = omega (arith, kept.first_rank, r_grows);
       first_due = omega (arith, kept.first_due, d_grows);
+      first_deadline = omega (arith, kept.first_deadline, m_grows);
     }
 
--- what is kept once a process without a rank and a due time is added, with room made for it
-pub IsKept-push : (number : ℕ) (process : Process) (entries next : Table) (spare spare_new : ℕ) (ready ready_new : Sequence Rank) (due due_new : Sequence DueTime)
-    → IsKept entries spare ready due → number < 4294967296 → next ≡ entries ++ (number, process) ∷ []
-    → rank_of number process ≡ None → due_time_of number process ≡ None
+-- what is kept once a process without a rank, a due time and a deadline is added, with room made for it
+pub IsKept-push : (number : ℕ) (process : Process) (entries next : Table) (spare spare_new : ℕ) (ready ready_new : Sequence Rank) (due due_new deadlines deadlines_new : Sequence DueTime)
+    → IsKept entries spare ready due deadlines → number < 4294967296 → next ≡ entries ++ (number, process) ∷ []
+    → rank_of number process ≡ None → due_time_of number process ≡ None → deadline_time_of number process ≡ None
     → ready_new.keys ≡ ready.keys → length entries + 1 ≤ ready_new.room → due_new.keys ≡ due.keys → length entries + 1 ≤ due_new.room
-    → IsKept next spare_new ready_new due_new
-IsKept-push number process entries next spare spare_new ready ready_new due due_new kept fits is no_rank no_due r_same r_room d_same d_room =
+    → deadlines_new.keys ≡ deadlines.keys → length entries + 1 ≤ deadlines_new.room
+    → IsKept next spare_new ready_new due_new deadlines_new
+IsKept-push number process entries next spare spare_new ready ready_new due due_new deadlines deadlines_new kept fits is no_rank no_due no_deadline r_same r_room d_same d_room m_same m_room =
     let long : length next ≡ length entries + 1 = ap length is ∙ length-append entries ((number, process) ∷ []) in
     record {
       numbers = rw is (NumbersFit-push entries number process kept.numbers fits);
       ranks = rw is (r_same ∙ kept.ranks ∙ sym (keys_in-push rank_before rank_laws rank_of entries number process no_rank));
       due_times = rw is (d_same ∙ kept.due_times ∙ sym (keys_in-push due_before due_laws due_time_of entries number process no_due));
+      deadline_times = rw is (m_same ∙ kept.deadline_times ∙ sym (keys_in-push due_before due_laws deadline_time_of entries number process no_deadline));
       ready_room = omega (arith, long, r_room);
       due_room = omega (arith, long, d_room);
+      deadline_room = omega (arith, long, m_room);
       first_process = omega (arith, long);
       first_rank = omega (arith, r_room);
       first_due = omega (arith, d_room);
+      first_deadline = omega (arith, m_room);
     }

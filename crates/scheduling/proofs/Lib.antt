@@ -6,6 +6,7 @@ pub mod Orders
 pub mod Places
 pub mod Kept
 pub mod Firsts
+pub mod Missed
 pub mod Counts
 pub mod Below
 pub mod Rising

@@ -24,21 +24,22 @@ named given change number process = if is_number given number then change proces
 abbrev pub stopped_self : ℕ → Process → Process
 stopped_self now process = record (stopped process) { called_at = now }
 
--- a caller that waits after its call
-abbrev pub waiting_for : ℕ → Wait → Process → Process
-waiting_for now wait process = record process { wait = wait; called_at = now }
-
--- a number after a change: the given one, if there is one, else the old one
-abbrev pub given_or : Option ℕ → ℕ → ℕ
+-- a value after a change: the given one, if there is one, else the old one
+abbrev pub given_or : {Value : Type 0} → Option Value → Value → Value
 given_or None old = old
 given_or (Some given) old = given
 
--- a caller to which an outcome is due after its call; if its ready position is renewed, it is the given place, and if a release is reached,
--- that becomes its last one
-abbrev pub answered : ℕ → Option ℕ → Option ℕ → Outcome → Process → Process
-answered now renewed reached outcome process = record process {
+-- a caller that waits after its call, with a new deadline if one is set
+abbrev pub waiting_for : ℕ → Wait → Option (Option ℕ) → Process → Process
+waiting_for now wait deadline process = record process { wait = wait; deadline = given_or deadline process.deadline; called_at = now }
+
+-- a caller to which an outcome is due after its call; if its ready position is renewed, it is the given place, if a release is reached, that
+-- becomes its last one, and if a deadline is set, that is the new one
+abbrev pub answered : ℕ → Option ℕ → Option ℕ → Option (Option ℕ) → Outcome → Process → Process
+answered now renewed reached deadline outcome process = record process {
   ready_position = given_or renewed process.ready_position;
   last_release = given_or reached process.last_release;
+  deadline = given_or deadline process.deadline;
   due = Some outcome;
   called_at = now;
 }

@@ -3,6 +3,7 @@ pub mod Processes
 pub mod Changes
 pub mod Due
 pub mod Settled
+pub mod Releases
 pub mod Sound
 pub mod Tests
 pub mod Timely

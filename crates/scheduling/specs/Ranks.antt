@@ -51,6 +51,10 @@ due_at core number (Some time) = Some (record { core = core; time = time; number
 abbrev pub due_time_of : ℕ → Process → Option DueTime
 due_time_of number process = due_at process.affinity number (time_due process.wait)
 
+-- the deadline of a process, if it has one, as a due time
+abbrev pub deadline_time_of : ℕ → Process → Option DueTime
+deadline_time_of number process = due_at process.affinity number process.deadline
+
 -- the due times of one core are together; of two of them, the earlier goes first, then the one with the smaller number
 abbrev pub due_before : DueTime → DueTime → Bool
 due_before a b =

@@ -7,6 +7,6 @@ use Rattle.scheduling.specs.declared.caller.Settling.TheVariants as settling
 
 -- what becomes of a caller after its call: it waits, it is dormant, or an outcome is due to it
 abbrev pub settled : ℕ → Settling → Process → Process
-settled now (settling.Waits wait) process = waiting_for now wait process
+settled now (settling.Waits wait deadline) process = waiting_for now wait deadline process
 settled now settling.Stops process = stopped_self now process
-settled now (settling.Owed outcome renewed reached) process = answered now renewed reached outcome process
+settled now (settling.Owed outcome renewed reached deadline) process = answered now renewed reached deadline outcome process

@@ -12,9 +12,10 @@
 //! A table says what a call, a return and a tick set in its processes, who is ready, who falls due, and which of them is the choice. It
 //! rejects no record.
 //!
-//! Beside the processes, the table keeps the ranks of the ready ones and the due times of the waiting ones, each in order (`sorted.rt`,
-//! `order.rt`). So the choice takes one look, and a tick costs no more than the processes that it names. In each order the keys of one core
-//! are together, and a guess of where they are is kept. A search looks there first, and finds the same whatever the guess is (`guess.rt`).
+//! Beside the processes, the table keeps the ranks of the ready ones, the due times of the waiting ones and the deadlines, each in order
+//! (`sorted.rt`, `order.rt`). So the choice takes one look, and so does the question whether a deadline is missed; and a tick costs no more
+//! than the processes that it names. In each order the keys of one core are together, and a guess of where they are is kept. A search looks
+//! there first, and finds the same whatever the guess is (`guess.rt`).
 //!
 //! The memory that a call needs is reserved first, as a `Prepared` (`prepare`): for the outcome that becomes due to the caller, and for a
 //! message for each process that the call names. After that, `call` takes memory only at CREATE_PROCESS. A mutex's change of owner is
@@ -38,6 +39,7 @@
 
 mod caller;
 mod clock;
+mod deadline;
 mod dispatch;
 mod guess;
 mod message;

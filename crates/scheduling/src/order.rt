@@ -82,6 +82,20 @@ impl DueTime {
             None => None,
         }
     }
+
+    /// The deadline of this process, if it has one.
+    pub fn of_deadline(number: ProcId, process: &Process) -> Option<DueTime>
+        ensures { result ≡ ranks.deadline_time_of number process.now }
+    {
+        match process.deadline {
+            Some(time) => Some(DueTime {
+                core: process.affinity,
+                time,
+                number,
+            }),
+            None => None,
+        }
+    }
 }
 
 impl Key for DueTime {
@@ -126,6 +140,21 @@ pub fn due_count(due_times: &Sorted<DueTime>, core: CoreId, time: u64) -> usize
         |due| due.core < core || due.core == core && due.time <= time,
     );
     reached - earlier
+}
+
+/// Whether one of these due times is of this core and not above this time, in ticks.
+pub fn is_some_reached(due_times: &Sorted<DueTime>, core: CoreId, time: u64) -> bool
+    ensures { result ≡ firsts.some_reached core time due_times.now.keys }
+{
+    let in_order = due_times.as_slice();
+    let place = due_times
+        .guess(core)
+        .begin()
+        .passing(in_order, |due| due.core < core);
+    match in_order.get(place) {
+        Some(due) => due.core == core && due.time <= time,
+        None => false,
+    }
 }
 
 /// Whether the process is ready on its own core: it is neither dormant nor suspended, and waits for nothing.

@@ -7,8 +7,10 @@ ghost use Rattle.apex_machine.specs.DueTimes as due_times;
 ghost use Rattle.apex_machine.specs.Processes as processes;
 ghost use Rattle.apex_machine.specs.State.{initialising_process};
 ghost use Rattle.scheduling.specs.Changes.{answered, stopped_self, waiting_for};
+ghost use Rattle.scheduling.specs.Releases.{IsNextOf};
 ghost use Rattle.scheduling.specs.Sound.{GivesSoundly};
 
+use crate::deadline::{self, deadline_from};
 use crate::wait;
 use apex_machine::{Mode, Outcome, Process, Wait};
 use apex_types::{Code, CoreId, Message, Name, Place, ProcessOperation, Service};
@@ -26,6 +28,7 @@ pub fn initialising(alloc: Global, core: CoreId, place: Place) -> Process
         affinity: core,
         period: None,
         time_capacity: None,
+        deadline: None,
         last_release: 0,
         alive: true,
         suspended: false,
@@ -57,6 +60,7 @@ pub fn created(
         affinity: core,
         period: span_given(period),
         time_capacity: span_given(time_capacity),
+        deadline: None,
         last_release: 0,
         alive: false,
         suspended: false,
@@ -67,8 +71,8 @@ pub fn created(
     })
 }
 
-// The period or the time capacity of a process from the one that its creator gives, both in ticks: none if that is below 0.
-fn span_given(given: i64) -> Option<u64>
+/// The period, the time capacity or the budget of a process from the one that a caller gives, in ticks: none if that is below 0.
+pub fn span_given(given: i64) -> Option<u64>
     ensures { result ≡ period_given given }
 {
     if given < 0 { None } else { Some(given as u64) }
@@ -121,10 +125,16 @@ fn start(process: &mut Process, place: Place, period: u64, now: u64, mode: Mode,
 {
     process.current_priority = process.base_priority;
     process.alive = true;
-    process.wait = match mode {
-        Mode::Normal => wait::on_entry(period, now, delay, process.period),
-        Mode::Idle | Mode::ColdStart | Mode::WarmStart => Wait::NormalMode(delay),
-    };
+    match mode {
+        Mode::Normal => {
+            process.wait = wait::on_entry(period, now, delay, process.period);
+            process.deadline = deadline::on_entry(process, period, now, delay);
+        }
+        Mode::Idle | Mode::ColdStart | Mode::WarmStart => {
+            process.wait = Wait::NormalMode(delay);
+            process.deadline = None;
+        }
+    }
     process.ready_position = place.number();
 }
 
@@ -138,6 +148,7 @@ pub fn enter_normal(process: &mut Process, place: Place, period: u64, now: u64)
 {
     if let Wait::NormalMode(delay) = process.wait {
         process.wait = wait::on_entry(period, now, delay, process.period);
+        process.deadline = deadline::on_entry(process, period, now, delay);
         process.ready_position = place.number();
     }
 }
@@ -192,13 +203,21 @@ pub fn give_back(process: &mut Process)
     process.due = None;
 }
 
-/// The process has been stopped: it is dormant, and nothing is due to it.
+/// The missed deadline of the process has been reported.
+pub fn take_deadline(process: &mut Process)
+    ensures { process.new ≡ processes.reported process.old }
+{
+    process.deadline = None;
+}
+
+/// The process has been stopped: it is dormant, has no deadline, and nothing is due to it.
 pub fn stop(process: &mut Process)
     ensures { process.new ≡ processes.stopped process.old }
 {
     process.alive = false;
     process.suspended = false;
     process.wait = Wait::Nothing;
+    take_deadline(process);
     give_back(process);
 }
 
@@ -225,24 +244,28 @@ pub fn ungrant(process: &mut Process)
     process.current_priority = process.retained_priority;
 }
 
-/// The process has begun to wait, when its core's time was `now`.
-pub fn begin_wait(process: &mut Process, now: u64, wait: Wait)
-    ensures { process.new ≡ waiting_for now wait process.old }
+/// The process has begun to wait, when its core's time was `now`. If its deadline is set, this is the new one, in ticks.
+pub fn begin_wait(process: &mut Process, now: u64, wait: Wait, deadline: Option<Option<u64>>)
+    ensures { process.new ≡ waiting_for now wait deadline process.old }
 {
     process.wait = wait;
+    if let Some(deadline) = deadline {
+        process.deadline = deadline;
+    }
     process.called_at = now;
 }
 
 /// A call at the core's time `now` makes this outcome due to the process. If its ready position is renewed, it is the given place; if a
-/// release is reached, that becomes its last one, in ticks.
+/// release is reached, that becomes its last one; if its deadline is set, this is the new one. Times are in ticks.
 pub fn owe(
     process: &mut Process,
     now: u64,
     renewed: Option<Place>,
     reached: Option<u64>,
+    deadline: Option<Option<u64>>,
     outcome: Outcome,
 )
-    ensures { process.new ≡ answered now renewed reached outcome process.old }
+    ensures { process.new ≡ answered now renewed reached deadline outcome process.old }
 {
     if let Some(place) = renewed {
         process.ready_position = place.number();
@@ -250,18 +273,32 @@ pub fn owe(
     if let Some(release) = reached {
         process.last_release = release;
     }
+    if let Some(deadline) = deadline {
+        process.deadline = deadline;
+    }
     process.due = Some(outcome);
     process.called_at = now;
 }
 
-/// The next release of a process, in ticks: a period after its last one, if it has a period.
-pub fn next_release(process: &Process) -> u64
+/// A release of a process, and the deadline that it gives the process, both in ticks.
+#[derive(Clone, Copy)]
+pub struct NextRelease {
+    pub time: u64,
+    pub deadline: Option<u64>,
+}
+
+/// The next release of a process: a period after its last one, if it has a period.
+pub fn next_release(process: &Process) -> NextRelease
     requires { due_times.next_release process.now < 18446744073709551616 }
-    ensures { result ≡ due_times.next_release process.now }
+    ensures { IsNextOf result process.now }
 {
-    match process.period {
+    let time = match process.period {
         Some(period) => process.last_release + period,
         None => process.last_release,
+    };
+    NextRelease {
+        time,
+        deadline: deadline_from(time, process.time_capacity),
     }
 }
 

@@ -10,6 +10,7 @@ ghost use Rattle.apex_machine.specs.Choice.{choice_in, choice_under, is_one_read
 ghost use Rattle.apex_machine.specs.declared.state.Process.{Process as ProcessValue};
 ghost use Rattle.apex_machine.specs.Conditions.{is_taken};
 ghost use Rattle.apex_machine.specs.Demands.{AllWaitAt};
+ghost use Rattle.apex_machine.specs.Deadlines as deadlines;
 ghost use Rattle.apex_machine.specs.DueTimes as due_times;
 ghost use Rattle.apex_machine.specs.Names.{number_named};
 ghost use Rattle.apex_machine.specs.ProcessConditions.{created_count};
@@ -19,12 +20,16 @@ ghost use Rattle.apex_machine.specs.Waiting as waiting;
 ghost use Rattle.indexmap.specs.IndexMap.{spare};
 ghost use Rattle.scheduling.specs.Due.{DueAreNamed, NamedFallDue};
 ghost use Rattle.scheduling.specs.Processes.{processes_in};
+ghost use Rattle.std.specs.List.{find};
 
 mod changes;
 mod records;
 
+use crate::deadline::has_missed;
 use crate::number::{natural_number, process_number};
-use crate::order::{DueTime, Rank, count_of, due_count, falls_due, first_on, is_ready};
+use crate::order::{
+    DueTime, Rank, count_of, due_count, falls_due, first_on, is_ready, is_some_reached,
+};
 use crate::sorted::Sorted;
 use crate::{process, wait};
 use apex_machine::{Mode, Process, WaitingSet};
@@ -37,15 +42,16 @@ use std::marker::Model;
 /// The processes of one partition, in the order of their creation, and the partition's mode. Its promises hold for any partition that has
 /// this mode and these processes. Process number 0 is the initialising process.
 ///
-/// With them are the ranks of those that are ready and the due times of those that wait, each in its order, with room for one of each
-/// process. So only the creation of a process takes memory for them. There is always room for the initialising process, so that a restart
-/// takes none.
+/// With them are the ranks of those that are ready, the due times of those that wait and the deadlines, each in its order, with room for one
+/// of each process. So only the creation of a process takes memory for them. There is always room for the initialising process, so that a
+/// restart takes none.
 #[derive(Drop)]
 pub struct ProcTable {
     mode: Mode,
     processes: IndexMap<ProcId, Process>,
     ready: Sorted<Rank>,
     due: Sorted<DueTime>,
+    deadlines: Sorted<DueTime>,
 }
 
 impl Model for ProcTable {
@@ -57,7 +63,7 @@ impl Model for ProcTable {
 
     ghost view = { λ table. processes_in table.mode table.processes.entries };
 
-    ghost invariant = { λ table. IsKept table.processes.entries (spare table.processes) table.ready table.due };
+    ghost invariant = { λ table. IsKept table.processes.entries (spare table.processes) table.ready table.due table.deadlines };
 }
 
 impl ProcTable {
@@ -71,11 +77,14 @@ impl ProcTable {
         ready.reserve(1)?;
         let mut due = Sorted::new(alloc);
         due.reserve(1)?;
+        let mut deadlines = Sorted::new(alloc);
+        deadlines.reserve(1)?;
         let mut table = ProcTable {
             mode: Mode::Idle,
             processes: IndexMap::with_capacity(alloc, 1)?,
             ready,
             due,
+            deadlines,
         };
         table.restart(Mode::ColdStart, first_core, Place::new(0));
         Ok(table)
@@ -197,6 +206,33 @@ impl ProcTable {
         self.named_fall_due(part, core, time, named) && self.due_are_named(part, core, time, named)
     }
 
+    /// Whether a process of this core has missed its deadline at this time of the core, in ticks.
+    pub fn is_some_missed(&self, core: CoreId, now: u64) -> bool
+        ensures { result ≡ deadlines.some_missed core now self.now.table }
+    {
+        is_some_reached(&self.deadlines, core, now)
+    }
+
+    /// The first process in the order of creation that runs on this core and has missed its deadline at this time of the core, in ticks, with
+    /// its number, or None if there is none.
+    pub fn first_missed(&self, core: CoreId, now: u64) -> Option<(&ProcId, &Process)>
+        ensures { option_map deref_pair result ≡ find (λ entry. deadlines.has_missed core now entry.1) self.now.table }
+    {
+        self.processes
+            .iter()
+            .find(|(_, process)| has_missed(process, core, now))
+    }
+
+    /// Whether there is a process of this number that runs on this core and has missed its deadline at this time of the core, in ticks.
+    pub fn is_missed(&self, number: ProcId, core: CoreId, now: u64) -> bool
+        ensures { result ≡ deadlines.is_missed core now (item_at self.now.table number) }
+    {
+        match self.proc(number) {
+            Some(process) => has_missed(process, core, now),
+            None => false,
+        }
+    }
+
     /// Whether a claimed value is a number that a new process can take: it is from 1 to 2,147,483,647, and no process has it.
     pub fn is_new_number(&self, claimed: Option<i64>) -> bool
         ensures { result ≡ is_new (is_free self.now.table) claimed }
@@ -299,6 +335,7 @@ impl Clone for ProcTable {
             processes: copied(&self.processes)?,
             ready: self.ready.copy()?,
             due: self.due.copy()?,
+            deadlines: self.deadlines.copy()?,
         })
     }
 }

@@ -5,6 +5,7 @@ ghost use Rattle.apex_types.specs.declared.limits.TheConstants.{GREATEST_SPAN, P
 ghost use Rattle.apex_machine.specs.Arguments.{natural_of};
 ghost use Rattle.apex_machine.specs.Choice as choice;
 ghost use Rattle.apex_machine.specs.Processes as processes;
+ghost use Rattle.apex_machine.specs.Deadlines as deadlines;
 ghost use Rattle.apex_machine.specs.DueTimes as due_times;
 ghost use Rattle.apex_machine.specs.Waiting as waiting;
 ghost use Rattle.scheduling.specs.Ranks as ranks;
@@ -120,6 +121,22 @@ pub fn release_reached(wait: Wait, last: u64) -> u64
         | Wait::Suspended(_)
         | Wait::At(..)
         | Wait::ForLock => last,
+    }
+}
+
+/// The time from which the time capacity of a process counts that is started in NORMAL with a delay, when its core's time is `now`: the end
+/// of the delay of an aperiodic one, the first release of a periodic one, which the delay puts off. All are in ticks; a delay below 0 is as
+/// none.
+pub fn entry_time(partition_period: u64, now: u64, delay: i64, period: Option<u64>) -> u64
+    requires least { 1 ≤ partition_period }
+    requires most { partition_period ≤ GREATEST_SPAN }
+    requires time { now < PLACE_COUNT }
+    ensures { result ≡ deadlines.entry_time partition_period now (natural_of delay) period }
+{
+    let delay = natural(delay);
+    match period {
+        Some(_) => first_release(partition_period, now) + delay,
+        None => now + delay,
     }
 }
 

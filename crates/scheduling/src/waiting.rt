@@ -47,7 +47,8 @@ fn own_wait(operation: &CallerOperation, now: u64, next: u64) -> Wait
         CallerOperation::StopSelf
         | CallerOperation::GetMyId
         | CallerOperation::GetTime
-        | CallerOperation::GetPartitionStatus => Wait::Nothing,
+        | CallerOperation::GetPartitionStatus
+        | CallerOperation::Replenish { .. } => Wait::Nothing,
     }
 }
 

@@ -15,7 +15,7 @@ use toml::de::Error;
 use toml::{Table, Value};
 use wording::{Count, Found, Part, Words};
 
-const KIND_NAMES: [&str; 6] = ["call", "ret", "disp", "tick", "arrive", "depart"];
+const KIND_NAMES: [&str; 7] = ["call", "ret", "disp", "tick", "arrive", "depart", "err"];
 
 const OUTCOME_NAMES: [&str; 9] = [
     "NO_ERROR",

@@ -2,7 +2,7 @@
 use Rattle.std.proofs.Common.{◌≡◌, ◌<◌, ◌≤◌, ◌∙◌, ℕ, zero, suc, List, [], ◌∷◌, ◌++◌, Bool, true, false, Option, Some, None, length, refl, sym, ap, subst, arith}
 use Rattle.std.specs.Prelude.{IsTrue}
 use Rattle.apex_types.specs.declared.record.Body.{Body}
-use Rattle.apex_types.specs.declared.record.Body.TheVariants.{Arrive, Call, Depart, Ret, Disp, Tick}
+use Rattle.apex_types.specs.declared.record.Body.TheVariants.{Arrive, Call, Depart, Error, Ret, Disp, Tick}
 use Rattle.apex_types.specs.declared.record.Ordered.{Ordered}
 use Rattle.apex_types.specs.declared.view.View.{View}
 use Rattle.apex_machine.specs.declared.state.CoreState.{CoreState}
@@ -60,6 +60,7 @@ names_judge configuration cores core (Disp who) hold = refl
 names_judge configuration cores core (Tick woken) hold = refl
 names_judge configuration cores core (Arrive crossing) hold = refl
 names_judge configuration cores core (Depart crossing) hold = refl
+names_judge configuration cores core (Error report) hold = refl
 
 -- if the module runs through a record, one of the pieces judges it
 pub judged_by : (configuration : Configuration) (parts : ℕ → Part) (before : List Ordered) (ordered : Ordered) → IsPartOf Module (parts 0)

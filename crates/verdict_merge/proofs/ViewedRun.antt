@@ -4,7 +4,7 @@ use Rattle.std.specs.Prelude.{IsTrue}
 use Rattle.std.proofs.lemmas.List.{append-nil}
 use Rattle.std.proofs.lemmas.Option.{same_Some}
 use Rattle.apex_types.specs.declared.record.Body.{Body}
-use Rattle.apex_types.specs.declared.record.Body.TheVariants.{Arrive, Call, Depart, Ret, Disp, Tick}
+use Rattle.apex_types.specs.declared.record.Body.TheVariants.{Arrive, Call, Depart, Error, Ret, Disp, Tick}
 use Rattle.apex_types.specs.declared.record.Ordered.{Ordered}
 use Rattle.apex_types.specs.declared.view.View.{View}
 use Rattle.apex_machine.specs.Channels.{EndsAreApart}
@@ -88,6 +88,7 @@ judge_configured configuration state ordered (Disp who) law = refl
 judge_configured configuration state ordered (Tick woken) law = refl
 judge_configured configuration state ordered (Arrive crossing) law = refl
 judge_configured configuration state ordered (Depart crossing) law = refl
+judge_configured configuration state ordered (Error report) law = refl
 
 -- the views are those of the machine's run
 pub views_are_of_the_run : (configuration : Configuration) (state : State) (before records : List Ordered) (final : State) (views : List View)

@@ -97,6 +97,7 @@ pub(crate) fn class_of_point(kind: MarkKind) -> &'static str
         MarkKind::Call | MarkKind::Crossing => "call",
         MarkKind::Return => "return",
         MarkKind::Restart => "restart",
+        MarkKind::Error => "error",
         MarkKind::Rejected | MarkKind::Unlawful => "unlawful",
         MarkKind::Lawful => "lawful",
     }
@@ -115,6 +116,7 @@ pub(crate) fn classes_of_box(kind: MarkKind) -> &'static str
         | MarkKind::Call
         | MarkKind::Return
         | MarkKind::Crossing
+        | MarkKind::Error
         | MarkKind::Restart => "mark unlawful",
     }
 }
@@ -132,6 +134,7 @@ pub(crate) fn sign_of_box(kind: MarkKind) -> &'static str
         | MarkKind::Call
         | MarkKind::Return
         | MarkKind::Crossing
+        | MarkKind::Error
         | MarkKind::Restart => "✗ ",
     }
 }

@@ -148,6 +148,7 @@ pub fn tell_key(out: &mut Markup) -> Result<(), AllocError> {
 const POINTS: &str =
     "<li><svg class=\"point\" width=\"18\" height=\"18\" aria-hidden=\"true\"><g class=\"mark call\"><circle cx=\"9\" cy=\"9\" r=\"4\"/></g></svg>call</li>
 <li><svg class=\"point\" width=\"18\" height=\"18\" aria-hidden=\"true\"><g class=\"mark return\"><circle cx=\"9\" cy=\"9\" r=\"4\"/></g></svg>return</li>
+<li><svg class=\"point\" width=\"18\" height=\"18\" aria-hidden=\"true\"><g class=\"mark error\"><circle cx=\"9\" cy=\"9\" r=\"4\"/></g></svg>error</li>
 <li><svg class=\"point\" width=\"18\" height=\"18\" aria-hidden=\"true\"><g class=\"mark dispatch\"><path d=\"m 5,3 l 9,6 l -9,6 z\"/></g></svg>dispatch</li>
 <li><svg class=\"point\" width=\"18\" height=\"18\" aria-hidden=\"true\"><g class=\"mark tick\"><line x1=\"9\" x2=\"9\" y1=\"2\" y2=\"16\"/></g></svg>tick of a core</li>
 <li><svg width=\"34\" height=\"18\" aria-hidden=\"true\"><g class=\"arrow wake\"><path class=\"way\" d=\"m 3,9 l 25,0\"/></g></svg>ends a wait</li>

@@ -123,6 +123,7 @@ fn tell_point(
         MarkKind::Call
         | MarkKind::Return
         | MarkKind::Crossing
+        | MarkKind::Error
         | MarkKind::Rejected
         | MarkKind::Lawful
         | MarkKind::Unlawful => {

@@ -47,6 +47,7 @@ pub const STYLE: &str = "
 .mark.dispatch path { fill: #000000; stroke: #ffffff; }
 .mark.call circle { fill: #000000; stroke: #ffffff; }
 .mark.return circle { fill: #ffffff; stroke: #000000; stroke-width: 1.5; }
+.mark.error circle { fill: #b84300; stroke: #ffffff; }
 .mark.restart line { stroke: #b84300; stroke-width: 2; stroke-dasharray: 6 3; }
 .mark.restart line.halo { stroke: #ffffff; stroke-width: 4; stroke-dasharray: none; }
 .mark.lawful rect { fill: #ffffff; stroke: #00684b; stroke-width: 2; stroke-dasharray: 5 3; }

@@ -144,14 +144,30 @@ impl Picture {
                 format_args!("its priority is {current}, and its own {base}"),
             )?;
         }
-        Ok(())
+        match view.deadline {
+            Some(deadline) => add_words(told, format_args!("its deadline is at time {deadline}")),
+            None if self.had_deadline(who) => {
+                add_words(told, format_args!("it has no deadline now"))
+            }
+            None => Ok(()),
+        }
     }
 
-    // Whether a process is new, does something else, or has another priority.
+    // Whether a process had a deadline as it was last seen.
+    fn had_deadline(&self, who: &Who) -> bool {
+        self.processes
+            .iter()
+            .find(|process| process.who == *who)
+            .is_some_and(|process| process.view.deadline.is_some())
+    }
+
+    // Whether a process is new, does something else, or has another priority or deadline.
     fn is_affected(&self, who: &Who, view: &ProcessView) -> bool {
         match self.processes.iter().find(|process| process.who == *who) {
             Some(last) => {
-                last.view.state != view.state || last.view.current_priority != view.current_priority
+                last.view.state != view.state
+                    || last.view.current_priority != view.current_priority
+                    || last.view.deadline != view.deadline
             }
             None => true,
         }

@@ -71,6 +71,9 @@ pub fn label_of(alloc: Global, ordered: &Ordered, time: Option<u64>) -> Result<S
         Body::Depart(crossing) => {
             format!(in alloc; "depart from channel {}", crossing.chan.number())
         }
+        Body::Error(report) => {
+            format!(in alloc; "{} of {}", Ascii(report.error.name()), Short(report.who))
+        }
         Body::Disp(Some(who)) => format!(in alloc; "dispatch {}", Short(*who)),
         Body::Disp(None) => String::from_str(alloc, "dispatch nobody"),
         Body::Ret(ret) if ret.code == Code::NoError => {

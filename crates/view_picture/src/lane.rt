@@ -13,6 +13,8 @@ pub enum MarkKind {
     Return,
     /// A message arrives from outside, or departs to it.
     Crossing,
+    /// An error of the process is reported.
+    Error,
     /// The partition restarts.
     Restart,
     /// What the rejected record says.
@@ -33,6 +35,7 @@ impl MarkKind {
             | MarkKind::Call
             | MarkKind::Return
             | MarkKind::Crossing
+            | MarkKind::Error
             | MarkKind::Restart => false,
         }
     }

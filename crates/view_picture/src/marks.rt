@@ -14,7 +14,8 @@ use std::alloc::AllocError;
 use wording::out_name;
 
 impl Picture {
-    // Marks what a record does, in the lane of the core or the process that makes it; an arrival and a departure in the lane of their channel.
+    // Marks what a record does, in the lane of the core or the process that makes it; an arrival and a departure in the lane of their channel,
+    // and an error in that of its process.
     pub(crate) fn mark_record(
         &mut self,
         column: usize,
@@ -39,6 +40,7 @@ impl Picture {
             Body::Arrive(_) | Body::Depart(_) => {
                 self.add_mark(actor_of(ordered), column, MarkKind::Crossing, words)
             }
+            Body::Error(_) => self.add_mark(actor_of(ordered), column, MarkKind::Error, words),
             Body::Call(call) => {
                 self.add_mark(LaneKey::Process(call.who), column, MarkKind::Call, words)?;
                 match restart_of(call) {
@@ -78,7 +80,7 @@ impl Picture {
             Body::Call(call) => call.claim.woken.as_slice(),
             Body::Tick(woken) => woken.as_slice(),
             Body::Arrive(crossing) | Body::Depart(crossing) => crossing.woken.as_slice(),
-            Body::Ret(_) | Body::Disp(_) => &[],
+            Body::Ret(_) | Body::Disp(_) | Body::Error(_) => &[],
         };
         let place = ordered.pos.number();
         for who in woken {
@@ -160,15 +162,21 @@ impl Picture {
                 let text = format!(in alloc; "should get {}", out_name(*out))?;
                 self.add_mark(LaneKey::Process(*who), column, MarkKind::Lawful, text)
             }
+            Lawful::Misses(who, deadline) => {
+                let text = format!(in alloc; "missed deadline {deadline}")?;
+                self.add_mark(LaneKey::Process(*who), column, MarkKind::Unlawful, text)
+            }
         }
     }
 }
 
-// The lane of the process or the core that makes a record; of an arrival and a departure, that of their channel.
+// The lane of the process or the core that makes a record; of an arrival and a departure, that of their channel, and of an error, that of
+// its process.
 pub(crate) fn actor_of(ordered: &Ordered) -> LaneKey {
     match &ordered.rec.body {
         Body::Call(call) => LaneKey::Process(call.who),
         Body::Ret(ret) => LaneKey::Process(ret.who),
+        Body::Error(report) => LaneKey::Process(report.who),
         Body::Arrive(crossing) | Body::Depart(crossing) => {
             LaneKey::Thing(ThingKey::Channel(crossing.chan))
         }

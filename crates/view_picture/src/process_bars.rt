@@ -31,12 +31,15 @@ pub fn process_saying(
     let look = look_of(view, hold);
     let text = text_of(alloc, view, hold)?;
     let verb = verb_of(look);
-    let title = format!(in alloc;
+    let mut title = format!(in alloc;
         "{}{name} {verb}{text}; its own priority is {}, and its core {}",
         Numbered(*who),
         view.base_priority,
         view.affinity.number()
     )?;
+    if let Some(deadline) = view.deadline {
+        write!(title, "; its deadline is at time {deadline}")?;
+    }
     let brief = String::from_str(alloc, brief_of(look))?;
     Ok(Saying {
         look,

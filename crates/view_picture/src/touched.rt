@@ -15,7 +15,7 @@ pub(crate) fn names(ordered: &Ordered, key: &LaneKey) -> bool {
             Body::Arrive(crossing) | Body::Depart(crossing) => {
                 *key == ThingKey::Channel(crossing.chan)
             }
-            Body::Ret(_) | Body::Disp(_) | Body::Tick(_) => false,
+            Body::Ret(_) | Body::Disp(_) | Body::Tick(_) | Body::Error(_) => false,
         },
     }
 }
@@ -40,6 +40,7 @@ fn names_process(body: &Body, who: &Who) -> bool {
             crossing.woken.as_slice().iter().any(|named| *named == *who)
         }
         Body::Ret(ret) => ret.who == *who,
+        Body::Error(report) => report.who == *who,
         Body::Call(call) => {
             call.who == *who
                 || call

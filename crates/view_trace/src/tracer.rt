@@ -166,6 +166,7 @@ impl<'a, W: Sink> Tracer<'a, W> {
             Body::Depart(crossing) => {
                 format!(in self.alloc; "depart from channel {}", crossing.chan.number())?
             }
+            Body::Error(report) => format!(in self.alloc; "{}", Ascii(report.error.name()))?,
             Body::Disp(_) => String::from_str(self.alloc, "dispatch")?,
             Body::Tick(_) => String::from_str(self.alloc, "tick")?,
         };

@@ -21,15 +21,17 @@ pub fn woken_by(ordered: &Ordered) -> &[Who] {
         Body::Call(call) => call.claim.woken.as_slice(),
         Body::Tick(woken) => woken.as_slice(),
         Body::Arrive(crossing) | Body::Depart(crossing) => crossing.woken.as_slice(),
-        Body::Ret(_) | Body::Disp(_) => &[],
+        Body::Ret(_) | Body::Disp(_) | Body::Error(_) => &[],
     }
 }
 
-// The track of the process or the core that makes a record; of an arrival and a departure, that of their channel.
+// The track of the process or the core that makes a record; of an arrival and a departure, that of their channel, and of an error, that of
+// its process.
 pub fn actor_of(ordered: &Ordered) -> Track {
     match &ordered.rec.body {
         Body::Call(call) => process_track(call.who),
         Body::Ret(ret) => process_track(ret.who),
+        Body::Error(report) => process_track(report.who),
         Body::Arrive(crossing) | Body::Depart(crossing) => channel_track(crossing.chan),
         Body::Disp(_) | Body::Tick(_) => core_track(ordered.core),
     }

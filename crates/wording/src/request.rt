@@ -89,13 +89,14 @@ fn tell_process(words: &mut Words, operation: &ProcessOperation) {
     }
 }
 
-// Reports how long the caller is to wait.
+// Reports the time that the caller gives: how long it is to wait, or its new budget.
 fn tell_caller(words: &mut Words, operation: &CallerOperation) {
     match operation {
         CallerOperation::SuspendSelf { time_out } => {
             words.say(format_args!(" with time-out {time_out}"));
         }
         CallerOperation::TimedWait { delay } => words.say(format_args!(" with delay {delay}")),
+        CallerOperation::Replenish { budget } => words.say(format_args!(" with budget {budget}")),
         CallerOperation::StopSelf
         | CallerOperation::GetMyId
         | CallerOperation::PeriodicWait

@@ -56,6 +56,7 @@ fn rules_of(service: Service) -> Rules {
         Service::GetMyId => row(ANSWER, "get_my_id_conditions"),
         Service::TimedWait => row(ANSWER, "timed_wait_conditions"),
         Service::PeriodicWait => row(ANSWER, "periodic_wait_conditions"),
+        Service::Replenish => row(ANSWER, "replenish_conditions"),
         Service::SetPartitionMode => row(ANSWER, "set_mode_conditions"),
         Service::CreateBuffer
         | Service::CreateBlackboard

@@ -3,7 +3,7 @@
 use crate::naming::{Ascii, Bytes, Numbered, out_name};
 use crate::request::tell_request;
 use crate::words::Words;
-use apex_types::{Body, Call, Claim, Crossing, Ordered, Out, Return, Who};
+use apex_types::{Body, Call, Claim, Crossing, ErrorReport, Ordered, Out, Return, Who};
 
 /// How many processes of a list are shown.
 const MOST_NAMED: usize = 8;
@@ -24,6 +24,16 @@ pub fn tell_record(words: &mut Words, ordered: &Ordered) {
         }
         Body::Arrive(crossing) => tell_crossing(words, crossing, "arrives at"),
         Body::Depart(crossing) => tell_crossing(words, crossing, "departs from"),
+        Body::Error(report) => tell_error(words, report),
+    }
+}
+
+// Reports an error of a process.
+fn tell_error(words: &mut Words, report: &ErrorReport) {
+    let error = Ascii(report.error.name());
+    words.say(format_args!("{} has the error {error}", Numbered(report.who)));
+    if report.restarts {
+        words.say(", which restarts its partition");
     }
 }
 

@@ -1,6 +1,6 @@
 // The error conditions of uses of buffers, blackboards, semaphores, events and mutexes.
 
-ghost use Rattle.std.specs.Prelude.{◌≡◌, ◌≤◌, [], length as count_of, nat_lt, option_map};
+ghost use Rattle.std.specs.Prelude.{◌≡◌, ◌≤◌, [], length as count_of, nat_lt, option_map, ℕ};
 ghost use Rattle.std.specs.Option.{option_copied};
 ghost use Rattle.apex_types.specs.declared.operation.ObjectOperation.TheVariants as on;
 ghost use Rattle.apex_types.specs.declared.request.Request.TheVariants as request;
@@ -30,7 +30,7 @@ pub(super) fn object_conditions(
     number: i64,
     operation: &ObjectOperation,
 ) -> Conditions
-    ensures { (configuration : Configuration) → result ≡ conditions_of configuration who state.now (request.Object number operation.now) }
+    ensures { (configuration : Configuration) (now : ℕ) → result ≡ conditions_of configuration now who state.now (request.Object number operation.now) }
 {
     match operation {
         ObjectOperation::Buffer(operation) => buffer_conditions(state, who, number, operation),
@@ -53,7 +53,7 @@ fn buffer_conditions(
     buffer: i64,
     operation: &BufferOperation,
 ) -> Conditions
-    ensures { (configuration : Configuration) → result ≡ conditions_of configuration who state.now (request.Object buffer (on.Buffer operation.now)) }
+    ensures { (configuration : Configuration) (now : ℕ) → result ≡ conditions_of configuration now who state.now (request.Object buffer (on.Buffer operation.now)) }
 {
     let found = state.buffers().given(buffer);
     match operation {
@@ -74,7 +74,7 @@ fn blackboard_conditions(
     blackboard: i64,
     operation: &BlackboardOperation,
 ) -> Conditions
-    ensures { (configuration : Configuration) → result ≡ conditions_of configuration who state.now (request.Object blackboard (on.Blackboard operation.now)) }
+    ensures { (configuration : Configuration) (now : ℕ) → result ≡ conditions_of configuration now who state.now (request.Object blackboard (on.Blackboard operation.now)) }
 {
     let found = state.blackboards().given(blackboard);
     match operation {
@@ -91,7 +91,7 @@ fn semaphore_conditions(
     semaphore: i64,
     operation: &SemaphoreOperation,
 ) -> Conditions
-    ensures { (configuration : Configuration) → result ≡ conditions_of configuration who state.now (request.Object semaphore (on.Semaphore operation.now)) }
+    ensures { (configuration : Configuration) (now : ℕ) → result ≡ conditions_of configuration now who state.now (request.Object semaphore (on.Semaphore operation.now)) }
 {
     let found = state.semaphores().given(semaphore);
     match operation {
@@ -107,7 +107,7 @@ fn event_conditions(
     event: i64,
     operation: &EventOperation,
 ) -> Conditions
-    ensures { (configuration : Configuration) → result ≡ conditions_of configuration who state.now (request.Object event (on.Event operation.now)) }
+    ensures { (configuration : Configuration) (now : ℕ) → result ≡ conditions_of configuration now who state.now (request.Object event (on.Event operation.now)) }
 {
     let found = state.events().given(event);
     match operation {
@@ -123,7 +123,7 @@ fn mutex_conditions(
     mutex: i64,
     operation: &MutexOperation,
 ) -> Conditions
-    ensures { (configuration : Configuration) → result ≡ conditions_of configuration who state.now (request.Object mutex (on.Mutex operation.now)) }
+    ensures { (configuration : Configuration) (now : ℕ) → result ≡ conditions_of configuration now who state.now (request.Object mutex (on.Mutex operation.now)) }
 {
     match operation {
         MutexOperation::Acquire { time_out } => acquire_mutex(who, state, mutex, *time_out),

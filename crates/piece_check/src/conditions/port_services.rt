@@ -23,7 +23,7 @@ pub(super) fn sampling_conditions(
     port: i64,
     operation: &SamplingOperation,
 ) -> Conditions
-    ensures { (configuration : Configuration) (who : WhoValue) → result ≡ conditions_of configuration who state.now (request.SamplingPort port operation.now) }
+    ensures { (configuration : Configuration) (now : ℕ) (who : WhoValue) → result ≡ conditions_of configuration now who state.now (request.SamplingPort port operation.now) }
 {
     match operation {
         SamplingOperation::Write { length, .. } => put_in(state.sampling_ports(), port, *length),
@@ -39,7 +39,7 @@ pub(super) fn queuing_conditions(
     port: i64,
     operation: &QueuingOperation,
 ) -> Conditions
-    ensures { (configuration : Configuration) → result ≡ conditions_of configuration who state.now (request.QueuingPort port operation.now) }
+    ensures { (configuration : Configuration) (now : ℕ) → result ≡ conditions_of configuration now who state.now (request.QueuingPort port operation.now) }
 {
     match operation {
         QueuingOperation::Send {

@@ -1,6 +1,6 @@
 // The error conditions of LOCK_PREEMPTION and UNLOCK_PREEMPTION.
 
-ghost use Rattle.std.specs.Prelude.{◌≡◌, ◌≤◌, ◌&&◌, length, nat_le};
+ghost use Rattle.std.specs.Prelude.{◌≡◌, ◌≤◌, ◌&&◌, length, nat_le, ℕ};
 ghost use Rattle.apex_types.specs.declared.limits.TheConstants.{GREATEST_LOCK_LEVEL as greatest_level};
 ghost use Rattle.apex_types.specs.declared.request.Request.TheVariants as request;
 ghost use Rattle.apex_machine.specs.Configuration.{Configuration};
@@ -21,7 +21,7 @@ pub(super) fn preemption_conditions(
     who: Who,
     operation: &LockOperation,
 ) -> Conditions
-    ensures { (configuration : Configuration) → result ≡ conditions_of configuration who state.now (request.Preemption operation.now) }
+    ensures { (configuration : Configuration) (now : ℕ) → result ≡ conditions_of configuration now who state.now (request.Preemption operation.now) }
 {
     match operation {
         LockOperation::Lock => lock(state, who),
@@ -51,8 +51,8 @@ fn unlock(state: &PartitionState, who: Who) -> Conditions
     preemption(state, who).with(!state.owns_lock(caller), Condition::NotLockOwner)
 }
 
-// Both: the mode NORMAL; a caller that is not the initialising process.
-fn preemption(state: &PartitionState, who: Who) -> Conditions
+/// Both, and REPLENISH: the mode NORMAL; a caller that is not the initialising process.
+pub(super) fn preemption(state: &PartitionState, who: Who) -> Conditions
     ensures value { result ≡ processes.preemption_conditions who state.now }
     ensures few { length result ≤ 2 }
 {

@@ -1,6 +1,6 @@
 // The error conditions of the services on processes, on the caller's waits and on the partition's mode.
 
-ghost use Rattle.std.specs.Prelude.{◌≡◌, ◌≤◌, length};
+ghost use Rattle.std.specs.Prelude.{◌≡◌, ◌≤◌, ℕ, length};
 ghost use Rattle.std.specs.Option.{option_copied};
 ghost use Rattle.apex_types.specs.declared.request.Request.TheVariants as request;
 ghost use Rattle.apex_machine.specs.Conditions as shared;
@@ -9,6 +9,7 @@ ghost use Rattle.apex_machine.specs.DueTimes as due_times;
 ghost use Rattle.apex_machine.specs.ProcessConditions as processes;
 ghost use Rattle.apex_machine.specs.ServiceConditions.{conditions_of};
 
+use super::deadlines::replenish;
 use super::{creation, is_normal, is_reached, may_not_wait};
 use crate::arguments::{
     is_above_period, is_at_least, is_mode, is_negative, is_normal_mode, is_period, is_priority,
@@ -28,7 +29,7 @@ pub(super) fn process_conditions(
     process: i64,
     operation: &ProcessOperation,
 ) -> Conditions
-    ensures { result ≡ conditions_of config.now who state.now (request.Process process operation.now) }
+    ensures { (now : ℕ) → result ≡ conditions_of config.now now who state.now (request.Process process operation.now) }
 {
     let target = state.processes().created(process);
     match operation {
@@ -45,20 +46,22 @@ pub(super) fn process_conditions(
     }
 }
 
-/// STOP_SELF and all other services that a process requests for itself. STOP_SELF, GET_TIME and GET_PARTITION_STATUS have no error
-/// condition.
+/// STOP_SELF and all other services that a process requests for itself, at this time of its core, in ticks. STOP_SELF, GET_TIME and
+/// GET_PARTITION_STATUS have no error condition.
 pub(super) fn caller_conditions(
+    now: u64,
     state: &PartitionState,
     who: Who,
     operation: &CallerOperation,
 ) -> Conditions
-    ensures { (configuration : Configuration) → result ≡ conditions_of configuration who state.now (request.Caller operation.now) }
+    ensures { (configuration : Configuration) → result ≡ conditions_of configuration now who state.now (request.Caller operation.now) }
 {
     match operation {
         CallerOperation::SuspendSelf { time_out } => suspend_self(who, state, *time_out),
         CallerOperation::GetMyId => get_my_id(who),
         CallerOperation::TimedWait { delay } => timed_wait(who, state, *delay),
         CallerOperation::PeriodicWait => periodic_wait(who, state),
+        CallerOperation::Replenish { budget } => replenish(now, state, who, *budget),
         CallerOperation::StopSelf
         | CallerOperation::GetTime
         | CallerOperation::GetPartitionStatus => Conditions::none(),

@@ -7,7 +7,7 @@ ghost use Rattle.apex_machine.specs.declared.state.Process.{Process as ProcessVa
 ghost use Rattle.apex_machine.specs.Answer.{is_new};
 ghost use Rattle.apex_machine.specs.Processes.{after_normal, granted, new_process, released, restored, stopped, woken_by};
 ghost use Rattle.apex_machine.specs.State.{each_item, first_processes, initialising_process, is_free, time_of};
-ghost use Rattle.apex_machine.specs.After.{returned};
+ghost use Rattle.apex_machine.specs.After.{returned, deadline_taken};
 ghost use Rattle.scheduling.specs.Changes.{answered, named, only, stopped_self, waiting_for, with_each};
 ghost use Rattle.scheduling.specs.Processes.{processes_in};
 ghost use Rattle.scheduling.specs.Transfers.{transferred};
@@ -46,6 +46,7 @@ impl ProcTable {
         let count = self.processes.len().saturating_add(1);
         self.ready.reserve(count)?;
         self.due.reserve(count)?;
+        self.deadlines.reserve(count)?;
         self.processes.insert(number, created)?;
         Ok(())
     }
@@ -81,6 +82,7 @@ impl ProcTable {
         self.processes.clear();
         self.ready.clear();
         self.due.clear();
+        self.deadlines.clear();
         if mode != Mode::Idle {
             self.begin(first_core, place);
         }
@@ -106,27 +108,30 @@ impl ProcTable {
         self.change(caller, |process| process::stop_self(process, now));
     }
 
-    /// The caller waits from `now` on, its core's time. Takes no memory.
-    pub fn wait(&mut self, caller: ProcId, now: u64, wait: Wait)
-        ensures { self.new ≡ with_each (only caller (waiting_for now wait)) self.old }
+    /// The caller waits from `now` on, its core's time. If its deadline is set, this is the new one, in ticks. Takes no memory.
+    pub fn wait(&mut self, caller: ProcId, now: u64, wait: Wait, deadline: Option<Option<u64>>)
+        ensures { self.new ≡ with_each (only caller (waiting_for now wait deadline)) self.old }
     {
-        self.change(caller, |process| process::begin_wait(process, now, wait));
+        self.change(caller, |process| {
+            process::begin_wait(process, now, wait, deadline)
+        });
     }
 
     /// The outcome is due to the caller from `now` on, its core's time. If its ready position is renewed, it is the given place; if a
-    /// release is reached, that becomes its last one, in ticks. Takes no memory.
+    /// release is reached, that becomes its last one; if its deadline is set, this is the new one. Times are in ticks. Takes no memory.
     pub fn answer(
         &mut self,
         caller: ProcId,
         now: u64,
         renewed: Option<Place>,
         reached: Option<u64>,
+        deadline: Option<Option<u64>>,
         outcome: Outcome,
     )
-        ensures { self.new ≡ with_each (only caller (answered now renewed reached outcome)) self.old }
+        ensures { self.new ≡ with_each (only caller (answered now renewed reached deadline outcome)) self.old }
     {
         self.change(caller, |process| {
-            process::owe(process, now, renewed, reached, outcome)
+            process::owe(process, now, renewed, reached, deadline, outcome)
         });
     }
 
@@ -150,6 +155,13 @@ impl ProcTable {
         ensures { self.new ≡ with_each (returned returner) self.old }
     {
         self.change(returner, |process| process::give_back(process));
+    }
+
+    /// The missed deadline of this process has been reported: it has none now. Takes no memory.
+    pub fn take_deadline(&mut self, missed: ProcId)
+        ensures { self.new ≡ with_each (deadline_taken missed) self.old }
+    {
+        self.change(missed, |process| process::take_deadline(process));
     }
 
     /// STOP of the process that a caller names by this number; if there is none, nothing changes. Takes no memory.
@@ -205,10 +217,13 @@ impl ProcTable {
     {
         if let Some(process) = self.processes.get_mut(&number) {
             let (old_rank, old_due) = (Rank::of(number, process), DueTime::of(number, process));
+            let old_deadline = DueTime::of_deadline(number, process);
             change(process);
             let (rank, due) = (Rank::of(number, process), DueTime::of(number, process));
+            let deadline = DueTime::of_deadline(number, process);
             self.ready.replace(old_rank, rank);
             self.due.replace(old_due, due);
+            self.deadlines.replace(old_deadline, deadline);
         }
     }
 }

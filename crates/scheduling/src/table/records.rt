@@ -6,7 +6,6 @@ ghost use Rattle.apex_machine.specs.Configuration.{Configuration};
 ghost use Rattle.std.specs.List.{IsDistinct};
 ghost use Rattle.std.specs.Map.{keys_of};
 ghost use Rattle.apex_machine.specs.declared.state.Process.{Process as ProcessValue};
-ghost use Rattle.apex_machine.specs.DueTimes as due_times;
 ghost use Rattle.apex_machine.specs.State.{Partition, each_item, item_at, time_of};
 ghost use Rattle.apex_machine.specs.Processes.{set_by, set_in};
 ghost use Rattle.apex_machine.specs.Waiting.{message_of};
@@ -16,6 +15,7 @@ ghost use Rattle.scheduling.specs.Peers.{peer_woken, stopped_by};
 ghost use Rattle.scheduling.specs.HandedOver.{AreCopies};
 ghost use Rattle.scheduling.specs.Prepared.{IsPreparedFor, creates_process};
 ghost use Rattle.scheduling.specs.Processes.{processes_of};
+ghost use Rattle.scheduling.specs.Releases.{IsNextOf};
 ghost use Rattle.scheduling.specs.Settled.{settled};
 ghost use Rattle.scheduling.specs.Sound.{GivesSoundly, IsSound, ReleasesSoundly, is_periodic_wait};
 ghost use Rattle.scheduling.specs.Timely.{IsTimely};
@@ -30,7 +30,7 @@ use crate::number::claimed_number;
 use crate::order::is_of;
 use crate::peer::{answers_no_error, stop_of, wakes};
 use crate::prepared::{Prepared, prepared_for};
-use crate::process;
+use crate::process::{self, NextRelease};
 use crate::transfer::Transfer;
 use apex_types::{
     Call, CallerOperation, CoreId, Message, ObjectOperation, PartId, Place, ProcId,
@@ -237,20 +237,25 @@ impl ProcTable {
         }
     }
 
-    // The next release of a caller of PERIODIC_WAIT, in ticks; 0 if the call is of another service, or its caller does not exist.
-    fn next_release(&self, call: &Call) -> u64
+    // The next release of a caller of PERIODIC_WAIT, with the deadline that it gives; one at 0 if the call is of another service, or its
+    // caller does not exist.
+    fn next_release(&self, call: &Call) -> NextRelease
         requires { ReleasesSoundly self.now.table call.now.who.proc call.now.request }
-        ensures value { is_periodic_wait call.now.request ≡ true → (process : ProcessValue) → item_at self.now.table call.now.who.proc ≡ Some process → result ≡ due_times.next_release process }
+        ensures value { is_periodic_wait call.now.request ≡ true → (process : ProcessValue) → item_at self.now.table call.now.who.proc ≡ Some process → IsNextOf result process }
         ensures distinct { IsDistinct nat_eq (keys_of self.now.table) }
     {
         // That no number occurs twice in the map is known when the map is used.
         let _ = self.processes.len();
+        let none = NextRelease {
+            time: 0,
+            deadline: None,
+        };
         match &call.request {
             Request::Caller(CallerOperation::PeriodicWait) => match self.proc(call.who.proc) {
                 Some(process) => process::next_release(process),
-                None => 0,
+                None => none,
             },
-            _ => 0,
+            _ => none,
         }
     }
 
@@ -259,13 +264,14 @@ impl ProcTable {
         ensures { self.new ≡ with_each (only caller (settled now settling)) self.old }
     {
         match settling {
-            Settling::Waits(wait) => self.wait(caller, now, wait),
+            Settling::Waits { wait, deadline } => self.wait(caller, now, wait, deadline),
             Settling::Stops => self.stop_self(caller, now),
             Settling::Owed {
                 outcome,
                 renewed,
                 reached,
-            } => self.answer(caller, now, renewed, reached, outcome),
+                deadline,
+            } => self.answer(caller, now, renewed, reached, deadline, outcome),
         }
     }
 }

@@ -9,13 +9,16 @@ pub returns-in-Caller : goal.returns-in-Caller
 returns-in-Caller c = search (rules, c.caller_conditions.ensures c.args.config.now)
 
 pub returns-in-Object : goal.returns-in-Object
-returns-in-Object c = search (rules, c.object_conditions.ensures c.args.config.now)
+returns-in-Object c = search (rules, c.object_conditions.ensures c.args.config.now c.args.now)
 
 pub returns-in-QueuingPort : goal.returns-in-QueuingPort
-returns-in-QueuingPort c = search (rules, c.queuing_conditions.ensures c.args.config.now)
+returns-in-QueuingPort c = search (rules, c.queuing_conditions.ensures c.args.config.now c.args.now)
 
 pub returns-in-SamplingPort : goal.returns-in-SamplingPort
-returns-in-SamplingPort c = search (rules, c.sampling_conditions.ensures c.args.config.now c.args.call.now.who)
+returns-in-SamplingPort c = search (rules, c.sampling_conditions.ensures c.args.config.now c.args.now c.args.call.now.who)
 
 pub returns-in-Preemption : goal.returns-in-Preemption
-returns-in-Preemption c = search (rules, c.preemption_conditions.ensures c.args.config.now)
+returns-in-Preemption c = search (rules, c.preemption_conditions.ensures c.args.config.now c.args.now)
+
+pub returns-in-Process : goal.returns-in-Process
+returns-in-Process c = search (rules, c.process_conditions.ensures c.args.now)

@@ -9,6 +9,9 @@ use Rattle.run_view.proofs.lawful.lawful_of.Goals as goal
 pub returns-in-Choice : goal.returns-in-Choice
 returns-in-Choice c = λ agrees. IfOk-weaker c.only.result _ _ (λ lawful so. lawful_by _ _ _ _ _ _ (c.in-Choice.ensures agrees) so) c.only.ensures
 
+pub returns-in-Missed : goal.returns-in-Missed
+returns-in-Missed c = λ agrees. IfOk-weaker c.only-in-Missed.result _ _ (λ lawful so. lawful_by _ _ _ _ _ _ (c.in-Missed.ensures agrees) so) c.only-in-Missed.ensures
+
 pub returns-in-Priority : goal.returns-in-Priority
 returns-in-Priority c = λ agrees. IfOk-weaker c.lawful_priority.result _ _ (λ lawful so. lawful_by _ _ _ _ _ _ (c.in-Priority.ensures agrees) so) c.lawful_priority.ensures
 
@@ -25,4 +28,4 @@ returns-in_default c = λ agrees.
     let found = c.evidence.result in
     lawful_by c.args.config.now part ordered c.args.cause found _ (c.evidence.ensures agrees)
     (subst (λ (shown : List Lawful). FollowsFrom found part ordered.core ordered.rec.body c.args.cause shown) (sym c.new.ensures.items)
-    (nothing_follows found part ordered.core ordered.rec.body c.args.cause c.in_default.not-Choice c.in_default.not-Priority c.in_default.not-Answer c.in_default.not-Named))
+    (nothing_follows found part ordered.core ordered.rec.body c.args.cause c.in_default.not-Choice c.in_default.not-Missed c.in_default.not-Priority c.in_default.not-Answer c.in_default.not-Named))

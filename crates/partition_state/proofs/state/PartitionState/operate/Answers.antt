@@ -47,7 +47,7 @@ pub use_lock-requires-clause-owed : goal.use_lock-requires-clause-owed
 use_lock-requires-clause-owed c =
     let a = c.args in
     rw c.caller_of-caller.ensures
-    (rw (← c.self-in-Preemption.view_is) at (lock_owed a.config.now a.self.now a.moment.now.place a.call.now c.in-Preemption.operation c.requires.clear.conditions c.in-Preemption.is))
+    (rw (← c.self-in-Preemption.view_is) at (lock_owed a.config.now _ a.self.now a.moment.now.place a.call.now c.in-Preemption.operation c.requires.clear.conditions c.in-Preemption.is))
 
 pub returns-in-Preemption-clause-ok : goal.returns-in-Preemption-clause-ok
 returns-in-Preemption-clause-ok c =

@@ -1,0 +1,5 @@
+use Rattle.apex_laws.proofs.Records.{error_is_the_sentence}
+use Rattle.apex_laws.proofs.error_is_the_sentence.Goals as goal
+
+pub returns : goal.returns
+returns c = error_is_the_sentence
