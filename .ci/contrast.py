@@ -228,7 +228,8 @@ def texts_of(tree):
 
 # Every look of a bar, with its pattern if it has one.
 LOOKS = {"window": "", "no-window": "stripes", "occupied": "", "idle": "", "normal": "", "other-mode": "", "running": "", "raised": "",
-         "ready": "", "preempted": "stripes", "waiting": "dots", "suspended": "grid", "dormant": "", "free": "", "awaited": ""}
+         "ready": "", "preempted": "stripes", "waiting": "dots", "suspended": "grid", "faulted": "crosses",
+         "dormant": "", "free": "", "awaited": ""}
 LANES = ("core", "partition", "process", "thing")
 
 

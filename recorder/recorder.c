@@ -116,7 +116,12 @@ static const char *const OUTCOMES[REC_OUTCOMES] = {
     [REC_TIMED_OUT] = "TIMED_OUT",         [REC_WAIT] = "wait",                 [REC_NONE] = "none",
 };
 
-static const char *const ERRORS[REC_ERRORS] = {[REC_DEADLINE_MISSED] = "DEADLINE_MISSED"};
+static const char *const ERRORS[REC_ERRORS] = {
+    [REC_DEADLINE_MISSED] = "DEADLINE_MISSED",   [REC_APPLICATION_ERROR] = "APPLICATION_ERROR",
+    [REC_NUMERIC_ERROR] = "NUMERIC_ERROR",       [REC_ILLEGAL_REQUEST] = "ILLEGAL_REQUEST",
+    [REC_STACK_OVERFLOW] = "STACK_OVERFLOW",     [REC_MEMORY_VIOLATION] = "MEMORY_VIOLATION",
+    [REC_HARDWARE_FAULT] = "HARDWARE_FAULT",     [REC_POWER_FAIL] = "POWER_FAIL",
+};
 
 /* Opening. */
 
@@ -364,9 +369,13 @@ void rec_depart(struct recorder *recorder, const struct rec_crossing *crossing)
     put(recorder, &entry);
 }
 
-void rec_error(struct recorder *recorder, struct rec_process process, enum rec_error_code error)
+void rec_error(struct recorder *recorder, struct rec_process process, enum rec_error_code error, bool restarts)
 {
-    struct entry entry = {.kind = ERROR, .fields = HAS_PROCESS | HAS_ERROR, .process = process, .error = (unsigned)error};
+    struct entry entry = {.kind = ERROR,
+                          .fields = HAS_PROCESS | HAS_ERROR | (restarts ? (unsigned)HAS_OUTCOME : 0U),
+                          .process = process,
+                          .outcome = (unsigned)REC_NONE,
+                          .error = (unsigned)error};
 
     put(recorder, &entry);
 }

@@ -98,7 +98,10 @@ enum rec_format { REC_FORMAT_1 = 1, REC_FORMAT_2 = 2, REC_FORMAT_3 = 3 };
     service(CREATE_ERROR_HANDLER, 0)                                              \
     service(LOCK_PREEMPTION, 0)                                                   \
     service(UNLOCK_PREEMPTION, 0)                                                 \
-    service(REPLENISH, HAS_N1)
+    service(REPLENISH, HAS_N1)                                                    \
+    service(RAISE_APPLICATION_ERROR, HAS_N1 | HAS_N2 | HAS_MESSAGE)               \
+    service(GET_ERROR_STATUS, 0)                                                  \
+    service(CONFIGURE_ERROR_HANDLER, HAS_N1 | HAS_N2)
 
 /* REC_CREATE_PROCESS, and so on. */
 enum rec_service {
@@ -168,9 +171,16 @@ struct rec_crossing {
     size_t woken_count;
 };
 
-/* The errors that a record reports. */
+/* The errors, by their numbers. A record reports any but REC_APPLICATION_ERROR, which a process raises by a call. */
 enum rec_error_code {
     REC_DEADLINE_MISSED,
+    REC_APPLICATION_ERROR,
+    REC_NUMERIC_ERROR,
+    REC_ILLEGAL_REQUEST,
+    REC_STACK_OVERFLOW,
+    REC_MEMORY_VIOLATION,
+    REC_HARDWARE_FAULT,
+    REC_POWER_FAIL,
     REC_ERRORS /* how many there are */
 };
 
@@ -201,8 +211,8 @@ void rec_ret(struct recorder *recorder, const struct rec_return *ret);
 void rec_arrive(struct recorder *recorder, const struct rec_crossing *crossing);
 void rec_depart(struct recorder *recorder, const struct rec_crossing *crossing);
 
-/* An error of a process, when it is detected. Only format 3 has its row. */
-void rec_error(struct recorder *recorder, struct rec_process process, enum rec_error_code error);
+/* An error of a process, when it is detected, and whether it restarts the partition. Only format 3 has its row. */
+void rec_error(struct recorder *recorder, struct rec_process process, enum rec_error_code error, bool restarts);
 
 /* Takes all of a text, or answers false. */
 typedef bool rec_sink(void *to, const char *text, size_t length);

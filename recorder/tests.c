@@ -215,6 +215,9 @@ static const struct {
     {REC_LOCK_PREEMPTION, "LOCK_PREEMPTION,,,,,"},
     {REC_UNLOCK_PREEMPTION, "UNLOCK_PREEMPTION,,,,,"},
     {REC_REPLENISH, "REPLENISH,1,,,,"},
+    {REC_RAISE_APPLICATION_ERROR, "RAISE_APPLICATION_ERROR,1,2,,,6d65"},
+    {REC_GET_ERROR_STATUS, "GET_ERROR_STATUS,,,,,"},
+    {REC_CONFIGURE_ERROR_HANDLER, "CONFIGURE_ERROR_HANDLER,1,2,,,"},
 };
 
 static void services(void)
@@ -271,14 +274,35 @@ static void later_fields(void)
                                                 .woken = woken,
                                                 .woken_count = 2});
     rec_depart(recorder, &(struct rec_crossing){.channel = 255, .message = (const uint8_t *)"\xff", .message_length = 1});
-    rec_error(recorder, (struct rec_process){31, 6}, REC_DEADLINE_MISSED);
+    rec_error(recorder, (struct rec_process){31, 6}, REC_DEADLINE_MISSED, false);
+    rec_error(recorder, (struct rec_process){0, 0}, REC_POWER_FAIL, true);
     rec_disp(recorder, NULL);
     expect("the records of format 3", recorder,
            "0,call,1,0,CREATE_PROCESS,5,20,10,N,,0,NO_ERROR,7,,,,,,\n"
            "1,arrive,,,,,,,,0abc,,,,,4,0:2;1:3,,,\n"
            "2,depart,,,,,,,,,,,,ff,255,,,,\n"
            "3,err,31,6,,,,,,,,,,,,,,,DEADLINE_MISSED\n"
-           "4,disp,,,,,,,,,,,,,,,,,\n");
+           "4,err,0,0,,,,,,,,none,,,,,,,POWER_FAIL\n"
+           "5,disp,,,,,,,,,,,,,,,,,\n");
+}
+
+/* Each error by its name. APPLICATION_ERROR has a row too, which the check refuses. */
+static void errors(void)
+{
+    struct recorder *recorder = open_ring(RING, REC_FORMAT_3);
+    int error;
+
+    for (error = REC_DEADLINE_MISSED; error < REC_ERRORS; error++)
+        rec_error(recorder, (struct rec_process){0, 1}, (enum rec_error_code)error, error % 2 == 1);
+    expect("errors", recorder,
+           "0,err,0,1,,,,,,,,,,,,,,,DEADLINE_MISSED\n"
+           "1,err,0,1,,,,,,,,none,,,,,,,APPLICATION_ERROR\n"
+           "2,err,0,1,,,,,,,,,,,,,,,NUMERIC_ERROR\n"
+           "3,err,0,1,,,,,,,,none,,,,,,,ILLEGAL_REQUEST\n"
+           "4,err,0,1,,,,,,,,,,,,,,,STACK_OVERFLOW\n"
+           "5,err,0,1,,,,,,,,none,,,,,,,MEMORY_VIOLATION\n"
+           "6,err,0,1,,,,,,,,,,,,,,,HARDWARE_FAULT\n"
+           "7,err,0,1,,,,,,,,none,,,,,,,POWER_FAIL\n");
 }
 
 /* Fields at their edges. */
@@ -558,6 +582,7 @@ int main(void)
     kinds();
     services();
     later_fields();
+    errors();
     outcomes();
     names();
     lengths();

@@ -1,5 +1,5 @@
 -- The numbers of a partition stay bounded, by its own demands.
-use Rattle.std.proofs.Common.{◌≡◌, ◌⊎◌, ℕ, ◌+◌, ◌<◌, ◌≤◌, List, [], ◌∷◌, ◌++◌, true, false, cond, nat_eq, nat_lt, ◌&&◌, ℤ, pos, negsuc, Option, Some, None, option_map, refl, sym, ap, subst, ◌∙◌, inl, inr, arith, true≢false}
+use Rattle.std.proofs.Common.{Bool, ◌≡◌, ◌⊎◌, ℕ, ◌+◌, ◌<◌, ◌≤◌, List, [], ◌∷◌, ◌++◌, true, false, cond, nat_eq, nat_lt, ◌&&◌, ℤ, pos, negsuc, Option, Some, None, option_map, refl, sym, ap, subst, ◌∙◌, inl, inr, arith, true≢false}
 use Rattle.std.proofs.lemmas.Bool.{and_parts, eqb-true, leb-true}
 use Rattle.apex_laws.specs.PartBounds.{GivesPeriod, IsBoundedPart, PartStaysBounded, period_limit, PeriodFits, place_limit, ReleasesFit, word_limit}
 use Rattle.apex_types.specs.declared.object_kind.ObjectKind.TheVariants as kind
@@ -11,9 +11,10 @@ use Rattle.apex_laws.proofs.Common.{initialising_process, is_done, is_in, is_nam
 use Rattle.apex_laws.proofs.Common.{objects_by, outcome_demands, partition_by, partition_demands, period_given, period_of, release_after, release_reached, release_taken, released, released_once, returned, set_after, set_by, stopped, stops}
 use Rattle.apex_laws.proofs.Common.{ticked, time_of, waiting, waits_at, waits_for_normal, with_sets, woken_by, woken_if_named}
 use Rattle.apex_laws.proofs.Common.{Arrive, Depart, Receivers, Senders, channel_set, time_of}
-use Rattle.apex_laws.proofs.Common.{is_for_lock, waits_for_lock, Error, deadline_taken, reported}
+use Rattle.apex_laws.proofs.Common.{is_for_lock, waits_for_lock, Error, handles_more, reported}
 use Rattle.apex_laws.proofs.Booleans.{by_test, either_way, impossible, never_found, one_item}
 use Rattle.apex_laws.proofs.Codes.{no_error_is_done, not_done}
+use Rattle.apex_laws.proofs.Errors.{reported_case}
 use Rattle.apex_laws.proofs.Keeps.{set_by_wait, set_case}
 use Rattle.apex_laws.proofs.Restarts.{call_case, done_case, return_case, woken_table, error_case}
 use Rattle.apex_laws.proofs.SoundParts.{named_across, named_wait, own_holds, WaitsInSet, WaitsForLock}
@@ -123,13 +124,14 @@ counts_after configuration cores place core number (Ret ret) partition all =
 counts_after configuration cores place core number (Arrive crossing) partition all = counts_later place partition.mutexes all
 counts_after configuration cores place core number (Depart crossing) partition all = counts_later place partition.mutexes all
 counts_after configuration cores place core number (Error report) partition all =
-    error_case (λ next. AllFound (CountsTo (place + 1)) next.mutexes) configuration cores place core number report partition (counts_later place partition.mutexes all) (counts_later place partition.mutexes all)
+    error_case (λ next. AllFound (CountsTo (place + 1)) next.mutexes) configuration cores place core number report partition
+    (λ own none. counts_later place partition.mutexes all) (λ own restart is object mutex at. never_found at) (λ elsewhere. counts_later place partition.mutexes all)
 counts_after configuration cores place core number (Call call) partition all =
     call_case (λ next. AllFound (CountsTo (place + 1)) next.mutexes) configuration cores place core number call partition
     (λ own none. sets_count (place + 1) (set_after place (Call call)) (cond (is_done call.claim.out) (objects_by configuration call.who call.claim.val call.request partition) partition)
     (done_case (λ next. AllFound (CountsTo (place + 1)) next.mutexes) configuration call partition
     (λ done. used_counts configuration place call.who call.claim.val call.request partition all) (counts_later place partition.mutexes all)))
-    (λ own mode is object mutex at. never_found at)
+    (λ own restart is object mutex at. never_found at)
     (λ elsewhere. counts_later place partition.mutexes all)
 
 -- one process
@@ -152,7 +154,8 @@ bounded_kept most old new keeps bounded = (subst (λ last. last ≤ most) (sym k
 set_by_keeps : (place period : ℕ) (cores : List CoreState) (partition : Partition) (caller : ℕ) (asked : Request) (number : ℕ) (x : Process)
     → KeepsRelease x (set_by place period cores partition caller asked number x)
 set_by_keeps place period cores partition caller asked number x =
-    set_case (KeepsRelease x) place period cores partition caller asked number x (λ affinity current retained position suspended. (refl, refl)) (λ now delay. (refl, refl)) (λ now delay. (refl, refl))
+    set_case (KeepsRelease x) place period cores partition caller asked number x (λ affinity current retained position faulted suspended. (refl, refl)) (λ now delay. (refl, refl))
+    (λ waits now delay. (refl, refl)) (λ handler rests. (refl, refl))
 
 adjusted_keeps : (place period : ℕ) (cores : List CoreState) (partition : Partition) (call : CallRecord) (number : ℕ) (x : Process)
     → KeepsRelease x (adjusted place period cores partition call number x)
@@ -200,24 +203,24 @@ woken_if_named_keeps place message woken who x ends =
     by_test (KeepsRelease x) (is_named who woken) (woken_by place message x) x (λ named. woken_keeps place message x (ends named)) (λ not_named. (refl, refl))
 
 -- if a service wakes a process, it starts none and lets none enter NORMAL
-waking_keeps_wait : (place period : ℕ) (cores : List CoreState) (core : ℕ) (partition : Partition) (caller : Who) (asked : Request) (number : ℕ) (x : Process) (one : Who)
-    → is_named one (answer_of cores core caller partition asked).woken ≡ true → waits_for_normal x.wait ≡ false → (set_by place period cores partition caller.proc asked number x).wait ≡ x.wait
-waking_keeps_wait place period cores core partition caller (Request.Process process ProcessOperation.Start) number x one named normal = nobody one [] refl named
-waking_keeps_wait place period cores core partition caller (Request.Process process (ProcessOperation.DelayedStart delay)) number x one named normal = nobody one [] refl named
-waking_keeps_wait place period cores core partition caller asked number x one named normal = set_by_wait place period cores partition caller.proc asked number x tt normal
+waking_keeps_wait : (configuration : Configuration) (place period : ℕ) (cores : List CoreState) (core : ℕ) (partition : Partition) (caller : Who) (asked : Request) (number : ℕ) (x : Process) (one : Who)
+    → is_named one (answer_of configuration cores core caller partition asked).woken ≡ true → waits_for_normal x.wait ≡ false → (set_by place period cores partition caller.proc asked number x).wait ≡ x.wait
+waking_keeps_wait configuration place period cores core partition caller (Request.Process process ProcessOperation.Start) number x one named normal = nobody one [] refl named
+waking_keeps_wait configuration place period cores core partition caller (Request.Process process (ProcessOperation.DelayedStart delay)) number x one named normal = nobody one [] refl named
+waking_keeps_wait configuration place period cores core partition caller asked number x one named normal = set_by_wait place period cores partition caller.proc asked number x tt normal
 
 -- what an own call sets in a process whose wait it ends leaves a wait that ends with no release
-own_ends : (number place core period : ℕ) (cores : List CoreState) (partition : Partition) (caller : Who) (asked : Request) (claim : Claim) → IsSoundPart number place partition
-    → (conditions : List Condition) (channel : Option ℕ) → AllHold (outcome_demands conditions channel number asked (answer_of cores core caller partition asked) claim)
+own_ends : (configuration : Configuration) (number place core period : ℕ) (cores : List CoreState) (partition : Partition) (caller : Who) (asked : Request) (claim : Claim) → IsSoundPart number place partition
+    → (conditions : List Condition) (channel : Option ℕ) → AllHold (outcome_demands conditions channel number asked (answer_of configuration cores core caller partition asked) claim)
     → (who : Who) → who.part ≡ number → is_named who claim.woken ≡ true → (x : Process) → item_at partition.table who.proc ≡ Some x
     → EndsNoRelease x.wait × ((set_by place period cores partition caller.proc asked who.proc x).wait ≡ x.wait)
-own_ends number place core period cores partition caller asked claim sound (condition ∷ conditions) channel hold who here named x at = nobody who claim.woken hold.1.1.1.1.0 named
-own_ends number place core period cores partition caller asked claim sound [] (Some channel) hold who here named x at =
+own_ends configuration number place core period cores partition caller asked claim sound (condition ∷ conditions) channel hold who here named x at = nobody who claim.woken hold.1.1.1.1.0 named
+own_ends configuration number place core period cores partition caller asked claim sound [] (Some channel) hold who here named x at =
     absurd (true≢false (sym named ∙ not_named who claim.woken (subst (λ part. names_one_of part claim.woken ≡ false) (sym here) hold.1.1.0)))
-own_ends number place core period cores partition caller asked claim sound [] None hold who here named x at =
+own_ends configuration number place core period cores partition caller asked claim sound [] None hold who here named x at =
     let Ends : Who → Type 0 = λ one. (y : Process) → item_at partition.table one.proc ≡ Some y → EndsNoRelease y.wait in
     let answered = sym (hold.1.1.1.1.0 who) ∙ named in
-    let ends : EndsNoRelease x.wait = answer_wakes Ends cores core caller partition asked
+    let ends : EndsNoRelease x.wait = answer_wakes Ends configuration cores core caller partition asked
     (λ wanted used. all_weaker (WaitsInSet number wanted partition) (λ entry. Ends entry.who)
     (λ entry is_member y at. waiter_ends partition.table wanted entry.who.proc y is_member.1 at) (entries_at partition wanted) (sound.is_member wanted))
     (λ process target is suspends y at.
@@ -226,17 +229,17 @@ own_ends number place core period cores partition caller asked claim sound [] No
     subst (λ one. EndsNoRelease one.wait) same (suspension_ends target.wait suspends)))
     (λ gives. all_weaker (WaitsForLock number partition) (λ entry. Ends entry.who)
     (λ entry is_member y at. lock_waiter_ends partition.table entry.who.proc y is_member.1 at) partition.lock.waiters sound.lock.is_member) who answered x at in
-    (ends, waking_keeps_wait place period cores core partition caller asked who.proc x who answered ends.0)
+    (ends, waking_keeps_wait configuration place period cores core partition caller asked who.proc x who answered ends.0)
 
 -- the caller
 
 -- PERIODIC_WAIT that answers NO_ERROR found the release reached
-release_found : (conditions : List Condition) (number : ℕ) (cores : List CoreState) (core : ℕ) (partition : Partition) (caller : Who) (claim : Claim)
-    → AllHold (outcome_demands conditions None number (Request.Caller CallerOperation.PeriodicWait) (answer_of cores core caller partition (Request.Caller CallerOperation.PeriodicWait)) claim) → is_no_error claim.out ≡ true
+release_found : (configuration : Configuration) (conditions : List Condition) (number : ℕ) (cores : List CoreState) (core : ℕ) (partition : Partition) (caller : Who) (claim : Claim)
+    → AllHold (outcome_demands conditions None number (Request.Caller CallerOperation.PeriodicWait) (answer_of configuration cores core caller partition (Request.Caller CallerOperation.PeriodicWait)) claim) → is_no_error claim.out ≡ true
     → is_released (time_of cores core) (item_at partition.table caller.proc) ≡ true
-release_found (condition ∷ conditions) number cores core partition caller claim hold no_error =
+release_found configuration (condition ∷ conditions) number cores core partition caller claim hold no_error =
     absurd (true≢false (sym (no_error_is_done claim.out no_error) ∙ not_done (condition ∷ conditions) claim.out hold.1.0))
-release_found [] number cores core partition caller claim hold no_error =
+release_found configuration [] number cores core partition caller claim hold no_error =
     elim (is_released (time_of cores core) (item_at partition.table caller.proc)) as (λ reached. is_no_error (cond reached done waiting).out ≡ true → reached ≡ true) [ true ↦ λ is. refl | false ↦ λ is. is ]
     (ap is_no_error (sym hold.1.0) ∙ no_error)
 
@@ -244,11 +247,12 @@ taken_bounded : (place : ℕ) (asked : Request) (x : Process) → x.last_release
 taken_bounded place (Request.Caller CallerOperation.PeriodicWait) x last reached = let most = reached refl in omega (arith, most)
 taken_bounded place _ x last reached = omega (arith, last)
 
-caller_bounded : (place now : ℕ) (call : CallRecord) (given : Out) (x : Process) → IsBounded place x → (is_no_error given ≡ true → release_taken call.request x ≤ place + 1)
-    → IsBounded (place + 1) (record (caller_with place now call given x) { called_at = now })
-caller_bounded place now call Out.Waits x bounded taken = (omega (arith, bounded.0), bounded.1)
-caller_bounded place now call Out.Never x bounded taken = (omega (arith, bounded.0), bounded.1)
-caller_bounded place now call (Out.Answer code) x bounded taken = (
+caller_bounded : (place now : ℕ) (more : Bool) (call : CallRecord) (given : Out) (x : Process) → IsBounded place x → (is_no_error given ≡ true → release_taken call.request x ≤ place + 1)
+    → IsBounded (place + 1) (record (cond more x (caller_with place now call given x)) { called_at = now })
+caller_bounded place now true call given x bounded taken = (omega (arith, bounded.0), bounded.1)
+caller_bounded place now false call Out.Waits x bounded taken = (omega (arith, bounded.0), bounded.1)
+caller_bounded place now false call Out.Never x bounded taken = (omega (arith, bounded.0), bounded.1)
+caller_bounded place now false call (Out.Answer code) x bounded taken = (
   by_test (λ release. release ≤ place + 1) (is_no_error (Out.Answer code)) (release_taken call.request x) x.last_release taken (λ off. omega (arith, bounded.0)),
   bounded.1,
 )
@@ -262,7 +266,7 @@ next_kept old new keeps = λ i. release_after (keeps.0 i) (keeps.1 i)
 -- what is demanded of its outcome
 abbrev OutcomeHolds : Configuration → ℕ → List CoreState → ℕ → Partition → CallRecord → Request → Type 0
 OutcomeHolds configuration number cores core partition call asked =
-    AllHold (outcome_demands (conditions_of configuration (time_of cores core) call.who partition asked) (channel_of partition asked) number asked (answer_of cores core call.who partition asked) call.claim)
+    AllHold (outcome_demands (conditions_of configuration (time_of cores core) call.who partition asked) (channel_of partition asked) number asked (answer_of configuration cores core call.who partition asked) call.claim)
 
 -- the release that its caller takes is one that was reached
 caller_takes : (configuration : Configuration) (number place : ℕ) (cores : List CoreState) (core : ℕ) (partition : Partition) (call : CallRecord) (x new : Process) → time_of cores core ≤ place → KeepsRelease x new
@@ -272,7 +276,7 @@ caller_takes configuration number place cores core partition call x new most kee
     taken_bounded place call.request new bounded.0
     (λ asked.
     (let own : OutcomeHolds configuration number cores core partition call (Request.Caller CallerOperation.PeriodicWait) = subst (OutcomeHolds configuration number cores core partition call) asked hold in
-    let reached = release_found (conditions_of configuration (time_of cores core) call.who partition (Request.Caller CallerOperation.PeriodicWait)) number cores core partition call.who call.claim
+    let reached = release_found configuration (conditions_of configuration (time_of cores core) call.who partition (Request.Caller CallerOperation.PeriodicWait)) number cores core partition call.who call.claim
     own no_error in
     let here : is_released (time_of cores core) (Some x) ≡ true = subst (λ one. is_released (time_of cores core) one ≡ true) at reached in
     let before : next_release x ≤ time_of cores core = leb-true (next_release x) (time_of cores core) here in
@@ -289,11 +293,12 @@ called_bounded configuration number place core cores partition call sound own mo
     let who : Who = record { part = call.who.part; proc = process } in
     either_way (nat_eq process call.who.proc)
     (λ caller. (let there : item_at partition.table call.who.proc ≡ Some x = ap (item_at partition.table) (sym (eqb-true process call.who.proc caller)) ∙ at in
-    let after : IsBounded (place + 1) (caller_after place (time_of cores core) call changed) = caller_bounded place (time_of cores core) call call.claim.out changed kept
+    let more = handles_more partition call.who.proc call.request in
+    let after : IsBounded (place + 1) (caller_after place (time_of cores core) more call changed) = caller_bounded place (time_of cores core) more call call.claim.out changed kept
     (caller_takes configuration number place cores core partition call x changed most keeps there hold kept) in
     rw caller after))
     (λ other. (let ends : is_named who call.claim.woken ≡ true → EndsNoRelease changed.wait = λ named.
-    (let both = own_ends number place core period cores partition call.who call.request call.claim sound (conditions_of configuration (time_of cores core) call.who partition call.request)
+    (let both = own_ends configuration number place core period cores partition call.who call.request call.claim sound (conditions_of configuration (time_of cores core) call.who partition call.request)
     (channel_of partition call.request) hold who own named x at in
     by_test (λ (one : Process). EndsNoRelease one.wait) (is_done call.claim.out) (set_by place period cores partition call.who.proc call.request process x) x
     (λ done. subst EndsNoRelease (sym both.1) both.0) (λ not_done. both.0)) in
@@ -381,11 +386,12 @@ bounded_after configuration number cores partition place core (Ret ret) sound mo
     (λ process x at. bounded_later place x (all process x at))
 bounded_after configuration number cores partition place core (Error report) sound most fits hold all =
     error_case (λ next. AllFound (IsBounded (place + 1)) next.table) configuration cores place core number report partition
-    (each_has (IsBounded (place + 1)) (deadline_taken report.who.proc) partition.table
-    (λ process x at. bounded_kept (place + 1) x (deadline_taken report.who.proc process x)
-    (by_test (KeepsRelease x) (nat_eq process report.who.proc) (reported x) x (λ own. (refl, refl)) (λ other. (refl, refl)))
+    (λ own none. each_has (IsBounded (place + 1)) (reported place partition report) partition.table
+    (λ process x at. bounded_kept (place + 1) x (reported place partition report process x)
+    (reported_case (KeepsRelease x) place partition report process x (λ deadline faulted. (refl, refl)) (λ handler deadline rests. (refl, refl)))
     (bounded_later place x (all process x at))))
-    (λ process x at. bounded_later place x (all process x at))
+    (λ own restart is. start_bounded restart.mode (first_core configuration report.who.part) place (place + 1))
+    (λ elsewhere process x at. bounded_later place x (all process x at))
 bounded_after configuration number cores partition place core (Call call) sound most fits hold all =
     let Fact = IsBounded (place + 1) in
     let now = time_of cores core in
@@ -397,7 +403,7 @@ bounded_after configuration number cores partition place core (Call call) sound 
     (each_has Fact (called place now period cores partition call) partition.table
     (λ process x at. called_bounded configuration number place core cores partition call sound (eqb-true call.who.part number own) most demands.1.1.1.1.1.1 period process x at (all process x at)))
     (created_bounded (place + 1) (first_core configuration call.who.part) call call.request fits)))
-    (λ own mode is. start_bounded mode (first_core configuration call.who.part) place (place + 1))
+    (λ own restart is. start_bounded restart.mode (first_core configuration call.who.part) place (place + 1))
     (λ elsewhere.
     (let demands = subst (λ one. AllHold (call_demands one configuration number cores partition core call)) elsewhere hold in
     woken_bounded place number (message_of call.request) call.claim.woken partition.table

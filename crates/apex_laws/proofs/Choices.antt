@@ -6,7 +6,9 @@ use Rattle.std.specs.Prelude.{All, Contains}
 use Rattle.apex_laws.proofs.Common.{ChoiceIsTheSentence, GoesBefore, InNoWindow, InWindowOf, IsChosen, IsChosenUnder, IsReady, IsReadyOwner, Partition, Process, Table, Wait, WaitingSet, Who, are_distinct, choice_in, choice_of, choice_under, foremost, goes_before, is_in, is_one_ready, is_ready, partition_choice}
 use Rattle.apex_laws.proofs.Common.{is_for_lock, item_at, ready_entries, sooner, waits_at, waits_for_lock, waits_for_nothing}
 use Rattle.apex_laws.proofs.Booleans.{by_test, cannot_hold, either_way, impossible, is_itself, member_first, member_later, never_found, one_item}
+use Rattle.apex_laws.proofs.ConditionTests.{normal_tells}
 use Rattle.apex_laws.proofs.SetNames.{in_no_set}
+use Rattle.apex_laws.proofs.Common.{ErrorHandler, HandlerIsReady, IsChosenIn, IsTheHandler, OthersPause, is_handling_on, is_normal, is_one_alive, is_paused, pauses_others}
 
 -- The choice of a core, as the module and as each partition see it.
 
@@ -43,20 +45,29 @@ part_of_first number (Some entry) who chosen =
     let same : ◌≡◌ {A = Who} (record { part = number; proc = entry.0 }) who = cc in
     ap (λ one. one.part) same
 
-part_of_choice : (number core : ℕ) (owner : Option ℕ) (table : Table) (who : Who) → choice_under number core owner table ≡ Some who → number ≡ who.part
-part_of_choice number core None table who chosen = part_of_first number (foremost (ready_entries core table)) who chosen
-part_of_choice number core (Some owner) table who chosen =
+part_of_choice_under : (number core : ℕ) (owner : Option ℕ) (table : Table) (who : Who) → choice_under number core owner table ≡ Some who → number ≡ who.part
+part_of_choice_under number core None table who chosen = part_of_first number (foremost (ready_entries core table)) who chosen
+part_of_choice_under number core (Some owner) table who chosen =
     by_test (λ (choice : Option Who). choice ≡ Some who → number ≡ who.part) (is_one_ready core (item_at table owner))
     (Some (record { part = number; proc = owner })) (choice_in number core table)
     (λ ready is. (let same : ◌≡◌ {A = Who} (record { part = number; proc = owner }) who = one_item is in ap (λ one. one.part) same))
     (λ not_ready is. part_of_first number (foremost (ready_entries core table)) who is) chosen
+
+part_of_choice : (number core : ℕ) (partition : Partition) (who : Who) → partition_choice number core partition ≡ Some who → number ≡ who.part
+part_of_choice number core partition who chosen =
+    let under = choice_under number core partition.lock.owner partition.table in
+    by_test (λ (choice : Option Who). choice ≡ Some who → number ≡ who.part) (is_handling_on core partition)
+    (Some (record { part = number; proc = 0 })) (cond (is_paused partition) None under)
+    (λ handles is. (let same : ◌≡◌ {A = Who} (record { part = number; proc = 0 }) who = one_item is in ap (λ one. one.part) same))
+    (λ handles_not. by_test (λ (choice : Option Who). choice ≡ Some who → number ≡ who.part) (is_paused partition) None under
+    (λ pauses is. never_found is) (λ goes_on is. part_of_choice_under number core partition.lock.owner partition.table who is)) chosen
 
 -- a process that is the core's choice is the choice of the window's partition
 pub choice_is : (window : Option ℕ) (partitions : ℕ → Partition) (core : ℕ) (who : Who)
     → choice_of window partitions core ≡ Some who → IsChoice window partitions core who
 choice_is None partitions core who chosen = cc
 choice_is (Some number) partitions core who chosen =
-    let same = part_of_choice number core (partitions number).lock.owner (partitions number).table who chosen in
+    let same = part_of_choice number core (partitions number) who chosen in
     record { of = ap Some same; choice = subst (λ of. partition_choice of core (partitions of) ≡ Some who) same chosen }
 
 -- and the other way round
@@ -146,11 +157,14 @@ is_not false passes = refl
 -- a process that passes the test is ready
 pub ready_is : (core : ℕ) (process : Process) → is_ready core process ≡ true → IsReady core process
 ready_is core process passes =
-    let first = and_parts process.alive (not process.suspended && (waits_for_nothing process.wait && nat_eq process.affinity core)) passes in
-    let second = and_parts (not process.suspended) (waits_for_nothing process.wait && nat_eq process.affinity core) first.1 in
+    let rest = not process.suspended && (waits_for_nothing process.wait && nat_eq process.affinity core) in
+    let first = and_parts process.alive (not process.faulted && rest) passes in
+    let sound = and_parts (not process.faulted) rest first.1 in
+    let second = and_parts (not process.suspended) (waits_for_nothing process.wait && nat_eq process.affinity core) sound.1 in
     let third = and_parts (waits_for_nothing process.wait) (nat_eq process.affinity core) second.1 in
     record {
       alive = first.0;
+      sound = is_not process.faulted sound.0;
       goes_on = is_not process.suspended second.0;
       waits = waits_nothing process.wait third.0;
       affinity = eqb-true process.affinity core third.1;
@@ -159,7 +173,8 @@ ready_is core process passes =
 -- a ready process passes the test
 pub is_ready_by : (core : ℕ) (process : Process) → IsReady core process → is_ready core process ≡ true
 is_ready_by core process ready =
-    and_from _ _ ready.alive (and_from _ _ (ap not ready.goes_on) (and_from _ _ (ap waits_for_nothing ready.waits) (eq-eqb process.affinity core ready.affinity)))
+    and_from _ _ ready.alive (and_from _ _ (ap not ready.sound) (and_from _ _ (ap not ready.goes_on)
+    (and_from _ _ (ap waits_for_nothing ready.waits) (eq-eqb process.affinity core ready.affinity))))
 
 -- The entries of a table: those that a filter keeps, and the one of a number.
 
@@ -329,7 +344,7 @@ pub record FoundReady (core : ℕ) (found : Option Process) : Type 0 where
   pub ready : IsReady core process
 
 -- the test of an owner says what the sentence says
-owner_is_ready : (core : ℕ) (found : Option Process) → is_one_ready core found ≡ true → FoundReady core found
+pub owner_is_ready : (core : ℕ) (found : Option Process) → is_one_ready core found ≡ true → FoundReady core found
 owner_is_ready core None passes = impossible passes
 owner_is_ready core (Some process) passes = record { process = process; is_member = refl; ready = ready_is core process passes }
 
@@ -429,12 +444,77 @@ under_no_choice number core (Some owner) table nobody =
     rw (cannot_hold (is_one_ready core (item_at table owner)) (λ passes. (let is = owner_ready core table owner passes in nobody (owner, is.0) is.1 is.2)))
     (ap (option_map {U = Who} (λ one. record { part = number; proc = one.0 })) (none_is_foremost core table nobody))
 
+-- The choice of a partition: its handler, no process, or the choice under the lock.
+
+-- the handler is ready exactly if the test says so
+handling_is : (core : ℕ) (partition : Partition) → is_handling_on core partition ≡ true → HandlerIsReady core partition
+handling_is core partition passes =
+    let parts = and_parts (is_normal partition.mode) (is_one_ready core (item_at partition.table 0)) passes in
+    let is = owner_ready core partition.table 0 parts.1 in
+    (is.0, record { normal = (normal_tells partition.mode).0 parts.0; is_member = is.1 }, is.2)
+
+handling_by : (core : ℕ) (partition : Partition) → are_distinct partition.table ≡ true → HandlerIsReady core partition → is_handling_on core partition ≡ true
+handling_by core partition distinct (process, handler, ready) =
+    and_from _ _ (ap is_normal handler.normal) (ready_owner core partition.table distinct 0 (process, handler.is_member, ready))
+
+-- and so it is with cores that stand still
+alive_is : (found : Option Process) → is_one_alive found ≡ true → (process : Process) × (found ≡ Some process) × (process.alive ≡ true)
+alive_is None passes = impossible passes
+alive_is (Some process) passes = (process, refl, passes)
+
+pauses_is : (found : Option ErrorHandler) → pauses_others found ≡ true → (handler : ErrorHandler) × (found ≡ Some handler) × (handler.pauses ≡ true)
+pauses_is None passes = impossible passes
+pauses_is (Some handler) passes = (handler, refl, passes)
+
+paused_is : (partition : Partition) → is_paused partition ≡ true → OthersPause partition
+paused_is partition passes =
+    let first = and_parts (is_normal partition.mode) (is_one_alive (item_at partition.table 0) && pauses_others partition.handler) passes in
+    let second = and_parts (is_one_alive (item_at partition.table 0)) (pauses_others partition.handler) first.1 in
+    let alive = alive_is (item_at partition.table 0) second.0 in
+    let normal = (normal_tells partition.mode).0 first.0 in
+    ((alive.0, record { normal = normal; is_member = entry_found partition.table 0 alive.0 alive.1 }, alive.2), pauses_is partition.handler second.1)
+
+paused_by : (partition : Partition) → are_distinct partition.table ≡ true → OthersPause partition → is_paused partition ≡ true
+paused_by partition distinct ((process, handler, alive), (created, has, pauses)) =
+    and_from _ _ (ap is_normal handler.normal)
+    (and_from _ _ (ap is_one_alive (found_entry partition.table distinct (0, process) handler.is_member) ∙ alive) (ap pauses_others has ∙ pauses))
+
+choice_is_in : (number core : ℕ) (partition : Partition) (entry : ℕ × Process) → are_distinct partition.table ≡ true → Contains partition.table entry
+    → partition_choice number core partition ≡ Some (record { part = number; proc = entry.0 }) → IsChosenIn core partition entry
+choice_is_in number core partition entry distinct is_member is =
+    let chosen : Option Who = Some (record { part = number; proc = entry.0 }) in
+    let under = choice_under number core partition.lock.owner partition.table in
+    by_test (λ (choice : Option Who). choice ≡ chosen → IsChosenIn core partition entry) (is_handling_on core partition)
+    (Some (record { part = number; proc = 0 })) (cond (is_paused partition) None under)
+    (λ handles is. (let same : ◌≡◌ {A = Who} (record { part = number; proc = 0 }) (record { part = number; proc = entry.0 }) = one_item is in
+    let zero : 0 ≡ entry.0 = ap (λ one. one.proc) same in
+    let there = handling_is core partition handles in
+    let at : item_at partition.table 0 ≡ Some there.0 = found_entry partition.table distinct (0, there.0) there.1.is_member in
+    let process : there.0 ≡ entry.1 = one_item (sym at ∙ ap (item_at partition.table) zero ∙ found_entry partition.table distinct entry is_member) in
+    IsChosenIn.handler_runs (sym zero) (subst (IsTheHandler partition) process there.1) (subst (IsReady core) process there.2)))
+    (λ handles_not. by_test (λ (choice : Option Who). choice ≡ chosen → IsChosenIn core partition entry) (is_paused partition) None under
+    (λ pauses is. never_found is)
+    (λ goes_on is. IsChosenIn.other_runs (λ ready. true≢false (sym (handling_by core partition distinct ready) ∙ handles_not))
+    (λ pauses. true≢false (sym (paused_by partition distinct pauses) ∙ goes_on))
+    (choice_is_under number core partition.lock.owner partition.table distinct entry is_member is))) is
+
+in_is_choice : (number core : ℕ) (partition : Partition) (entry : ℕ × Process) → are_distinct partition.table ≡ true
+    → IsChosenIn core partition entry → partition_choice number core partition ≡ Some (record { part = number; proc = entry.0 })
+in_is_choice number core partition entry distinct (IsChosenIn.handler_runs zero handler ready) =
+    let handles : is_handling_on core partition ≡ true = handling_by core partition distinct (entry.1, handler, ready) in
+    rw handles (ap (λ (one : ℕ). let who : Who = record { part = number; proc = one } in Some who) (sym zero))
+in_is_choice number core partition entry distinct (IsChosenIn.other_runs not_ready not_paused under) =
+    let handles : is_handling_on core partition ≡ false = cannot_hold (is_handling_on core partition) (λ passes. not_ready (handling_is core partition passes)) in
+    let pauses : is_paused partition ≡ false = cannot_hold (is_paused partition) (λ passes. not_paused (paused_is partition passes)) in
+    rw (handles, pauses) (under_is_choice number core partition.lock.owner partition.table distinct entry under)
+
 pub choice_is_the_sentence : ChoiceIsTheSentence
 choice_is_the_sentence core table distinct = (
   λ entry. (foremost_is_chosen core table entry, chosen_is_foremost core table distinct entry),
   (nobody_is_ready core table, none_is_foremost core table),
   λ number owner entry is_member. (choice_is_under number core owner table distinct entry is_member, under_is_choice number core owner table distinct entry),
   λ number owner. (no_choice_under number core owner table, under_no_choice number core owner table),
+  λ number partition entry of_partition is_member. (choice_is_in number core partition entry of_partition is_member, in_is_choice number core partition entry of_partition),
 )
 
 -- The caller of a call: it is in its partition's table and is ready.
@@ -453,22 +533,35 @@ first_exists number core table who distinct chosen = by (foremost (ready_entries
         let at : item_at table entry.0 ≡ Some entry.1 = found_entry table distinct entry is.is_member in
         record { process = entry.1; is_member = subst (λ number. item_at table number ≡ Some entry.1) (ap (λ one. one.proc) same) at; ready = is.ready }
 
--- the choice of a partition is in its table and is ready
-pub choice_exists : (number core : ℕ) (owner : Option ℕ) (table : Table) (who : Who) → are_distinct table ≡ true → choice_under number core owner table ≡ Some who
+-- the choice under an owner is in the table and is ready
+under_exists : (number core : ℕ) (owner : Option ℕ) (table : Table) (who : Who) → are_distinct table ≡ true → choice_under number core owner table ≡ Some who
     → FoundReady core (item_at table who.proc)
-choice_exists number core None table who distinct chosen = first_exists number core table who distinct chosen
-choice_exists number core (Some owner) table who distinct chosen =
+under_exists number core None table who distinct chosen = first_exists number core table who distinct chosen
+under_exists number core (Some owner) table who distinct chosen =
     by_test (λ (choice : Option Who). choice ≡ Some who → FoundReady core (item_at table who.proc)) (is_one_ready core (item_at table owner))
     (Some (record { part = number; proc = owner })) (choice_in number core table)
     (λ passes is. (let same : ◌≡◌ {A = Who} (record { part = number; proc = owner }) who = one_item is in
     subst (λ one. FoundReady core (item_at table one)) (ap (λ one. one.proc) same) (owner_is_ready core (item_at table owner) passes)))
     (λ fails is. first_exists number core table who distinct is) chosen
 
+-- the choice of a partition is in its table and is ready
+pub choice_exists : (number core : ℕ) (partition : Partition) (who : Who) → are_distinct partition.table ≡ true → partition_choice number core partition ≡ Some who
+    → FoundReady core (item_at partition.table who.proc)
+choice_exists number core partition who distinct chosen =
+    let under = choice_under number core partition.lock.owner partition.table in
+    by_test (λ (choice : Option Who). choice ≡ Some who → FoundReady core (item_at partition.table who.proc)) (is_handling_on core partition)
+    (Some (record { part = number; proc = 0 })) (cond (is_paused partition) None under)
+    (λ handles is. (let same : ◌≡◌ {A = Who} (record { part = number; proc = 0 }) who = one_item is in
+    subst (λ one. FoundReady core (item_at partition.table one)) (ap (λ one. one.proc) same)
+    (owner_is_ready core (item_at partition.table 0) (and_parts (is_normal partition.mode) (is_one_ready core (item_at partition.table 0)) handles).1)))
+    (λ handles_not. by_test (λ (choice : Option Who). choice ≡ Some who → FoundReady core (item_at partition.table who.proc)) (is_paused partition) None under
+    (λ pauses is. never_found is) (λ goes_on is. under_exists number core partition.lock.owner partition.table who distinct is)) chosen
+
 -- the choice of a core is in its partition's table and is ready
 pub chosen_exists : (window : Option ℕ) (partitions : ℕ → Partition) (core : ℕ) (who : Who) → are_distinct (partitions who.part).table ≡ true
     → choice_of window partitions core ≡ Some who → FoundReady core (item_at (partitions who.part).table who.proc)
 chosen_exists window partitions core who distinct chosen =
-    choice_exists who.part core (partitions who.part).lock.owner (partitions who.part).table who distinct (choice_is window partitions core who chosen).choice
+    choice_exists who.part core (partitions who.part) who distinct (choice_is window partitions core who chosen).choice
 
 -- so it waits in no set
 pub ready_waits_not : (core : ℕ) (found : Option Process) (wanted : WaitingSet) → FoundReady core found → waits_at wanted found ≡ true → ⊥

@@ -59,6 +59,12 @@ of_error Condition.OwnsLock = refl
 of_error Condition.ProcessOwnsLock = refl
 of_error Condition.BudgetOutOfRange = refl
 of_error Condition.BudgetAboveRelease = refl
+of_error Condition.ErrorNotOfApplication = refl
+of_error Condition.NotHandler = refl
+of_error Condition.NoErrorListed = refl
+of_error Condition.NoHandler = refl
+of_error Condition.ConcurrencyOutOfRange = refl
+of_error Condition.HandlerCoreNotOfPartition = refl
 
 of_errors : (conditions : List Condition) (one : Code) → IsCodeOf conditions one → is_done (Out.Answer one) ≡ false
 of_errors [] one is = absurd is

@@ -36,7 +36,7 @@ tells_both {one = true} first second = (λ holds. (first.0 refl, second.0 holds)
 tells_both {one = false} first second = (impossible, λ facts. first.1 facts.0)
 
 -- one of two tests
-tells_either : {one other : Bool} {First Second : Type 0} → Tells one First → Tells other Second → Tells (one || other) (First ⊎ Second)
+pub tells_either : {one other : Bool} {First Second : Type 0} → Tells one First → Tells other Second → Tells (one || other) (First ⊎ Second)
 tells_either {one = true} first second = (λ holds. inl (first.0 refl), λ facts. refl)
 tells_either {one = false} first second = (λ holds. inr (second.0 holds), elim [ inl fact ↦ impossible (first.1 fact) | inr fact ↦ second.1 fact ])
 

@@ -12,6 +12,7 @@ use Rattle.apex_laws.proofs.Common.{touches, unmet, use_of, used, used_demands, 
 use Rattle.apex_laws.proofs.Common.{Arrive, Clear, Crossing, Demand, Depart, Error, ErrorReport, IsLawfulArrival, IsLawfulDeparture, IsLawfulError, MissesNone, NoneMissed, NoneMissedIn, arrival_demands, departure_demands, error_demands, where_named}
 use Rattle.apex_laws.proofs.Wakes.{WaitsThere, arrival_wakes, departure_wakes}
 use Rattle.apex_laws.proofs.Booleans.{by_test, cannot_hold, first_holds, impossible, is_itself, later_holds, neither, never_found, one_item}
+use Rattle.apex_laws.proofs.Errors.{can_have, have_demanded}
 use Rattle.apex_laws.proofs.Choices.{choice_from, choice_is, chosen_exists, idle_choice, IsChoice, joined_choice, not_idle, own_choice, ready_waits_not}
 use Rattle.apex_laws.proofs.Ends.{port_is_at_end, WaitsAtEnd}
 use Rattle.apex_laws.proofs.Tables.{same_time}
@@ -218,7 +219,7 @@ lawful_call configuration state core call of_module own of_channel = record {
   prio = own.1.1.1.1.1.0;
   outcome = has_outcome (conditions_of configuration (time_of state.cores core) call.who (state.partitions call.who.part) call.request)
       (channel_of (state.partitions call.who.part) call.request) call.who.part call.request
-      (answer_of state.cores core call.who (state.partitions call.who.part) call.request) _ _ call.claim own.1.1.1.1.1.1 of_channel;
+      (answer_of configuration state.cores core call.who (state.partitions call.who.part) call.request) _ _ call.claim own.1.1.1.1.1.1 of_channel;
 }
 
 -- a return that the module and the returner's partition agree to
@@ -250,7 +251,8 @@ lawful_departure configuration state core crossing of_module of_channel = record
 -- an error that the module and its partition agree to
 lawful_error : (configuration : Configuration) (state : State) (core : ℕ) (report : ErrorReport) → AllHold (module_demands configuration state.cores core (Error report))
     → AllHold (error_demands configuration report.who.part state.cores (state.partitions report.who.part) core report) → IsLawfulError configuration state core report
-lawful_error configuration state core report of_module own = record { names = of_module.0; window = own.0; missed = own.1.0; goes_on = own.1.1.0 }
+lawful_error configuration state core report of_module own =
+    record { names = of_module.0; window = own.0; process = can_have configuration state core report.who report.error own.0 own.1.0; restart = own.1.1.0 }
 
 -- any record
 lawful_body : (configuration : Configuration) (state : State) (core : ℕ) (body : Body) → WindowsAreConfigured configuration
@@ -385,14 +387,14 @@ peers : (configuration : Configuration) (state : State) (core : ℕ) (call : Cal
     → (channel : Option ℕ) → channel_of (state.partitions call.who.part) call.request ≡ channel
     → ClaimsOutcome configuration state core call.who call.request call.claim conditions channel
     → AllHold (outcome_demands conditions channel call.who.part call.request
-    (answer_of state.cores core call.who (state.partitions call.who.part) call.request) call.claim)
+    (answer_of configuration state.cores core call.who (state.partitions call.who.part) call.request) call.claim)
 peers configuration state core call ends tied (condition ∷ conditions) is channel of has =
-    outcome_holds (condition ∷ conditions) channel call.who.part call.request (answer_of state.cores core call.who (state.partitions call.who.part) call.request)
+    outcome_holds (condition ∷ conditions) channel call.who.part call.request (answer_of configuration state.cores core call.who (state.partitions call.who.part) call.request)
     (λ number. suits_use configuration number call.who.part (use_of call.request) (state.channels number)) (channel_answer configuration (time_of state.cores core) call.who.part call.request state.channels) call.claim
     (λ other suited. channel_can configuration (time_of state.cores core) other call.who.part call.request (state.channels other) suited)
     (λ other some through. (let nobody : call.claim.woken ≡ [] = has.woken in ap (names_one_of call.who.part) nobody)) has
 peers configuration state core call ends tied [] is channel of has =
-    outcome_holds [] channel call.who.part call.request (answer_of state.cores core call.who (state.partitions call.who.part) call.request)
+    outcome_holds [] channel call.who.part call.request (answer_of configuration state.cores core call.who (state.partitions call.who.part) call.request)
     (λ number. suits_use configuration number call.who.part (use_of call.request) (state.channels number)) (channel_answer configuration (time_of state.cores core) call.who.part call.request state.channels) call.claim
     (λ other suited. channel_can configuration (time_of state.cores core) other call.who.part call.request (state.channels other) suited)
     (λ other some through. wakes_no_peer configuration state (time_of state.cores core) call.who call.request call.claim other ends tied is (of ∙ some) through) has
@@ -535,7 +537,7 @@ partition_demanded configuration state core (Depart crossing) ends tied law numb
     (all_wait state.partitions number (channel_set crossing.chan Senders) crossing.woken (λ who named. (departure_wakes configuration state core crossing tied law who named).1), tt)
 partition_demanded configuration state core (Error report) ends tied law number is touched =
     subst (λ of. AllHold (error_demands configuration of state.cores (state.partitions of) core report))
-    (eqb-true report.who.part number touched) (law.window, (law.missed, (law.goes_on, tt)))
+    (eqb-true report.who.part number touched) (law.window, (have_demanded configuration state core report.who report.error law.process, (law.restart, tt)))
 partition_demanded configuration state core (Ret ret) ends tied law number is touched =
     subst (λ of. AllHold (partition_demands configuration of state.cores (state.partitions of) core (Ret ret)))
     (eqb-true ret.who.part number touched) (return_demanded configuration state core ret law)

@@ -1,7 +1,7 @@
 -- Whose waits an own call ends, by its outcome: no process's if it does not answer NO_ERROR, else those of the processes that its service's
 -- answer names.
 use Rattle.std.proofs.Common.{◌≡◌, ℕ, List, [], ◌∷◌, ◌++◌, true, false, cond, nat_eq, ℤ, Option, Some, None, is_some, refl, sym, ap, subst, ◌∙◌, true≢false, ◌&&◌, ◌||◌}
-use Rattle.apex_laws.proofs.Common.{AllHold, Answer, Call, Claim, Condition, LetsGoAsAnswered, OnlyDoneLetsGo, Out, Partition, RefusedLeavesObjects, Request, WaitingSet, Who, answer_of, channel_of, conditions_of, each_set, ends_wait, enters}
+use Rattle.apex_laws.proofs.Common.{Configuration, AllHold, Answer, Call, Claim, Condition, LetsGoAsAnswered, OnlyDoneLetsGo, Out, Partition, RefusedLeavesObjects, Request, WaitingSet, Who, answer_of, channel_of, conditions_of, each_set, ends_wait, enters}
 use Rattle.apex_laws.proofs.Common.{entries_at, entry_of, is_done, is_named, is_no_error, is_target, is_the_set, is_waiting, names_one_of, objects_by, outcome_demands, set_after, set_of, stop_of, stops, without}
 use Rattle.apex_laws.proofs.Common.{CoreState, IsSoundPart, item_at, waits_for_lock, time_of}
 use Rattle.apex_laws.proofs.Booleans.{cannot_hold, impossible, never_found, not_first, or_false}
@@ -17,16 +17,16 @@ use Rattle.apex_laws.proofs.Wakes.{answer_quiet, lock_waits_not}
 -- claims
 
 -- a claim that is not NO_ERROR names no process of the caller's partition but one that waits for the lock
-names_awaiting : (number place : ℕ) (cores : List CoreState) (core : ℕ) (partition : Partition) (caller : Who) (asked : Request) (claim : Claim) → IsSoundPart number place partition
+names_awaiting : (configuration : Configuration) (number place : ℕ) (cores : List CoreState) (core : ℕ) (partition : Partition) (caller : Who) (asked : Request) (claim : Claim) → IsSoundPart number place partition
     → (conditions : List Condition) (channel : Option ℕ)
-    → AllHold (outcome_demands conditions channel number asked (answer_of cores core caller partition asked) claim) → is_no_error claim.out ≡ false
+    → AllHold (outcome_demands conditions channel number asked (answer_of configuration cores core caller partition asked) claim) → is_no_error claim.out ≡ false
     → (who : Who) → who.part ≡ number → is_named who claim.woken ≡ true → waits_for_lock (item_at partition.table who.proc) ≡ true
-names_awaiting number place cores core partition caller asked claim sound (condition ∷ conditions) channel hold not_done who here named =
+names_awaiting configuration number place cores core partition caller asked claim sound (condition ∷ conditions) channel hold not_done who here named =
     absurd (true≢false (sym named ∙ ap (is_named who) hold.1.1.1.1.0))
-names_awaiting number place cores core partition caller asked claim sound [] (Some channel) hold not_done who here named =
+names_awaiting configuration number place cores core partition caller asked claim sound [] (Some channel) hold not_done who here named =
     absurd (true≢false (sym named ∙ not_named who claim.woken (subst (λ part. names_one_of part claim.woken ≡ false) (sym here) hold.1.1.0)))
-names_awaiting number place cores core partition caller asked claim sound [] None hold not_done who here named =
-    answer_quiet (λ one. waits_for_lock (item_at partition.table one.proc) ≡ true) cores core caller partition asked
+names_awaiting configuration number place cores core partition caller asked claim sound [] None hold not_done who here named =
+    answer_quiet (λ one. waits_for_lock (item_at partition.table one.proc) ≡ true) configuration cores core caller partition asked
     (all_weaker (WaitsForLock number partition) (λ entry. waits_for_lock (item_at partition.table entry.who.proc) ≡ true) (λ entry is_member. is_member.1) partition.lock.waiters sound.lock.is_member)
     (ap is_no_error (sym hold.1.0) ∙ not_done) who (sym (hold.1.1.1.1.0 who) ∙ named)
 
@@ -45,7 +45,7 @@ only_done_lets_go configuration number place core cores partition call is not_do
     none_leaves (WaitsInSet number wanted partition) (ends_wait call)
     (λ entry is_member. goes_on call entry.who (restarts_none call entry.who.part no_restart)
     (cannot_hold (is_named entry.who call.claim.woken) (λ named. lock_waits_not wanted (item_at partition.table entry.who.proc)
-    (names_awaiting number place cores core partition call.who call.request call.claim is.sound (conditions_of configuration (time_of cores core) call.who partition call.request) (channel_of partition call.request)
+    (names_awaiting configuration number place cores core partition call.who call.request call.claim is.sound (conditions_of configuration (time_of cores core) call.who partition call.request) (channel_of partition call.request)
     is.demands.1.1.1.1.1.1 not_done entry.who is_member.0 named) is_member.1))
     (not_first (is_no_error call.claim.out) (nat_eq entry.who.part call.who.part && is_target (stop_of call.request) entry.who.proc) not_done))
     (entries_at partition wanted) (is.sound.is_member wanted) in
@@ -59,7 +59,7 @@ not_waiting (Out.Answer code) is = refl
 
 pub lets_go_as_answered : LetsGoAsAnswered
 lets_go_as_answered configuration number place core cores partition call is no_error no_stop no_channel wanted =
-    let answer = answer_of cores core call.who partition call.request in
+    let answer = answer_of configuration cores core call.who partition call.request in
     let conditions = conditions_of configuration (time_of cores core) call.who partition call.request in
     let none : conditions ≡ [] = demands_none conditions (channel_of partition call.request) number call.request answer call.claim
     is.demands.1.1.1.1.1.1 (no_error_is_done call.claim.out no_error) in

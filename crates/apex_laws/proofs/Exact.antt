@@ -4,22 +4,23 @@ use Rattle.std.proofs.lemmas.Bool.{and_from, and_parts, eqb-true, eq-eqb}
 use Rattle.apex_laws.proofs.Common.{AreTied, Body, Buffer, Call, CallRecord, Configuration, CoreState, Disp, End, Entry, IsLawfulBody, Mode, Ordered, Out, Partition, Process, Receivers, Request, Ret, Senders, State, Step, Table, Tick, Wait}
 use Rattle.apex_laws.proofs.Common.{WaitersHaveEntries, WaitingSet, WaitsIn, Who, WhoWaitsHasEntry, adjusted, after, called, caller_after, caller_with, change_at, channel_set, cold_state, conditions_of, created_by, each_item, each_set}
 use Rattle.apex_laws.proofs.Common.{ends_wait, enters, entries_at, entries_at_channel, entries_at_end, entries_in, entries_of, entry_of, entry_wait, first_core, given_object, has_entry_in, is_done, is_named, is_no_error, is_normal}
-use Rattle.apex_laws.proofs.Common.{is_of_channel, is_same, is_target, is_the_set, is_waiting, item_at, message_of, natural_of, new_process, numbered, object_conditions, objects_by, objects_of, partition_by, period_of, released, restart_of}
+use Rattle.apex_laws.proofs.Common.{is_of_channel, is_same, is_target, is_the_set, is_waiting, item_at, message_of, natural_of, new_process, numbered, object_conditions, objects_by, objects_of, partition_by, period_of, released, is_restart}
 use Rattle.apex_laws.proofs.Common.{returned, set_after, set_by, set_of, stop_of, stopped, stops, ticked, time_of, wait_of, waits_at, without, woken_by, woken_if_named}
-use Rattle.apex_laws.proofs.Common.{Arrive, Depart, enters_lock, first_processes, is_of_lock, lock_left, lock_waiters_after, waits_for_lock, Error, deadline_taken, reported}
-use Rattle.apex_laws.proofs.Booleans.{by_test, differs_back, either_way, first_holds, impossible, is_itself, later_holds, never_found, not_first, not_second, other_holds}
+use Rattle.apex_laws.proofs.Common.{Arrive, Depart, enters_lock, first_processes, is_of_lock, lock_left, lock_waiters_after, waits_for_lock, Error, DormantWaitNot, errors_after, handles_more, reported, waits_for_nothing}
+use Rattle.apex_laws.proofs.Booleans.{by_test, cannot_hold, differs_back, either_way, first_holds, impossible, is_itself, later_holds, never_found, not_first, not_second, other_holds}
 use Rattle.apex_laws.proofs.Awaited.{Awaited, awaits, begins, for_none, goes_in, is_for, lock_awaits, ready_awaits_not, set_awaits}
+use Rattle.apex_laws.proofs.Dormant.{Rests}
 use Rattle.apex_laws.proofs.Ends.{first_empty}
-use Rattle.apex_laws.proofs.Keeps.{begun_for, called_sets, called_waiters, calls_ready, CallsReady, found_changed, IsReadyCall, leaves, same_sets, same_sets_with, set_case, used_sets, error_leaves_nobody}
+use Rattle.apex_laws.proofs.Errors.{reported_case}
+use Rattle.apex_laws.proofs.Keeps.{begun_for, called_sets, called_waiters, calls_ready, CallsReady, found_changed, IsReadyCall, leaves, same_sets, same_sets_with, set_case, used_sets, error_ends_none, same_sets_told, told_ends}
 use Rattle.apex_laws.proofs.ObjectCalls.{message_there, mutex_there, object_there}
 use Rattle.apex_laws.proofs.Objects.{each_set_holds, is_created_at, none_there}
-use Rattle.apex_laws.proofs.Restarts.{call_case, goes_on, not_restarted, restarts_none, restarts_other, return_case, start_awaits_not, start_waits_not, waiting_goes_on, woken_table, error_case}
+use Rattle.apex_laws.proofs.Restarts.{call_case, goes_on, not_restarted, restarts_none, restarts_other, return_case, start_awaits_not, start_waits_not, waiting_goes_on, woken_table, error_case, no_restart}
 use Rattle.apex_laws.proofs.SetNames.{channel_set_is, has_end}
 use Rattle.apex_laws.proofs.Stays.{run_keeps}
-use Rattle.apex_laws.proofs.Tables.{at_each}
+use Rattle.apex_laws.proofs.Tables.{at_each, found_after}
 use Rattle.apex_laws.proofs.WaitersOf.{same_is, same_itself, same_who}
 use Rattle.apex_laws.proofs.Wakes.{entering_is_the_sentence, found}
-use Rattle.apex_laws.proofs.WholeCalls.{found_after}
 
 -- Who waits in a set after a record: who waited there and whose wait the record doesn't end, or the caller that enters.
 
@@ -43,18 +44,23 @@ start_not wanted true period now delay own is = entry_not wanted period now (nat
 start_not (Awaited.TheSet wanted) false period now delay own is = true≢false (sym is)
 start_not Awaited.TheLock false period now delay own is = true≢false (sym is)
 
+-- a handler that starts waits for nothing
+rests_not : (wanted : Awaited) (x : Process) → Rests x → x.alive ≡ false → is_for wanted x.wait ≡ true → ⊥
+rests_not wanted x rests was waits = true≢false (sym waits ∙ for_none wanted x.wait (ap waits_for_nothing (rests was)))
+
 set_back : (place period : ℕ) (cores : List CoreState) (partition : Partition) (caller : ℕ) (asked : Request) (number : ℕ) (x : Process) (wanted : Awaited)
-    → WaitedBefore wanted x (set_by place period cores partition caller asked number x)
-set_back place period cores partition caller asked number x wanted =
-    set_case (WaitedBefore wanted x) place period cores partition caller asked number x (λ affinity current retained position suspended waits. waits)
+    → Rests x → WaitedBefore wanted x (set_by place period cores partition caller asked number x)
+set_back place period cores partition caller asked number x wanted rests =
+    set_case (WaitedBefore wanted x) place period cores partition caller asked number x (λ affinity current retained position faulted suspended waits. waits)
     (λ now delay waits. absurd (start_not wanted (is_normal partition.mode) period now delay x.period waits))
-    (λ now delay waits. absurd (entry_not wanted period now delay x.period (and_parts x.alive (is_for wanted (entry_wait period now delay x.period)) waits).1))
+    (λ entering now delay waits. absurd (entry_not wanted period now delay x.period (and_parts x.alive (is_for wanted (entry_wait period now delay x.period)) waits).1))
+    (λ handler was waits. absurd (rests_not wanted x rests was waits))
 
 adjusted_back : (place period : ℕ) (cores : List CoreState) (partition : Partition) (call : CallRecord) (number : ℕ) (x : Process) (wanted : Awaited)
-    → WaitedBefore wanted x (adjusted place period cores partition call number x)
-adjusted_back place period cores partition call number x wanted =
+    → Rests x → WaitedBefore wanted x (adjusted place period cores partition call number x)
+adjusted_back place period cores partition call number x wanted rests =
     by_test (WaitedBefore wanted x) (is_done call.claim.out) (set_by place period cores partition call.who.proc call.request number x) x
-    (λ done. set_back place period cores partition call.who.proc call.request number x wanted) (λ not_done waits. waits)
+    (λ done. set_back place period cores partition call.who.proc call.request number x wanted rests) (λ not_done waits. waits)
 
 -- a wait that ended
 
@@ -78,28 +84,30 @@ ticked_back place part woken number x wanted waits = still_waits wanted (is_name
 
 -- the caller
 
-caller_back : (place now : ℕ) (call : CallRecord) (x : Process) (wanted : Awaited) (given : Out) → (awaits wanted (Some x) ≡ true → ⊥)
-    → awaits wanted (Some (record (caller_with place now call given x) { called_at = now })) ≡ true → (is_waiting given ≡ true) × (begins wanted call.request call.claim.chan ≡ true)
-caller_back place now call x wanted Out.Waits not waits =
+caller_back : (place now : ℕ) (more : Bool) (call : CallRecord) (x : Process) (wanted : Awaited) (given : Out) → (awaits wanted (Some x) ≡ true → ⊥)
+    → awaits wanted (Some (record (cond more x (caller_with place now call given x)) { called_at = now })) ≡ true → (is_waiting given ≡ true) × (begins wanted call.request call.claim.chan ≡ true)
+caller_back place now true call x wanted given not waits = absurd (not waits)
+caller_back place now false call x wanted Out.Waits not waits =
     (refl, sym (begun_for wanted call.request call.claim.chan now x) ∙ (and_parts x.alive (is_for wanted (wait_of call.request call.claim.chan now x)) waits).1)
-caller_back place now call x wanted Out.Never not waits = impossible waits
-caller_back place now call x wanted (Out.Answer code) not waits = absurd (not waits)
+caller_back place now false call x wanted Out.Never not waits = impossible waits
+caller_back place now false call x wanted (Out.Answer code) not waits = absurd (not waits)
 
 -- a process of the caller's partition
-called_back : (place now period : ℕ) (cores : List CoreState) (partition : Partition) (call : CallRecord) (number : ℕ) (x : Process) (wanted : Awaited) → restart_of call ≡ None
+called_back : (place now period : ℕ) (cores : List CoreState) (partition : Partition) (call : CallRecord) (number : ℕ) (x : Process) (wanted : Awaited) → Rests x → is_restart call ≡ false
     → awaits wanted (Some (called place now period cores partition call number x)) ≡ true
-    → ((nat_eq number call.who.proc ≡ true) × (awaits wanted (Some (caller_after place now call (adjusted place period cores partition call number x))) ≡ true))
+    → ((nat_eq number call.who.proc ≡ true) × (awaits wanted (Some (caller_after place now (handles_more partition call.who.proc call.request) call (adjusted place period cores partition call number x))) ≡ true))
     ⊎ ((ends_wait call (record { part = call.who.part; proc = number }) ≡ false) × (awaits wanted (Some x) ≡ true))
-called_back place now period cores partition call number x wanted none waits =
+called_back place now period cores partition call number x wanted rests none waits =
+    let more = handles_more partition call.who.proc call.request in
     let changed = adjusted place period cores partition call number x in
     let who : Who = record { part = call.who.part; proc = number } in
-    let Fact : Type 0 = ((nat_eq number call.who.proc ≡ true) × (awaits wanted (Some (caller_after place now call changed)) ≡ true))
+    let Fact : Type 0 = ((nat_eq number call.who.proc ≡ true) × (awaits wanted (Some (caller_after place now more call changed)) ≡ true))
     ⊎ ((ends_wait call who ≡ false) × (awaits wanted (Some x) ≡ true)) in
-    by_test (λ y. awaits wanted (Some y) ≡ true → Fact) (nat_eq number call.who.proc) (caller_after place now call changed) (cond (stops call who) (stopped changed) (woken_if_named place (message_of call.request) call.claim.woken who changed))
+    by_test (λ y. awaits wanted (Some y) ≡ true → Fact) (nat_eq number call.who.proc) (caller_after place now more call changed) (cond (stops call who) (stopped changed) (woken_if_named place (message_of call.request) call.claim.woken who changed))
     (λ own waits. inl (own, waits))
     (λ other. by_test (λ y. awaits wanted (Some y) ≡ true → Fact) (stops call who) (stopped changed) (woken_if_named place (message_of call.request) call.claim.woken who changed) (λ passed waits. impossible waits)
     (λ stays waits. (let back = woken_if_named_back place (message_of call.request) call.claim.woken who changed wanted waits in
-    inr (goes_on call who (restarts_none call call.who.part none) back.0 stays, adjusted_back place period cores partition call number x wanted back.1)))) waits
+    inr (goes_on call who (restarts_none call call.who.part none) back.0 stays, adjusted_back place period cores partition call number x wanted rests back.1)))) waits
 
 -- a created process doesn't wait
 numbered_not : (claimed : Option ℤ) (core : ℕ) (name : List ℕ) (priority period time_capacity : ℤ) (number : ℕ) (wanted : Awaited) → awaits wanted (item_at (numbered claimed (new_process core name priority period time_capacity)) number) ≡ true → ⊥
@@ -161,30 +169,35 @@ waits_after place message woken table who wanted waits =
 
 -- who waits in a set after a record waited there and goes on, or enters, if the record's own calls are of ready callers
 pub who_waits : (configuration : Configuration) (cores : List CoreState) (place core : ℕ) (body : Body) (partition : Partition) (who : Who) (wanted : Awaited)
-    → CallsReady configuration core who.part body partition
+    → CallsReady configuration core who.part body partition → DormantWaitNot partition.table
     → awaits wanted (item_at (partition_by configuration cores place core who.part body partition).table who.proc) ≡ true
     → ((leaves body who ≡ false) × (awaits wanted (item_at partition.table who.proc) ≡ true)) ⊎ Entering body who wanted
-who_waits configuration cores place core (Disp one) partition who wanted ready waits = inl (refl, waits)
-who_waits configuration cores place core (Tick woken) partition who wanted ready waits =
+who_waits configuration cores place core (Disp one) partition who wanted ready rest waits = inl (refl, waits)
+who_waits configuration cores place core (Tick woken) partition who wanted ready rest waits =
     each_back _ (ticked place who.part woken) partition.table who.proc wanted
     (λ x at waits. (let back = ticked_back place who.part woken who.proc x wanted waits in inl (back.0, subst (λ one. awaits wanted one ≡ true) (sym at) back.1))) waits
-who_waits configuration cores place core (Ret ret) partition who wanted ready waits =
+who_waits configuration cores place core (Ret ret) partition who wanted ready rest waits =
     let Fact : Type 0 = ((false ≡ false) × (awaits wanted (item_at partition.table who.proc) ≡ true)) ⊎ ⊥ in
     return_case (λ next. awaits wanted (item_at next.table who.proc) ≡ true → Fact) configuration cores place core who.part ret partition
     (λ waits. each_back Fact (returned ret.who.proc) partition.table who.proc wanted
     (λ x at waits. inl (refl, subst (λ one. awaits wanted one ≡ true) (sym at) (by_test (WaitedBefore wanted x) (nat_eq who.proc ret.who.proc) (record x { due = None }) x (λ own waits. waits) (λ other waits. waits) waits))) waits)
     (λ waits. inl (refl, waits)) waits
-who_waits configuration cores place core (Arrive crossing) partition who wanted ready waits =
+who_waits configuration cores place core (Arrive crossing) partition who wanted ready rest waits =
     waits_after place crossing.message crossing.woken partition.table who wanted waits
-who_waits configuration cores place core (Depart crossing) partition who wanted ready waits = waits_after place [] crossing.woken partition.table who wanted waits
-who_waits configuration cores place core (Error report) partition who wanted ready waits =
-    let stays : leaves (Error report) who ≡ false = error_leaves_nobody report who ready in
+who_waits configuration cores place core (Depart crossing) partition who wanted ready rest waits = waits_after place [] crossing.woken partition.table who wanted waits
+who_waits configuration cores place core (Error report) partition who wanted ready rest waits =
     let Fact : Type 0 = ((leaves (Error report) who ≡ false) × (awaits wanted (item_at partition.table who.proc) ≡ true)) ⊎ ⊥ in
     error_case (λ next. awaits wanted (item_at next.table who.proc) ≡ true → Fact) configuration cores place core who.part report partition
-    (λ waits. each_back Fact (deadline_taken report.who.proc) partition.table who.proc wanted
-    (λ x at waits. inl (stays, subst (λ one. awaits wanted one ≡ true) (sym at) (by_test (WaitedBefore wanted x) (nat_eq who.proc report.who.proc) (reported x) x (λ own waits. waits) (λ other waits. waits) waits))) waits)
-    (λ waits. inl (stays, waits)) waits
-who_waits configuration cores place core (Call call) partition who wanted ready waits =
+    (λ own none waits. each_back Fact (reported place partition report) partition.table who.proc wanted
+    (λ x at waits. inl (
+      error_ends_none configuration core who.part report partition who ready (inr none) refl,
+      subst (λ one. awaits wanted one ≡ true) (sym at)
+          (reported_case (WaitedBefore wanted x) place partition report who.proc x (λ deadline faulted waits. waits)
+          (λ handler deadline was waits. absurd (rests_not wanted x (rest who.proc x at) was waits)) waits),
+    )) waits)
+    (λ own restart is waits. absurd (start_awaits_not restart.mode (first_core configuration report.who.part) place who.proc wanted waits))
+    (λ elsewhere waits. inl (error_ends_none configuration core who.part report partition who ready (inl elsewhere) refl, waits)) waits
+who_waits configuration cores place core (Call call) partition who wanted ready rest waits =
     let Fact : Type 0 = ((ends_wait call who ≡ false) × (awaits wanted (item_at partition.table who.proc) ≡ true)) ⊎ ((who ≡ call.who) × (goes_in wanted call ≡ true)) in
     let table = partition.table in
     let now = time_of cores core in
@@ -193,19 +206,20 @@ who_waits configuration cores place core (Call call) partition who wanted ready 
     call_case (λ next. awaits wanted (item_at next.table who.proc) ≡ true → Fact) configuration cores place core who.part call partition
     (λ own none in_table.
     (let here : call.who.part ≡ who.part = eqb-true call.who.part who.part own in
+    let goes_on_here : is_restart call ≡ false = cannot_hold (is_restart call) (λ is. never_found (sym none ∙ ((ready own).anew is).1)) in
     let same : record { part = call.who.part; proc = who.proc } ≡ who = same_who (record { part = call.who.part; proc = who.proc }) who here refl in
     longer_back Fact (called place now period cores partition call) table added who.proc wanted
-    (λ x at waits. elim (called_back place now period cores partition call who.proc x wanted none waits) [
+    (λ x at waits. elim (called_back place now period cores partition call who.proc x wanted (rest who.proc x at) goes_on_here waits) [
       | inl caller ↦
           let number : who.proc ≡ call.who.proc = eqb-true who.proc call.who.proc caller.0 in
-          let begun = caller_back place now call (adjusted place period cores partition call who.proc x) wanted call.claim.out
+          let begun = caller_back place now (handles_more partition call.who.proc call.request) call (adjusted place period cores partition call who.proc x) wanted call.claim.out
           (λ waits. ready_awaits_not core (item_at table call.who.proc) wanted (ready own).ready
-          (subst (λ one. awaits wanted one ≡ true) (sym at ∙ ap (item_at table) number) (adjusted_back place period cores partition call who.proc x wanted waits))) caller.1 in
+          (subst (λ one. awaits wanted one ≡ true) (sym at ∙ ap (item_at table) number) (adjusted_back place period cores partition call who.proc x wanted (rest who.proc x at) waits))) caller.1 in
           inr (same_who who call.who (sym here) number, and_from _ _ begun.0 begun.1)
       | inr other ↦ inl (subst (λ one. ends_wait call one ≡ false) same other.0, subst (λ one. awaits wanted one ≡ true) (sym at) other.1)
     ])
     (λ new. created_not (first_core configuration call.who.part) call call.request who.proc wanted new) in_table))
-    (λ own mode is in_table. absurd (start_awaits_not mode (first_core configuration call.who.part) place who.proc wanted in_table))
+    (λ own restart is in_table. absurd (start_awaits_not restart.mode (first_core configuration call.who.part) place who.proc wanted in_table))
     (λ elsewhere in_table. each_back Fact _ table who.proc wanted
     (λ x at waits. (let back = woken_if_named_back place (message_of call.request) call.claim.woken who x wanted waits in
     let stays : stops call who ≡ false = not_stopped call who elsewhere in
@@ -213,11 +227,11 @@ who_waits configuration cores place core (Call call) partition who wanted ready 
 
 -- so it is with the sets
 set_waits : (configuration : Configuration) (cores : List CoreState) (place core : ℕ) (body : Body) (partition : Partition) (who : Who) (wanted : WaitingSet)
-    → CallsReady configuration core who.part body partition
+    → CallsReady configuration core who.part body partition → DormantWaitNot partition.table
     → waits_at wanted (item_at (partition_by configuration cores place core who.part body partition).table who.proc) ≡ true
     → ((leaves body who ≡ false) × (waits_at wanted (item_at partition.table who.proc) ≡ true)) ⊎ Entering body who (Awaited.TheSet wanted)
-set_waits configuration cores place core body partition who wanted ready waits =
-    elim (who_waits configuration cores place core body partition who (Awaited.TheSet wanted) ready
+set_waits configuration cores place core body partition who wanted ready rest waits =
+    elim (who_waits configuration cores place core body partition who (Awaited.TheSet wanted) ready rest
     (set_awaits wanted (item_at (partition_by configuration cores place core who.part body partition).table who.proc) ∙ waits)) [
       | inl goes ↦ inl (goes.0, sym (set_awaits wanted (item_at partition.table who.proc)) ∙ goes.1)
       | inr enters ↦ inr enters
@@ -341,17 +355,17 @@ own_takes configuration cores place core call partition ready wanted off here =
     let objects : Partition = cond (is_done call.claim.out) (objects_by configuration call.who call.claim.val call.request partition) partition in
     let there : is_created_at objects wanted ≡ true = rw done
     (waits_there configuration ready.now call.who call.claim.val partition ((entering_is_the_sentence call wanted).0 here).1 off (ready.none done)) in
-    rw (is_itself call.who.part, waiting_goes_on call parts.0) (subst (λ entries. has_entry_in call.who entries ≡ true) (sym (called_sets configuration cores place core call partition wanted))
+    rw (is_itself call.who.part, no_restart configuration call (waiting_goes_on call parts.0)) (subst (λ entries. has_entry_in call.who entries ≡ true) (sym (called_sets configuration cores place core call partition wanted))
     (each_has_entry call.who (set_after place (Call call)) objects wanted there (set_takes place call wanted (entries_at objects wanted) here)))
 
 -- a process that waits in a set of a partition's object after a record has an entry in it, if the record's own calls are of ready callers
 pub object_has_entry : (configuration : Configuration) (cores : List CoreState) (place core : ℕ) (body : Body) (partition : Partition) (who : Who) (wanted : WaitingSet)
-    → CallsReady configuration core who.part body partition → is_of_channel wanted ≡ false
+    → CallsReady configuration core who.part body partition → DormantWaitNot partition.table → is_of_channel wanted ≡ false
     → (waits_at wanted (item_at partition.table who.proc) ≡ true → has_entry_in who (entries_at partition wanted) ≡ true)
     → waits_at wanted (item_at (partition_by configuration cores place core who.part body partition).table who.proc) ≡ true
     → has_entry_in who (entries_at (partition_by configuration cores place core who.part body partition) wanted) ≡ true
-object_has_entry configuration cores place core body partition who wanted ready off before waits =
-    elim (set_waits configuration cores place core body partition who wanted ready waits) [
+object_has_entry configuration cores place core body partition who wanted ready rest off before waits =
+    elim (set_waits configuration cores place core body partition who wanted ready rest waits) [
       | inl goes ↦ stays body goes.0 (before goes.1)
       | inr enters ↦ entered body ready enters
     ]
@@ -373,14 +387,16 @@ object_has_entry configuration cores place core body partition who wanted ready 
         subst (λ entries. has_entry_in who entries ≡ true) (sym (same_sets partition (woken_table place who.part [] crossing.woken partition.table) wanted)) has
     stays (Error report) goes has =
         error_case Has configuration cores place core who.part report partition
-        (subst (λ entries. has_entry_in who entries ≡ true) (sym (same_sets partition (each_item (deadline_taken report.who.proc) partition.table) wanted)) has) has
+        (λ own none. subst (λ entries. has_entry_in who entries ≡ true)
+        (sym (same_sets_told partition (errors_after partition report) (each_item (reported place partition report) partition.table) wanted)) has)
+        (λ own restart is. absurd (told_ends configuration report who restart is own goes)) (λ elsewhere. has)
     stays (Call call) goes has =
         let objects : Partition = cond (is_done call.claim.out) (objects_by configuration call.who call.claim.val call.request partition) partition in
         let used = used_sets (λ entries. has_entry_in who entries ≡ true) configuration call partition wanted has in
         call_case Has configuration cores place core who.part call partition
         (λ own none. subst (λ entries. has_entry_in who entries ≡ true) (sym (called_sets configuration cores place core call partition wanted))
         (each_has_entry who (set_after place (Call call)) objects wanted (waiting_there who objects wanted used) (set_keeps place (Call call) who wanted (entries_at objects wanted) goes used)))
-        (λ own mode is. never_found (sym (not_restarted call who (sym (eqb-true call.who.part who.part own)) goes) ∙ is))
+        (λ own restart is. never_found (sym (no_restart configuration call (not_restarted call who (sym (eqb-true call.who.part who.part own)) goes)) ∙ is))
         (λ elsewhere. subst (λ entries. has_entry_in who entries ≡ true) (sym (same_sets partition (woken_table place who.part (message_of call.request) call.claim.woken partition.table) wanted)) has)
 
     entered : (body : Body) → CallsReady configuration core who.part body partition → Entering body who (Awaited.TheSet wanted) → Has (partition_by configuration cores place core who.part body partition)
@@ -408,16 +424,16 @@ lock_takes configuration cores place core call partition here =
     let parts = and_parts (is_waiting call.claim.out) (is_of_lock call.request) here in
     let taken : has_entry_in call.who (lock_waiters_after place (Call call) partition.lock.waiters) ≡ true =
     rw here (has_entry_last (entry_of place call) (without (ends_wait call) partition.lock.waiters)) in
-    rw (is_itself call.who.part, waiting_goes_on call parts.0) (subst (λ entries. has_entry_in call.who entries ≡ true) (sym (called_waiters place call partition.lock)) taken)
+    rw (is_itself call.who.part, no_restart configuration call (waiting_goes_on call parts.0)) (subst (λ entries. has_entry_in call.who entries ≡ true) (sym (called_waiters place call partition.lock)) taken)
 
 -- a process that waits for the lock of its partition after a record has an entry in its set, if the record's own calls are of ready callers
 pub lock_has_entry : (configuration : Configuration) (cores : List CoreState) (place core : ℕ) (body : Body) (partition : Partition) (who : Who)
-    → CallsReady configuration core who.part body partition
+    → CallsReady configuration core who.part body partition → DormantWaitNot partition.table
     → (waits_for_lock (item_at partition.table who.proc) ≡ true → has_entry_in who partition.lock.waiters ≡ true)
     → waits_for_lock (item_at (partition_by configuration cores place core who.part body partition).table who.proc) ≡ true
     → has_entry_in who (partition_by configuration cores place core who.part body partition).lock.waiters ≡ true
-lock_has_entry configuration cores place core body partition who ready before waits =
-    elim (who_waits configuration cores place core body partition who Awaited.TheLock ready
+lock_has_entry configuration cores place core body partition who ready rest before waits =
+    elim (who_waits configuration cores place core body partition who Awaited.TheLock ready rest
     (lock_awaits (item_at (partition_by configuration cores place core who.part body partition).table who.proc) ∙ waits)) [
       | inl goes ↦ stays body goes.0 (before (sym (lock_awaits (item_at partition.table who.proc)) ∙ goes.1))
       | inr enters ↦ entered body enters
@@ -432,11 +448,13 @@ lock_has_entry configuration cores place core body partition who ready before wa
     stays (Tick woken) goes has = has_entry_without (λ who. is_named who woken) who partition.lock.waiters goes has
     stays (Arrive crossing) goes has = has
     stays (Depart crossing) goes has = has
-    stays (Error report) goes has = error_case Has configuration cores place core who.part report partition has has
+    stays (Error report) goes has =
+        error_case Has configuration cores place core who.part report partition (λ own none. has)
+        (λ own restart is. absurd (told_ends configuration report who restart is own goes)) (λ elsewhere. has)
     stays (Call call) goes has =
         call_case Has configuration cores place core who.part call partition
         (λ own none. subst (λ entries. has_entry_in who entries ≡ true) (sym (called_waiters place call partition.lock)) (lock_keeps place call who partition.lock.waiters goes has))
-        (λ own mode is. never_found (sym (not_restarted call who (sym (eqb-true call.who.part who.part own)) goes) ∙ is))
+        (λ own restart is. never_found (sym (no_restart configuration call (not_restarted call who (sym (eqb-true call.who.part who.part own)) goes)) ∙ is))
         (λ elsewhere. has)
 
     entered : (body : Body) → Entering body who Awaited.TheLock → Has (partition_by configuration cores place core who.part body partition)
@@ -455,7 +473,7 @@ channel_has_entry : (configuration : Configuration) (state : State) (place core 
     → waits_at wanted (item_at (partition_by configuration state.cores place core who.part body (state.partitions who.part)).table who.proc) ≡ true
     → has_entry_in who (set_after place body wanted entries) ≡ true
 channel_has_entry configuration state place core body tied law who wanted entries before waits =
-    elim (set_waits configuration state.cores place core body (state.partitions who.part) who wanted (calls_ready configuration state core body tied law who.part) waits) [
+    elim (set_waits configuration state.cores place core body (state.partitions who.part) who wanted (calls_ready configuration state core body tied law who.part) (tied.dormant who.part) waits) [
       | inl goes ↦ set_keeps place body who wanted entries goes.0 (before goes.1)
       | inr enters ↦ entering_has_entry place body who wanted entries enters
     ]
@@ -468,7 +486,7 @@ next_in_sets configuration state ordered tied are_there law who wanted waits =
     (λ is. subst (λ one. has_entry_in who (entries_of (after configuration state ordered) who.part one) ≡ true) (sym (channel_set_is wanted is))
     (at_channel wanted.number wanted.end (subst (λ one. waits_at one (found (after configuration state ordered).partitions who) ≡ true) (channel_set_is wanted is) waits)))
     (λ off. rw off (object_has_entry configuration state.cores ordered.pos ordered.core ordered.rec.body (state.partitions who.part) who wanted
-    (calls_ready configuration state ordered.core ordered.rec.body tied law who.part) off
+    (calls_ready configuration state ordered.core ordered.rec.body tied law who.part) (tied.dormant who.part) off
     (λ before. subst (λ test. has_entry_in who (cond test (entries_at_channel wanted.end (state.channels wanted.number)) (entries_at (state.partitions who.part) wanted)) ≡ true) off (are_there.0 who wanted before)) waits))
   where
     at_channel : (channel : ℕ) (end : End) → waits_at (channel_set channel end) (found (after configuration state ordered).partitions who) ≡ true
@@ -483,7 +501,7 @@ next_has_entries : (configuration : Configuration) (state : State) (ordered : Or
 next_has_entries configuration state ordered tied are_there law = (
   next_in_sets configuration state ordered tied are_there law,
   λ who waits. lock_has_entry configuration state.cores ordered.pos ordered.core ordered.rec.body (state.partitions who.part) who
-      (calls_ready configuration state ordered.core ordered.rec.body tied law who.part) (are_there.1 who) waits,
+      (calls_ready configuration state ordered.core ordered.rec.body tied law who.part) (tied.dormant who.part) (are_there.1 who) waits,
 )
 
 step_has_entries : (configuration : Configuration) (state : State) (ordered : Ordered) (next : State)

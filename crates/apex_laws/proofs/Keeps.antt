@@ -1,6 +1,6 @@
 -- What a record leaves in a partition: waits that go on, waiting sets, and distinct numbers.
-use Rattle.std.proofs.Common.{◌≡◌, ℕ, zero, suc, List, [], ◌∷◌, ◌++◌, Bool, true, false, cond, nat_eq, ℤ, pos, negsuc, Option, Some, None, option_map, refl, sym, ap, subst, ◌∙◌, true≢false, ◌≤◌, nat_le, nat_lt, is_some, is_none, ◌&&◌}
-use Rattle.std.proofs.lemmas.Bool.{and_from, and_parts, eqb-true, leb-true, ltb-true}
+use Rattle.std.proofs.Common.{◌≡◌, ℕ, zero, suc, List, [], ◌∷◌, ◌++◌, Bool, true, false, cond, nat_eq, ℤ, pos, negsuc, Option, Some, None, option_map, refl, sym, ap, subst, ◌∙◌, true≢false, ◌≤◌, nat_le, nat_lt, is_some, is_none, ◌&&◌, ◌⊎◌, inl, inr}
+use Rattle.std.proofs.lemmas.Bool.{and_from, and_parts, eq-eqb, eqb-true, leb-true, ltb-true}
 use Rattle.std.proofs.lemmas.List.{append-nil}
 use Rattle.apex_types.specs.declared.object_kind.ObjectKind.TheVariants as kind
 use Rattle.apex_types.specs.declared.operation.ObjectOperation.TheVariants as on
@@ -9,14 +9,16 @@ use Rattle.apex_laws.proofs.Common.{Mutex, ObjectKind, Out, Partition, Process, 
 use Rattle.apex_laws.proofs.Common.{conditions_of, created, created_by, due_of_call, each_item, each_set, ends_wait, enters, entries_at, entries_at_end, entries_in, entry_of, entry_wait, first_core, given_object, is_done, is_free, is_in}
 use Rattle.apex_laws.proofs.Common.{is_named, is_new, is_number, is_owner, is_the_set, is_waiting, item_at, new_process, numbered, objects_by, objects_called, objects_of, on_ownership, partition_by, partition_called, period_of, returned}
 use Rattle.apex_laws.proofs.Common.{set_after, set_by, set_in, set_of, start_conditions, started, ticked, time_of, time_out_of, wait_in, wait_of, waits_at, waits_for_normal, window_now, without, woken_if_named}
-use Rattle.apex_laws.proofs.Common.{Arrive, Depart, Lock, StartCondition, delay_kept, Effect, LockOperation, enters_lock, first_for_lock, given_up, is_for_lock, is_of_lock, lock_by, lock_called, lock_effect, lock_left, lock_stopped, lock_waiters_after, locked_again, locked_from, natural_of, not_locked, passed_on, passed_to, unlocked_once, message_of, waits_for_lock, Error, ErrorReport, deadline_taken, entry_deadline, reported}
+use Rattle.apex_laws.proofs.Common.{Arrive, Depart, Lock, StartCondition, delay_kept, Effect, LockOperation, enters_lock, first_for_lock, given_up, is_for_lock, is_of_lock, lock_by, lock_called, lock_effect, lock_left, lock_stopped, lock_waiters_after, locked_again, locked_from, natural_of, not_locked, passed_on, passed_to, unlocked_once, message_of, waits_for_lock, Error, ErrorReport, entry_deadline, reported}
+use Rattle.apex_laws.proofs.Common.{ErrorHandler, ListedError, Restart, errors_after, handles_more, is_restart, restart_of, restart_told}
 use Rattle.apex_laws.proofs.Awaited.{Awaited, awaits, begins, goes_in, is_for, lock_awaits, not_for_normal, ready_awaits_not, set_awaits}
-use Rattle.apex_laws.proofs.Booleans.{by_test, cannot_hold, either_way, impossible, is_itself, never_found, not_first, not_second}
+use Rattle.apex_laws.proofs.Booleans.{by_test, cannot_hold, differs_back, either_way, impossible, is_itself, never_found, not_first, not_second}
 use Rattle.apex_laws.proofs.Choices.{chosen_exists, FoundReady}
 use Rattle.apex_laws.proofs.Codes.{done_is_lawful}
 use Rattle.apex_laws.proofs.Ends.{first_empty, no_condition}
+use Rattle.apex_laws.proofs.Errors.{error_set_case, lawful_restart, reported_case, told_restarts}
 use Rattle.apex_laws.proofs.Objects.{each_set_has, objects_have}
-use Rattle.apex_laws.proofs.Restarts.{call_case, done_case, not_named, not_restarted, not_stopped, return_case, start_distinct, start_set, waiting_goes_on, woken_table, error_case}
+use Rattle.apex_laws.proofs.Restarts.{call_case, done_case, not_named, not_restarted, not_stopped, return_case, start_distinct, start_set, waiting_goes_on, woken_table, error_case, no_restart, told_anew}
 use Rattle.apex_laws.proofs.Tables.{at_each, distinct_each, distinct_push, some_at_each, turns_each}
 use Rattle.apex_laws.proofs.Waiters.{all_push, all_weaker, all_without}
 use Rattle.apex_laws.proofs.WaitersOf.{same_who}
@@ -63,37 +65,44 @@ mutex_case Fact (Some mutex) change number x any = by (is_owner mutex.owner numb
     by true true = any _ _
     by false false = any _ _
 
--- a fact about a process in which a call sets something: it holds whatever plain fields are set, of one that is started, and of one that
--- enters NORMAL
+-- a fact about a process in which a call sets something: it holds whatever plain fields are set, of one that is started, of one that enters
+-- NORMAL, and of a handler that starts
 pub set_case : (Fact : Process → Type 0) (place period : ℕ) (cores : List CoreState) (partition : Partition) (caller : ℕ) (asked : Request) (number : ℕ) (x : Process)
-    → ((affinity current retained position : ℕ) (suspended : Bool)
-    → Fact (record x { affinity = affinity; current_priority = current; retained_priority = retained; ready_position = position; suspended = suspended }))
+    → ((affinity current retained position : ℕ) (faulted suspended : Bool)
+    → Fact (record x { affinity = affinity; current_priority = current; retained_priority = retained; ready_position = position; faulted = faulted; suspended = suspended }))
     → ((now : ℕ) (delay : ℤ) → Fact (started place period now partition.mode delay x))
-    → ((now delay : ℕ) → Fact (record x { wait = entry_wait period now delay x.period; deadline = entry_deadline period now delay x; ready_position = place }))
+    → (waits_for_normal x.wait ≡ true → (now delay : ℕ)
+    → Fact (record x { wait = entry_wait period now delay x.period; deadline = entry_deadline period now delay x; ready_position = place }))
+    → ((handler : ErrorHandler) → x.alive ≡ false → Fact (record x { alive = true; affinity = handler.core; ready_position = place }))
     → Fact (set_by place period cores partition caller asked number x)
-set_case Fact place period cores partition caller (Request.Process process operation) number x set starts enters =
-    by_test Fact (is_number process number) (set_in place period (time_of cores x.affinity) partition.mode operation x) x (λ own. by operation) (λ other. set _ _ _ _ _)
+set_case Fact place period cores partition caller (Request.Process process operation) number x set starts enters handles =
+    by_test Fact (is_number process number) (set_in place period (time_of cores x.affinity) partition.mode operation x) x (λ own. by operation) (λ other. set _ _ _ _ _ _)
   where
     by : (one : ProcessOperation) → Fact (set_in place period (time_of cores x.affinity) partition.mode one x)
     by ProcessOperation.Start = starts (time_of cores x.affinity) (pos 0)
     by (ProcessOperation.DelayedStart delay) = starts (time_of cores x.affinity) delay
-    by _ = set _ _ _ _ _
-set_case Fact place period cores partition caller (Request.SetPartitionMode next) number x set starts enters =
+    by _ = set _ _ _ _ _ _
+set_case Fact place period cores partition caller (Request.SetPartitionMode next) number x set starts enters handles =
     by_test Fact (waits_for_normal x.wait)
     (record x {
       wait = entry_wait period (time_of cores x.affinity) (delay_kept x.wait) x.period;
       deadline = entry_deadline period (time_of cores x.affinity) (delay_kept x.wait) x;
       ready_position = place;
     }) x
-    (λ waits. enters (time_of cores x.affinity) (delay_kept x.wait)) (λ stays. set _ _ _ _ _)
-set_case Fact place period cores partition caller (Request.Object mutex (on.Mutex operation)) number x set starts enters =
-    mutex_case Fact (given_object partition.mutexes mutex) _ number x (λ current retained. set _ current retained _ _)
-set_case Fact place period cores partition caller _ number x set starts enters = set _ _ _ _ _
+    (λ waits. enters waits (time_of cores x.affinity) (delay_kept x.wait)) (λ stays. set _ _ _ _ _ _)
+set_case Fact place period cores partition caller (Request.Object mutex (on.Mutex operation)) number x set starts enters handles =
+    mutex_case Fact (given_object partition.mutexes mutex) _ number x (λ current retained. set _ current retained _ _ _)
+set_case Fact place period cores partition caller (Request.Health operation) number x set starts enters handles =
+    error_set_case Fact place partition caller (Request.Health operation) number x (set _ _ _ _ _ _) (set _ _ _ _ _ _) (set _ _ _ _ _ _) handles
+set_case Fact place period cores partition caller (Request.Caller operation) number x set starts enters handles =
+    error_set_case Fact place partition caller (Request.Caller operation) number x (set _ _ _ _ _ _) (set _ _ _ _ _ _) (set _ _ _ _ _ _) handles
+set_case Fact place period cores partition caller _ number x set starts enters handles = set _ _ _ _ _ _
 
-set_by_alive : (place period : ℕ) (cores : List CoreState) (partition : Partition) (caller : ℕ) (asked : Request) (number : ℕ) (x : Process) → x.alive ≡ true
+pub set_by_alive : (place period : ℕ) (cores : List CoreState) (partition : Partition) (caller : ℕ) (asked : Request) (number : ℕ) (x : Process) → x.alive ≡ true
     → (set_by place period cores partition caller asked number x).alive ≡ true
 set_by_alive place period cores partition caller asked number x alive =
-    set_case (λ y. y.alive ≡ true) place period cores partition caller asked number x (λ affinity current retained position suspended. alive) (λ now delay. refl) (λ now delay. alive)
+    set_case (λ y. y.alive ≡ true) place period cores partition caller asked number x (λ affinity current retained position faulted suspended. alive) (λ now delay. refl)
+    (λ waits now delay. alive) (λ handler rests. refl)
 
 pub set_by_wait : (place period : ℕ) (cores : List CoreState) (partition : Partition) (caller : ℕ) (asked : Request) (number : ℕ) (x : Process) → IsNotStarted asked number
     → waits_for_normal x.wait ≡ false → (set_by place period cores partition caller asked number x).wait ≡ x.wait
@@ -105,6 +114,10 @@ set_by_wait place period cores partition caller (Request.Process process operati
 set_by_wait place period cores partition caller (Request.SetPartitionMode next) number x starts normal = rw normal refl
 set_by_wait place period cores partition caller (Request.Object mutex (on.Mutex operation)) number x starts normal =
     mutex_case (λ y. y.wait ≡ x.wait) (given_object partition.mutexes mutex) _ number x (λ current retained. refl)
+set_by_wait place period cores partition caller (Request.Health operation) number x starts normal =
+    error_set_case (λ y. y.wait ≡ x.wait) place partition caller (Request.Health operation) number x refl refl refl (λ handler rests. refl)
+set_by_wait place period cores partition caller (Request.Caller operation) number x starts normal =
+    error_set_case (λ y. y.wait ≡ x.wait) place partition caller (Request.Caller operation) number x refl refl refl (λ handler rests. refl)
 set_by_wait place period cores partition caller _ number x starts normal = refl
 
 -- a start starts no process that is alive
@@ -127,16 +140,18 @@ not_started configuration now who partition _ number x at alive none = tt
 
 -- after a call
 
--- a call of one of a partition's own processes: its caller is ready, and if it is done, no error condition holds
+-- a call of one of a partition's own processes: its caller is ready; if it is done, no error condition holds; if it is a restart, it has one
 pub record IsReadyCall (configuration : Configuration) (partition : Partition) (core : ℕ) (call : CallRecord) : Type 0 where
   pub ready : FoundReady core (item_at partition.table call.who.proc)
   pub now : ℕ
   pub none : is_done call.claim.out ≡ true → conditions_of configuration now call.who partition call.request ≡ []
+  pub anew : is_restart call ≡ true → (restart : Restart) × (restart_of configuration call ≡ Some restart)
 
--- a record is such a call, if it is a call of one of this partition's processes; and an error restarts no partition
+-- a record is such a call, if it is a call of one of this partition's processes; and an error that restarts the partition has its restart
 abbrev pub CallsReady : Configuration → ℕ → ℕ → Body → Partition → Type 0
 CallsReady configuration core number (Call call) partition = nat_eq call.who.part number ≡ true → IsReadyCall configuration partition core call
-CallsReady configuration core number (Error report) partition = report.restarts ≡ false
+CallsReady configuration core number (Error report) partition =
+    nat_eq report.who.part number ≡ true → report.restarts ≡ true → (restart : Restart) × (restart_told configuration report ≡ Some restart)
 CallsReady configuration core number _ partition = Unit {0}
 
 -- a lawful call is one
@@ -146,13 +161,14 @@ ready_call configuration state core call tied law = record {
   ready = chosen_exists (window_now configuration state.cores core) state.partitions core call.who (tied.distinct call.who.part) law.choice;
   now = time_of state.cores core;
   none = done_is_lawful _ _ _ _ _ call.claim law.outcome;
+  anew = lawful_restart configuration state.cores core (state.partitions call.who.part) call _ _ _ law.outcome;
 }
 
 pub calls_ready : (configuration : Configuration) (state : State) (core : ℕ) (body : Body) → AreTied configuration state
     → IsLawfulBody configuration state core body → (number : ℕ) → CallsReady configuration core number body (state.partitions number)
 calls_ready configuration state core (Call call) tied law number =
     λ own. subst (λ part. IsReadyCall configuration (state.partitions part) core call) (eqb-true call.who.part number own) (ready_call configuration state core call tied law)
-calls_ready configuration state core (Error report) tied law number = law.goes_on
+calls_ready configuration state core (Error report) tied law number = λ own. told_restarts configuration (state.partitions report.who.part) report law.restart
 calls_ready configuration state core _ tied law number = tt
 
 -- what such a call sets leaves a waiting process alive and waiting
@@ -188,10 +204,6 @@ leaves (Depart crossing) one = is_named one crossing.woken
 leaves (Error report) one = report.restarts && nat_eq one.part report.who.part
 leaves (Call call) one = ends_wait call one
 
--- an error that restarts no partition ends no wait
-pub error_leaves_nobody : (report : ErrorReport) (one : Who) → report.restarts ≡ false → leaves (Error report) one ≡ false
-error_leaves_nobody report one goes_on = not_first report.restarts (nat_eq one.part report.who.part) goes_on
-
 -- a process of the caller's partition that the call doesn't wake or stop, and that isn't the caller
 called_waits : (configuration : Configuration) (cores : List CoreState) (partition : Partition) (place now core : ℕ) (call : CallRecord) → IsReadyCall configuration partition core call
     → (number : ℕ) (x : Process) (wanted : Awaited) → item_at partition.table number ≡ Some x → x.alive ≡ true → is_for wanted x.wait ≡ true
@@ -212,6 +224,12 @@ woken_waits place message woken table who wanted named waits =
     goes_on wanted (item_at (each_item change table) who.proc) (change who.proc old.process) (turns_each change table who.proc old.process old.is_member)
     (rw named old.alive) (rw named old.waits)
 
+-- an error that restarts a partition ends the waits of its processes
+pub told_ends : (configuration : Configuration) (report : ErrorReport) (who : Who) (restart : Restart) → restart_told configuration report ≡ Some restart
+    → nat_eq report.who.part who.part ≡ true → leaves (Error report) who ≡ false → ⊥
+told_ends configuration report who restart is own stays =
+    true≢false (sym (and_from _ _ (told_anew configuration report restart is) (eq-eqb who.part report.who.part (sym (eqb-true report.who.part who.part own)))) ∙ stays)
+
 -- a process goes on waiting at a record that doesn't end its wait
 pub keeps_awaiting : (configuration : Configuration) (cores : List CoreState) (place core : ℕ) (body : Body) (partition : Partition) (who : Who) (wanted : Awaited)
     → CallsReady configuration core who.part body partition → leaves body who ≡ false → awaits wanted (item_at partition.table who.proc) ≡ true
@@ -231,11 +249,13 @@ keeps_awaiting configuration cores place core (Ret ret) partition who wanted rea
     (goes_on wanted (item_at (each_item change partition.table) who.proc) (change who.proc old.process) (turns_each change partition.table who.proc old.process old.is_member) new.0 new.1) waits
 keeps_awaiting configuration cores place core (Error report) partition who wanted ready stays waits =
     let old = waits_exists wanted (item_at partition.table who.proc) waits in
-    let change = deadline_taken report.who.proc in
-    let new = by_test (λ (y : Process). (y.alive ≡ true) × (is_for wanted y.wait ≡ true)) (nat_eq who.proc report.who.proc) (reported old.process) old.process
-    (λ own. (old.alive, old.waits)) (λ other. (old.alive, old.waits)) in
+    let change = reported place partition report in
+    let new = reported_case (λ (y : Process). (y.alive ≡ true) × (is_for wanted y.wait ≡ true)) place partition report who.proc old.process
+    (λ deadline faulted. (old.alive, old.waits)) (λ handler deadline rests. (refl, old.waits)) in
     error_case (λ next. awaits wanted (item_at next.table who.proc) ≡ true) configuration cores place core who.part report partition
-    (goes_on wanted (item_at (each_item change partition.table) who.proc) (change who.proc old.process) (turns_each change partition.table who.proc old.process old.is_member) new.0 new.1) waits
+    (λ own none. goes_on wanted (item_at (each_item change partition.table) who.proc) (change who.proc old.process) (turns_each change partition.table who.proc old.process old.is_member) new.0 new.1)
+    (λ own restart is. absurd (told_ends configuration report who restart is own stays))
+    (λ elsewhere. waits)
 keeps_awaiting configuration cores place core (Call call) partition who wanted ready stays waits =
     let old = waits_exists wanted (item_at partition.table who.proc) waits in
     let table = partition.table in
@@ -248,7 +268,7 @@ keeps_awaiting configuration cores place core (Call call) partition who wanted r
     (subst (λ one. ends_wait call one ≡ false) same stays) in
     let change = called place (time_of cores core) (period_of configuration call.who.part) cores partition call in
     let more = created_by (first_core configuration call.who.part) call call.request in
-    rw (own, not_restarted call who (sym here) stays) (goes_on wanted (item_at (each_item change table ++ more) who.proc) (change who.proc old.process)
+    rw (own, no_restart configuration call (not_restarted call who (sym here) stays)) (goes_on wanted (item_at (each_item change table ++ more) who.proc) (change who.proc old.process)
     (found_changed change table more who.proc old.process old.is_member) new.0 new.1)))
     (λ foreign. rw foreign (woken_waits place (message_of call.request) call.claim.woken table who wanted (not_named call who stays) waits))
 keeps_awaiting configuration cores place core (Arrive crossing) partition who wanted ready stays waits =
@@ -287,12 +307,20 @@ pub begun_for : (wanted : Awaited) (asked : Request) (chan : Option ℕ) (now : 
 begun_for (Awaited.TheSet wanted) asked chan now x = begun_in wanted asked chan now x
 begun_for Awaited.TheLock asked chan now x = begun_for_lock asked chan now x
 
+-- a request that begins to wait doesn't end the handler
+pub ends_not : (wanted : Awaited) (asked : Request) (chan : Option ℕ) (partition : Partition) (caller : ℕ) → begins wanted asked chan ≡ true → handles_more partition caller asked ≡ false
+ends_not (Awaited.TheSet wanted) (Request.Caller CallerOperation.StopSelf) chan partition caller is = impossible is
+ends_not Awaited.TheLock (Request.Caller CallerOperation.StopSelf) chan partition caller is = impossible is
+ends_not wanted (Request.Caller operation) chan partition caller is = refl
+ends_not wanted _ chan partition caller is = refl
+
 -- the caller after a call that waits
-waiting_caller : (place now : ℕ) (call : CallRecord) (x : Process) (wanted : Awaited) (given : Out) → call.claim.out ≡ given → is_waiting given ≡ true → x.alive ≡ true
-    → begins wanted call.request call.claim.chan ≡ true
-    → ((caller_after place now call x).alive ≡ true) × (is_for wanted (caller_after place now call x).wait ≡ true)
-waiting_caller place now call x wanted Out.Waits given waits alive is = rw given (alive, begun_for wanted call.request call.claim.chan now x ∙ is)
-waiting_caller place now call x wanted _ given waits alive is = impossible waits
+waiting_caller : (place now : ℕ) (more : Bool) (call : CallRecord) (x : Process) (wanted : Awaited) (given : Out) → call.claim.out ≡ given → is_waiting given ≡ true → more ≡ false
+    → x.alive ≡ true → begins wanted call.request call.claim.chan ≡ true
+    → ((caller_after place now more call x).alive ≡ true) × (is_for wanted (caller_after place now more call x).wait ≡ true)
+waiting_caller place now true call x wanted given is waits none alive begins = impossible (sym none)
+waiting_caller place now false call x wanted Out.Waits given waits none alive is = rw given (alive, begun_for wanted call.request call.claim.chan now x ∙ is)
+waiting_caller place now false call x wanted _ given waits none alive is = impossible waits
 
 pub entered_awaits : (configuration : Configuration) (cores : List CoreState) (place core : ℕ) (call : CallRecord) (partition : Partition) → IsReadyCall configuration partition core call
     → (wanted : Awaited) → goes_in wanted call ≡ true
@@ -304,12 +332,14 @@ entered_awaits configuration cores place core call partition caller wanted enter
     let changed = adjusted place period cores partition call call.who.proc ready.process in
     let alive : changed.alive ≡ true = by_test (λ (y : Process). y.alive ≡ true) (is_done call.claim.out) (set_by place period cores partition call.who.proc call.request call.who.proc ready.process) ready.process
     (λ done. set_by_alive place period cores partition call.who.proc call.request call.who.proc ready.process ready.ready.alive) (λ not_done. ready.ready.alive) in
-    let new = waiting_caller place (time_of cores core) call changed wanted call.claim.out refl parts.0 alive parts.1 in
+    let more = handles_more partition call.who.proc call.request in
+    let ends = ends_not wanted call.request call.claim.chan partition call.who.proc parts.1 in
+    let new = waiting_caller place (time_of cores core) more call changed wanted call.claim.out refl parts.0 ends alive parts.1 in
     let change = called place (time_of cores core) period cores partition call in
     let is = found_changed change partition.table (created_by (first_core configuration call.who.part) call call.request) call.who.proc ready.process ready.is_member in
-    let caller : change call.who.proc ready.process ≡ caller_after place (time_of cores core) call changed = rw (is_itself call.who.proc) refl in
-    rw (is_itself call.who.part, waiting_goes_on call parts.0) (goes_on wanted (item_at (each_item change partition.table ++ created_by (first_core configuration call.who.part) call call.request) call.who.proc)
-    (caller_after place (time_of cores core) call changed) (is ∙ ap Some caller) new.0 new.1)
+    let caller : change call.who.proc ready.process ≡ caller_after place (time_of cores core) more call changed = rw (is_itself call.who.proc) refl in
+    rw (is_itself call.who.part, no_restart configuration call (waiting_goes_on call parts.0)) (goes_on wanted (item_at (each_item change partition.table ++ created_by (first_core configuration call.who.part) call call.request) call.who.proc)
+    (caller_after place (time_of cores core) more call changed) (is ∙ ap Some caller) new.0 new.1)
 
 -- so it is with the sets
 
@@ -363,7 +393,7 @@ each_entry Fact Then place (Depart crossing) wanted stays entering entries all =
 each_entry Fact Then place (Error report) wanted stays entering entries all =
     by_test (AllEntries Then) report.restarts (without (λ who. nat_eq who.part report.who.part) entries) entries
     (λ restarts. all_without Fact Then (λ who. nat_eq who.part report.who.part) (λ entry other is. stays entry (not_second report.restarts (nat_eq entry.who.part report.who.part) other) is) entries all)
-    (λ goes_on. all_weaker Fact Then (λ entry is. stays entry (error_leaves_nobody report entry.who goes_on) is) entries all)
+    (λ goes_on. all_weaker Fact Then (λ entry is. stays entry (not_first report.restarts (nat_eq entry.who.part report.who.part) goes_on) is) entries all)
 each_entry Fact Then place (Call call) wanted stays entering entries all =
     let rest : AllEntries Then (without (ends_wait call) entries) = all_without Fact Then (ends_wait call) stays entries all in
     by_test (AllEntries Then) (enters call wanted) (without (ends_wait call) entries ++ entry_of place call ∷ []) (without (ends_wait call) entries)
@@ -387,6 +417,14 @@ same_sets_with partition lock table wanted = ap (λ objects. entries_in (entries
     same kind.Buffer = refl
     same _ = refl
 
+-- nor do the listed errors
+pub same_sets_told : (partition : Partition) (errors : List ListedError) (table : Table) (wanted : WaitingSet) → entries_at (record partition { errors = errors; table = table }) wanted ≡ entries_at partition wanted
+same_sets_told partition errors table wanted = ap (λ objects. entries_in (entries_at_end wanted.kind wanted.end) (item_at objects wanted.number)) (same wanted.kind)
+  where
+    same : (one : ObjectKind) → objects_of (record partition { errors = errors; table = table }) one ≡ objects_of partition one
+    same kind.Buffer = refl
+    same _ = refl
+
 pub called_sets : (configuration : Configuration) (cores : List CoreState) (place core : ℕ) (call : CallRecord) (partition : Partition) (wanted : WaitingSet)
     → entries_at (partition_called configuration cores place core call partition) wanted ≡ entries_at (objects_called configuration place call partition) wanted
 called_sets configuration cores place core call partition wanted = ap (λ objects. entries_in (entries_at_end wanted.kind wanted.end) (item_at objects wanted.number)) (same wanted.kind)
@@ -401,7 +439,7 @@ pub used_sets : (Holds : List Entry → Type 0) (configuration : Configuration) 
 used_sets Holds configuration call partition wanted has =
     done_case (λ next. Holds (entries_at next wanted)) configuration call partition (λ done. objects_have Holds configuration call.who call.claim.val call.request partition wanted has) has
 
--- a call of another partition, an arrival, a departure or an error, which leaves all sets
+-- a call of another partition, an arrival, a departure or an error, which changes no set in the way that it changes those of its channel
 abbrev pub IsElsewhere : ℕ → Body → Type 0
 IsElsewhere number (Call call) = nat_eq call.who.part number ≡ false
 IsElsewhere number (Arrive crossing) = Unit {0}
@@ -409,10 +447,32 @@ IsElsewhere number (Depart crossing) = Unit {0}
 IsElsewhere number (Error report) = Unit {0}
 IsElsewhere number _ = ⊥
 
+-- such a record leaves all sets of a partition, unless it is an error that restarts the partition
+abbrev pub LeavesSets : Configuration → ℕ → Body → Type 0
+LeavesSets configuration number (Call call) = nat_eq call.who.part number ≡ false
+LeavesSets configuration number (Arrive crossing) = Unit {0}
+LeavesSets configuration number (Depart crossing) = Unit {0}
+LeavesSets configuration number (Error report) = (nat_eq report.who.part number ≡ false) ⊎ (restart_told configuration report ≡ None)
+LeavesSets configuration number _ = ⊥
+
+-- such an error ends no wait of this partition's processes
+pub error_ends_none : (configuration : Configuration) (core number : ℕ) (report : ErrorReport) (partition : Partition) (who : Who) → CallsReady configuration core number (Error report) partition
+    → LeavesSets configuration number (Error report) → who.part ≡ number → leaves (Error report) who ≡ false
+error_ends_none configuration core number report partition who ready elsewhere here = by elsewhere
+  where
+    foreign : nat_eq report.who.part number ≡ false → leaves (Error report) who ≡ false
+    foreign there = not_second report.restarts (nat_eq who.part report.who.part) (differs_back report.who.part who.part (ap (nat_eq report.who.part) here ∙ there))
+
+    by : (nat_eq report.who.part number ≡ false) ⊎ (restart_told configuration report ≡ None) → leaves (Error report) who ≡ false
+    by (inl there) = foreign there
+    by (inr none) =
+        either_way (nat_eq report.who.part number)
+        (λ own. not_first report.restarts (nat_eq who.part report.who.part) (cannot_hold report.restarts (λ restarts. never_found (sym none ∙ (ready own restarts).1)))) foreign
+
 -- a set of a partition after a record, by the set before it: a call of another partition leaves it, and so do an arrival and a departure
 pub one_set_after : (Before After : List Entry → Type 0) (configuration : Configuration) (cores : List CoreState) (place core number : ℕ) (body : Body) (partition : Partition) (wanted : WaitingSet)
     → After [] → ((IsElsewhere number body → ⊥) → (entries : List Entry) → Before entries → After (set_after place body wanted entries))
-    → (IsElsewhere number body → Before (entries_at partition wanted) → After (entries_at partition wanted))
+    → (LeavesSets configuration number body → Before (entries_at partition wanted) → After (entries_at partition wanted))
     → Before (entries_at partition wanted) → After (entries_at (partition_by configuration cores place core number body partition) wanted)
 one_set_after Before After configuration cores place core number (Disp who) partition wanted nobody change foreign before = change (λ none. none) (entries_at partition wanted) before
 one_set_after Before After configuration cores place core number (Ret ret) partition wanted nobody change foreign before =
@@ -428,11 +488,12 @@ one_set_after Before After configuration cores place core number (Call call) par
     (λ own none. subst After (sym (called_sets configuration cores place core call partition wanted))
     (each_set_has After nobody (set_after place (Call call)) objects wanted
     (change (λ elsewhere. true≢false (sym own ∙ elsewhere)) (entries_at objects wanted) (used_sets Before configuration call partition wanted before))))
-    (λ own mode is. subst After (sym (start_set StartCondition.PartitionRestart mode configuration call.who.part place wanted)) nobody)
+    (λ own restart is. subst After (sym (start_set restart.start restart.mode configuration call.who.part place wanted)) nobody)
     (λ elsewhere. subst After (sym (same_sets partition (woken_table place number (message_of call.request) call.claim.woken partition.table) wanted)) (foreign elsewhere before))
 one_set_after Before After configuration cores place core number (Error report) partition wanted nobody change foreign before =
     error_case (λ next. After (entries_at next wanted)) configuration cores place core number report partition
-    (subst After (sym (same_sets partition (each_item (deadline_taken report.who.proc) partition.table) wanted)) (foreign tt before)) (foreign tt before)
+    (λ own none. subst After (sym (same_sets_told partition (errors_after partition report) (each_item (reported place partition report) partition.table) wanted)) (foreign (inr none) before))
+    (λ own restart is. subst After (sym (start_set restart.start restart.mode configuration report.who.part place wanted)) nobody) (λ elsewhere. foreign (inl elsewhere) before)
 one_set_after Before After configuration cores place core number (Arrive crossing) partition wanted nobody change foreign before =
     subst After (sym (same_sets partition (woken_table place number crossing.message crossing.woken partition.table) wanted)) (foreign tt before)
 one_set_after Before After configuration cores place core number (Depart crossing) partition wanted nobody change foreign before =
@@ -479,7 +540,7 @@ called_waiters place call lock =
 -- the set of a partition's lock after a record, by the set before it
 pub lock_set_after : (Before After : List Entry → Type 0) (configuration : Configuration) (cores : List CoreState) (place core number : ℕ) (body : Body) (partition : Partition)
     → After [] → ((IsElsewhere number body → ⊥) → Before partition.lock.waiters → After (lock_waiters_after place body partition.lock.waiters))
-    → (IsElsewhere number body → Before partition.lock.waiters → After partition.lock.waiters)
+    → (LeavesSets configuration number body → Before partition.lock.waiters → After partition.lock.waiters)
     → Before partition.lock.waiters → After (partition_by configuration cores place core number body partition).lock.waiters
 lock_set_after Before After configuration cores place core number (Disp who) partition nobody change foreign before = change (λ none. none) before
 lock_set_after Before After configuration cores place core number (Ret ret) partition nobody change foreign before =
@@ -488,107 +549,9 @@ lock_set_after Before After configuration cores place core number (Tick woken) p
 lock_set_after Before After configuration cores place core number (Call call) partition nobody change foreign before =
     call_case (λ next. After next.lock.waiters) configuration cores place core number call partition
     (λ own none. subst After (sym (called_waiters place call partition.lock)) (change (λ elsewhere. true≢false (sym own ∙ elsewhere)) before))
-    (λ own mode is. nobody) (λ elsewhere. foreign elsewhere before)
+    (λ own restart is. nobody) (λ elsewhere. foreign elsewhere before)
 lock_set_after Before After configuration cores place core number (Error report) partition nobody change foreign before =
-    error_case (λ next. After next.lock.waiters) configuration cores place core number report partition (foreign tt before) (foreign tt before)
+    error_case (λ next. After next.lock.waiters) configuration cores place core number report partition
+    (λ own none. foreign (inr none) before) (λ own restart is. nobody) (λ elsewhere. foreign (inl elsewhere) before)
 lock_set_after Before After configuration cores place core number (Arrive crossing) partition nobody change foreign before = foreign tt before
 lock_set_after Before After configuration cores place core number (Depart crossing) partition nobody change foreign before = foreign tt before
-
--- The numbers of each table stay distinct.
-
--- a new number
-
--- what is nothing
-nothing : {Item : Type 0} (found : Option Item) → is_none found ≡ true → found ≡ None
-nothing None none = refl
-nothing (Some item) none = cc
-
--- a claimed number that is new: 1 to 2,147,483,647, and of no process or object of the kind
-pub record IsNew {Item : Type 0} (items : List (ℕ × Item)) (claimed : Option ℤ) : Type 0 where
-  pub number : ℕ
-  pub is : claimed ≡ Some (pos number)
-  pub within : (1 ≤ number) × (number ≤ GREATEST_NUMBER)
-  pub none : item_at items number ≡ None
-
--- the test says so
-pub new_is : {Item : Type 0} (items : List (ℕ × Item)) (claimed : Option ℤ) → is_new (is_free items) claimed ≡ true → IsNew items claimed
-new_is items None new = cc
-new_is items (Some (negsuc n)) new = cc
-new_is items (Some (pos n)) new =
-    let first = and_parts (nat_lt 0 n) (nat_le n GREATEST_NUMBER && is_none (item_at items n)) new in
-    let second = and_parts (nat_le n GREATEST_NUMBER) (is_none (item_at items n)) first.1 in
-    record { number = n; is = refl; within = (ltb-true 0 n first.0, leb-true n GREATEST_NUMBER second.0); none = nothing (item_at items n) second.1 }
-
--- one more under a number that was new
-pub distinct_new : {Item : Type 0} (items : List (ℕ × Item)) (claimed : Option ℤ) (item : Item) → are_distinct items ≡ true
-    → is_new (is_free items) claimed ≡ true → are_distinct (items ++ numbered claimed item) ≡ true
-distinct_new items claimed item distinct new =
-    let is = new_is items claimed new in
-    subst (λ one. are_distinct (items ++ numbered one item) ≡ true) (sym is.is) (distinct_push items is.number item distinct (ap (λ found. is_some found) is.none))
-
--- a table with each process changed, and a process under a number that was new
-distinct_numbered : (change : ℕ → Process → Process) (table : Table) (claimed : Option ℤ) (process : Process) → are_distinct table ≡ true
-    → is_new (is_free table) claimed ≡ true → are_distinct (each_item change table ++ numbered claimed process) ≡ true
-distinct_numbered change table claimed process distinct new =
-    let is = new_is table claimed new in
-    subst (λ one. are_distinct (each_item change table ++ numbered one process) ≡ true) (sym is.is)
-    (distinct_push (each_item change table) is.number process (distinct_each change table ∙ distinct) (some_at_each change table is.number ∙ ap (λ found. is_some found) is.none))
-
--- a table with each process changed, and none created
-distinct_alone : (change : ℕ → Process → Process) (table : Table) → are_distinct table ≡ true → are_distinct (each_item change table ++ []) ≡ true
-distinct_alone change table distinct = ap are_distinct (append-nil (each_item change table)) ∙ distinct_each change table ∙ distinct
-
--- a call that is done and goes through no channel claims the value of its service
-abbrev pub ClaimsValue : Partition → List CoreState → ℕ → CallRecord → Request → Type 0
-ClaimsValue partition cores core call asked = is_done call.claim.out ≡ true → channel_of partition asked ≡ None → HasValue (answer_of cores core call.who partition asked).val call.claim.val
-
--- the table of the caller's partition
-distinct_called : (partition : Partition) (cores : List CoreState) (core first : ℕ) (call : CallRecord) (asked : Request) (change : ℕ → Process → Process) → ClaimsValue partition cores core call asked
-    → are_distinct partition.table ≡ true → are_distinct (each_item change partition.table ++ created_by first call asked) ≡ true
-distinct_called partition cores core first call (Request.CreateProcess name priority period time_capacity) change claims distinct =
-    by_test (λ more. are_distinct (each_item change partition.table ++ more) ≡ true) (is_done call.claim.out) (numbered call.claim.val (new_process first name priority period time_capacity)) []
-    (λ done. distinct_numbered change partition.table call.claim.val (new_process first name priority period time_capacity) distinct (claims done refl)) (λ not_done. distinct_alone change partition.table distinct)
-distinct_called partition cores core first call _ change claims distinct = distinct_alone change partition.table distinct
-
--- a record's own calls claim their values
-abbrev pub CallsClaimValues : ℕ → List CoreState → ℕ → Body → Partition → Type 0
-CallsClaimValues number cores core (Call call) partition = nat_eq call.who.part number ≡ true → ClaimsValue partition cores core call call.request
-CallsClaimValues number cores core _ partition = Unit {0}
-
--- the table of a partition after a record
-pub distinct_by : (configuration : Configuration) (cores : List CoreState) (place core number : ℕ) (body : Body) (partition : Partition) → CallsClaimValues number cores core body partition
-    → are_distinct partition.table ≡ true → are_distinct (partition_by configuration cores place core number body partition).table ≡ true
-distinct_by configuration cores place core number (Disp who) partition claims distinct = distinct
-distinct_by configuration cores place core number (Tick woken) partition claims distinct = distinct_each (ticked place number woken) partition.table ∙ distinct
-distinct_by configuration cores place core number (Ret ret) partition claims distinct =
-    return_case (λ next. are_distinct next.table ≡ true) configuration cores place core number ret partition (distinct_each (returned ret.who.proc) partition.table ∙ distinct) distinct
-distinct_by configuration cores place core number (Error report) partition claims distinct =
-    error_case (λ next. are_distinct next.table ≡ true) configuration cores place core number report partition (distinct_each (deadline_taken report.who.proc) partition.table ∙ distinct) distinct
-distinct_by configuration cores place core number (Arrive crossing) partition claims distinct = distinct_each _ partition.table ∙ distinct
-distinct_by configuration cores place core number (Depart crossing) partition claims distinct = distinct_each _ partition.table ∙ distinct
-distinct_by configuration cores place core number (Call call) partition claims distinct =
-    call_case (λ next. are_distinct next.table ≡ true) configuration cores place core number call partition
-    (λ own none. distinct_called partition cores core (first_core configuration call.who.part) call call.request
-    (called place (time_of cores core) (period_of configuration call.who.part) cores partition call) (claims own) distinct)
-    (λ own mode is. start_distinct mode (first_core configuration call.who.part) place)
-    (λ elsewhere. distinct_each _ partition.table ∙ distinct)
-
--- if no condition holds and no channel is used, the outcome is the service's
-answered : (conditions : List Condition) (channel : Option ℕ) (answer : Answer) (suited : ℕ → Bool) (through : ℕ → Answer) (claim : Claim) → conditions ≡ [] → channel ≡ None
-    → HasOutcome conditions channel answer suited through claim → IsAnswered answer claim
-answered [] None answer suited through claim none off has = has
-answered [] (Some channel) answer suited through claim none off has = never_found (sym off)
-answered (condition ∷ conditions) channel answer suited through claim none off has = cc
-
--- a lawful call claims the value of its service
-lawful_value : (configuration : Configuration) (state : State) (core : ℕ) (call : CallRecord) → IsLawfulCall configuration state core call
-    → ClaimsValue (state.partitions call.who.part) state.cores core call call.request
-lawful_value configuration state core call law done off =
-    (answered _ _ _ _ _ call.claim (done_is_lawful _ _ _ _ _ call.claim law.outcome done) off law.outcome).values.val
-
-pub lawful_values : (configuration : Configuration) (state : State) (core : ℕ) (body : Body) → IsLawfulBody configuration state core body
-    → (number : ℕ) → CallsClaimValues number state.cores core body (state.partitions number)
-lawful_values configuration state core (Call call) law number =
-    λ own. subst (λ part. ClaimsValue (state.partitions part) state.cores core call call.request) (eqb-true call.who.part number own)
-    (lawful_value configuration state core call law)
-lawful_values configuration state core _ law number = tt

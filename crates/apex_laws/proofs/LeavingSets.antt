@@ -4,10 +4,10 @@ use Rattle.std.proofs.Common.{◌≡◌, ℕ, List, [], ◌∷◌, true, false, 
 use Rattle.std.proofs.lemmas.Bool.{and_parts, eqb-true}
 use Rattle.apex_laws.proofs.Common.{AllEntries, AllHold, Call, CallRecord, Claim, Condition, DueLeave, End, Entry, ForeignCallsLeaveSets, HasDistinctObjects, OnlyProcessesChange, Partition, Process, ProcessOperation, Request, Ret, Return}
 use Rattle.apex_laws.proofs.Common.{StoppedLeaves, Wait, WaitingSet, Who, answer_of, at_end, channel_of, conditions_of, each_set, ends_wait, entries_at, entries_at_end, is_done, is_in, is_named, is_no_error, is_of_object, is_same}
-use Rattle.apex_laws.proofs.Common.{is_same_end, is_same_set, is_set_used, is_target, item_at, left_by, natural_of, objects_by, objects_of, outcome_demands, partition_by, peer, restart_by, restart_of, set_after, set_at, stop_of}
+use Rattle.apex_laws.proofs.Common.{is_same_end, is_same_set, is_set_used, is_target, item_at, left_by, natural_of, objects_by, objects_of, outcome_demands, partition_by, peer, restarts_by, is_restart, restart_told, OnlyErrorsChange, set_after, set_at, stop_of}
 use Rattle.apex_laws.proofs.Common.{waits_at, with_ends, with_set, without_one}
 use Rattle.apex_laws.proofs.Common.{Lock, Table, enters_lock, freed_by_stop, is_for_lock, is_of_lock, is_waiting, lock_by, lock_called, lock_left, lock_stopped, lock_waiters_after, objects_called, stopped_lock, waits_for_lock, waking, without, time_of, Error, ErrorReport}
-use Rattle.apex_laws.proofs.Booleans.{cannot_hold, either_way, not_first, not_second, same_if}
+use Rattle.apex_laws.proofs.Booleans.{cannot_hold, either_way, never_found, not_first, not_second, same_if}
 use Rattle.apex_laws.proofs.Objects.{Leaves, of_found, sets_stay}
 use Rattle.apex_laws.proofs.PartObjects.{enters_no_other, one_of_kind_changes}
 use Rattle.apex_laws.proofs.Restarts.{restarts_none, return_case, error_case}
@@ -41,8 +41,9 @@ foreign_calls_leave_sets configuration cores place core number partition = (call
     given_back : (ret : Return) → OnlyProcessesChange partition (partition_by configuration cores place core number (Ret ret) partition)
     given_back ret = return_case (OnlyProcessesChange partition) configuration cores place core number ret partition refl refl
 
-    reported : (report : ErrorReport) → OnlyProcessesChange partition (partition_by configuration cores place core number (Error report) partition)
-    reported report = error_case (OnlyProcessesChange partition) configuration cores place core number report partition refl refl
+    reported : (report : ErrorReport) → restart_told configuration report ≡ None → OnlyErrorsChange partition (partition_by configuration cores place core number (Error report) partition)
+    reported report none =
+        error_case (OnlyErrorsChange partition) configuration cores place core number report partition (λ own goes_on. refl) (λ own restart is. never_found (sym none ∙ is)) (λ elsewhere. refl)
 
 -- one set changes
 
@@ -73,7 +74,7 @@ stop_ends : (call : CallRecord) (process : ℤ) (number : ℕ) (who : Who) → p
 stop_ends call process number who at asked no_error =
     let stopped : (nat_eq who.part call.who.part && is_target (Some process) who.proc) ≡ is_same who (peer call.who process) =
     subst (λ one. (nat_eq who.part call.who.part && is_target (Some one) who.proc) ≡ is_same who (peer call.who one)) (sym at) refl in
-    let no_restart : restart_of call ≡ None = ap (λ one. restart_by one call.claim.out) asked in
+    let no_restart : is_restart call ≡ false = ap (λ one. restarts_by one call.claim.out) asked in
     (λ i. restarts_none call who.part no_restart i || (is_named who call.claim.woken || (no_error i && (nat_eq who.part call.who.part && is_target (stop_of (asked i)) who.proc))))
     ∙ ap (λ test. is_named who call.claim.woken || test) stopped
 
@@ -130,7 +131,7 @@ stopped_leaves configuration number place core cores partition call is process a
     let who = peer call.who process in
     let at = created_is partition.table process target found in
     let own = subst (λ one. AllHold (outcome_demands (conditions_of configuration (time_of cores core) call.who partition one) (channel_of partition one) number one
-    (answer_of cores core call.who partition one) call.claim)) asked is.demands.1.1.1.1.1.1 in
+    (answer_of configuration cores core call.who partition one) call.claim)) asked is.demands.1.1.1.1.1.1 in
     let ends : (other : Who) → ends_wait call other ≡ (is_named other call.claim.woken || is_same other who) = λ other. stop_ends call process at.0 other at.1 asked no_error in
     let frees : (other : Who) → is_named other call.claim.woken ≡ true → waits_for_lock (item_at partition.table other.proc) ≡ true = λ other named.
     freed_wakes (λ one. waits_for_lock (item_at partition.table one.proc) ≡ true) (natural_of process) partition.lock
@@ -167,7 +168,7 @@ stopped_leaves configuration number place core cores partition call is process a
       becomes,
       leaves,
       (λ i. record (objects i) { lock = lock_is i })
-          ∙ one_leaves change (without_one who) stopped who target.wait (with_table partition partition.mode partition.has_handler lock partition.table is.sound.objects)
+          ∙ one_leaves change (without_one who) stopped who target.wait (with_table partition partition.mode partition.handler partition.errors lock partition.table is.sound.objects)
           (λ wanted on. subst (λ entries. change wanted entries ≡ without_one who entries) (sym (same wanted)) (becomes wanted))
           (λ wanted off. subst (λ entries. change wanted entries ≡ entries) (sym (same wanted)) (leaves wanted off))
           (λ on. refl) (λ off. lock_stays_without number partition.table who target there off (named partition.lock.waiters) still),

@@ -8,12 +8,15 @@ pub mod WaitersOf
 pub mod Waiters
 pub mod Wakes
 pub mod Restarts
+pub mod Errors
 pub mod Untouched
 pub mod Ends
 pub mod Demanded
 pub mod Codes
 pub mod Objects
 pub mod Keeps
+pub mod Distinct
+pub mod Dormant
 pub mod ForeignCalls
 pub mod LockTies
 pub mod Stays
@@ -23,8 +26,11 @@ pub mod Viewed
 pub mod ObjectRules
 pub mod LockRules
 pub mod DeadlineRules
+pub mod ErrorRules
 pub mod ProcessRules
+pub mod GivenAnswers
 pub mod Records
+pub mod RestartRules
 pub mod LockCalls
 pub mod WholeCalls
 pub mod ChannelContents

@@ -11,6 +11,8 @@ use Rattle.apex_laws.proofs.Common.{is_longer, is_normal, item_at, kind_of, mess
 use Rattle.apex_laws.proofs.Common.{start_conditions, time_out_conditions, waiting_conditions, when}
 use Rattle.apex_laws.proofs.Common.{GREATEST_LOCK_LEVEL, LockOperation, LONGEST_REPORT, conditions_if, natural_of}
 use Rattle.apex_laws.proofs.ConditionTests.{above_period_tells, reaches_tells, unowned_tells}
+use Rattle.apex_laws.proofs.Common.{HealthOperation}
+use Rattle.apex_laws.proofs.ErrorRules.{by_handler_tells, concurrency_tells, handler_tells, none_listed_tells}
 use Rattle.apex_laws.proofs.Booleans.{impossible, member_first, member_later}
 use Rattle.apex_laws.proofs.ConditionTests.{at_most_tells, below_tells, between_tells, caller_tells, cold_start_tells, core_tells, created_by, created_is, destination_tells, equal_tells, fails_tells, full_tells, longer_tells}
 use Rattle.apex_laws.proofs.ConditionTests.{may_not_wait_tells, member_cases, member_nowhere, mode_tells, named_tells, negative_tells, no_length_tells, no_multiple_tells, no_object_by, no_object_is, no_period_tells, no_process_by, no_process_is}
@@ -254,8 +256,17 @@ module _ (configuration : Configuration) (now : ℕ) (who : Who) (partition : Pa
       (if_fact _ (beyond_tells now budget who partition) (λ facts. HasCondition.replenish_beyond facts.0 facts.1 facts.2.0 facts.2.1))
   says (Request.Caller CallerOperation.GetTime) = none
   says (Request.Caller CallerOperation.GetPartitionStatus) = none
-  says (Request.ReportMessage length message) = unless_fact _ (between_tells 0 LONGEST_REPORT length) HasCondition.report_length
-  says Request.CreateErrorHandler = both (normal_says tt) (each_when partition.has_handler _ HasCondition.handler_created)
+  says (Request.Health (HealthOperation.ReportMessage length message)) = unless_fact _ (between_tells 0 LONGEST_REPORT length) HasCondition.report_length
+  says (Request.Health HealthOperation.CreateHandler) =
+      both (normal_says tt) (if_fact _ (handler_tells partition.handler) (λ there. HasCondition.handler_created there.0 there.1))
+  says (Request.Health (HealthOperation.ConfigureHandler concurrency core)) =
+      both (both (both (normal_says tt) (if_fact _ (none_tells partition.handler) HasCondition.configure_none))
+      (unless_fact _ (concurrency_tells concurrency) HasCondition.configure_concurrency))
+      (unless_fact _ (core_tells configuration who.part core) HasCondition.configure_core)
+  says (Request.Health (HealthOperation.RaiseError error length message)) =
+      both (unless_fact _ (number_tells error 1) HasCondition.raise_other) (unless_fact _ (between_tells 0 LONGEST_REPORT length) HasCondition.raise_length)
+  says (Request.Health HealthOperation.GetErrorStatus) =
+      both (unless_fact _ (by_handler_tells partition who.proc) HasCondition.status_not_handler) (if_fact _ (none_listed_tells partition.errors) HasCondition.status_none)
   says (Request.SetPartitionMode next) =
       both (both (unless_fact _ (mode_tells next) HasCondition.set_mode_none)
       (if_fact _ (tells_both (normal_mode_tells next) (normal_tells partition.mode)) (λ facts. HasCondition.set_mode_normal facts.0 facts.1)))
@@ -401,7 +412,10 @@ module _ (configuration : Configuration) (now : ℕ) (who : Who) (partition : Pa
   normal_met : (asked : Request) → IsSetUp asked → partition.mode ≡ Mode.Normal → Has asked Condition.InNormal
   normal_met (Request.CreateProcess name priority period time_capacity) sets normal =
       in_first _ (in_first _ (in_first _ (in_first _ (in_first _ (in_first _ (in_first _ (by_fact (normal_tells partition.mode) normal)))))))
-  normal_met Request.CreateErrorHandler sets normal = in_first _ (by_fact (normal_tells partition.mode) normal)
+  normal_met (Request.Health HealthOperation.CreateHandler) sets normal = in_first _ (by_fact (normal_tells partition.mode) normal)
+  normal_met (Request.Health (HealthOperation.ConfigureHandler concurrency core)) sets normal =
+      in_first _ (in_first _ (in_first _ (by_fact (normal_tells partition.mode) normal)))
+  normal_met (Request.Health operation) sets normal = absurd sets
   normal_met (Request.Process process (ProcessOperation.InitializeCoreAffinity core)) sets normal = in_first _ (in_later _ (by_fact (normal_tells partition.mode) normal))
   normal_met (Request.Create name object) sets normal = in_first _ (in_first _ (in_first _ (by_fact (normal_tells partition.mode) normal)))
   normal_met _ sets normal = absurd sets
@@ -530,7 +544,14 @@ module _ (configuration : Configuration) (now : ℕ) (who : Who) (partition : Pa
   met (HasCondition.receive_no_destination {port = port} found is other) = in_first _ (in_first _ (no_destination_met partition.queuing_ports port found is other))
   met (HasCondition.clear_no_destination {port = port} found is other) = no_destination_met partition.queuing_ports port found is other
   met (HasCondition.report_length {length = length} other) = by_no_fact (between_tells 0 LONGEST_REPORT length) other
-  met (HasCondition.handler_created holds) = in_later _ (in_when partition.has_handler holds)
+  met (HasCondition.handler_created handler holds) = in_later _ (by_fact (handler_tells partition.handler) (handler, holds))
+  met (HasCondition.configure_none none) = in_first _ (in_first _ (in_later _ (by_fact (none_tells partition.handler) none)))
+  met (HasCondition.configure_concurrency {concurrency = concurrency} other) = in_first _ (in_later _ (by_no_fact (concurrency_tells concurrency) other))
+  met (HasCondition.configure_core {core = core} other) = in_later _ (by_no_fact (core_tells configuration who.part core) other)
+  met (HasCondition.raise_other {given = given} other) = in_first _ (by_no_fact (number_tells given 1) other)
+  met (HasCondition.raise_length {length = length} other) = in_later _ (by_no_fact (between_tells 0 LONGEST_REPORT length) other)
+  met (HasCondition.status_not_handler other) = in_first _ (by_no_fact (by_handler_tells partition who.proc) other)
+  met (HasCondition.status_none none) = in_later _ (by_fact (none_listed_tells partition.errors) none)
   met (HasCondition.get_id_unnamed {of = of} {name = name} other) = by_fact (unnamed_tells partition of name) other
   met (HasCondition.lock_before_normal other) = in_first _ (in_first _ (in_first _ (by_no_fact (normal_tells partition.mode) other)))
   met (HasCondition.lock_initialising none) = in_first _ (in_first _ (in_later _ (by_fact (equal_tells who.proc 0) none)))

@@ -1,7 +1,7 @@
 -- Which own calls leave the lock of their partition unchanged.
 use Rattle.std.proofs.Common.{◌≡◌, ℕ, List, [], ◌∷◌, true, false, cond, ℤ, Option, Some, None, is_some, refl, sym, ap, subst, ◌∙◌, true≢false}
 use Rattle.std.proofs.lemmas.Bool.{and_parts}
-use Rattle.apex_laws.proofs.Common.{AllHold, Call, CallerOperation, Claim, Condition, CoreState, IsSoundPart, Lock, OtherCallsLeaveLock, Partition, Process, ProcessOperation, RefusedLeavesLock, Request, Wait, Who, answer_of, channel_of}
+use Rattle.apex_laws.proofs.Common.{Configuration, AllHold, Call, CallerOperation, Claim, Condition, CoreState, IsSoundPart, Lock, OtherCallsLeaveLock, Partition, Process, ProcessOperation, RefusedLeavesLock, Request, Wait, Who, answer_of, channel_of}
 use Rattle.apex_laws.proofs.Common.{conditions_of, created, ends_wait, enters_lock, entries_at, is_done, is_for_lock, is_named, is_no_error, is_of_lock, is_suspension, is_waiting, item_at, lock_by, lock_left, lock_waiters_after}
 use Rattle.apex_laws.proofs.Common.{names_one_of, natural_of, outcome_demands, stop_of, stops_one, waits_for_lock, time_of}
 use Rattle.apex_laws.proofs.Booleans.{by_test, cannot_hold, neither, not_first, not_second}
@@ -43,15 +43,15 @@ suspended_apart partition process target is suspends waits =
     suspended_not target.wait suspends (and_parts target.alive _ here).1
 
 -- a process that such a call names does not wait for the lock
-named_apart : (number place : ℕ) (cores : List CoreState) (core : ℕ) (partition : Partition) (caller : Who) (asked : Request) (claim : Claim) → IsSoundPart number place partition
+named_apart : (configuration : Configuration) (number place : ℕ) (cores : List CoreState) (core : ℕ) (partition : Partition) (caller : Who) (asked : Request) (claim : Claim) → IsSoundPart number place partition
     → is_of_lock asked ≡ false → stops_one asked ≡ false → (conditions : List Condition) (channel : Option ℕ)
-    → AllHold (outcome_demands conditions channel number asked (answer_of cores core caller partition asked) claim)
+    → AllHold (outcome_demands conditions channel number asked (answer_of configuration cores core caller partition asked) claim)
     → (who : Who) → who.part ≡ number → waits_for_lock (item_at partition.table who.proc) ≡ true → is_named who claim.woken ≡ true → ⊥
-named_apart number place cores core partition caller asked claim sound no_lock no_stop (condition ∷ conditions) channel hold who here waits named = nobody who claim.woken hold.1.1.1.1.0 named
-named_apart number place cores core partition caller asked claim sound no_lock no_stop [] (Some channel) hold who here waits named =
+named_apart configuration number place cores core partition caller asked claim sound no_lock no_stop (condition ∷ conditions) channel hold who here waits named = nobody who claim.woken hold.1.1.1.1.0 named
+named_apart configuration number place cores core partition caller asked claim sound no_lock no_stop [] (Some channel) hold who here waits named =
     true≢false (sym named ∙ not_named who claim.woken (subst (λ part. names_one_of part claim.woken ≡ false) (sym here) hold.1.1.0))
-named_apart number place cores core partition caller asked claim sound no_lock no_stop [] None hold who here waits named =
-    answer_wakes (λ one. waits_for_lock (item_at partition.table one.proc) ≡ true → ⊥) cores core caller partition asked
+named_apart configuration number place cores core partition caller asked claim sound no_lock no_stop [] None hold who here waits named =
+    answer_wakes (λ one. waits_for_lock (item_at partition.table one.proc) ≡ true → ⊥) configuration cores core caller partition asked
     (λ other used. all_weaker (WaitsInSet number other partition) (λ entry. waits_for_lock (item_at partition.table entry.who.proc) ≡ true → ⊥)
     (λ entry is also. lock_waits_not other (item_at partition.table entry.who.proc) also is.1) (entries_at partition other) (sound.is_member other))
     (λ process target is suspends waits. suspended_apart partition process target is suspends waits)
@@ -67,7 +67,7 @@ other_calls_leave_lock configuration number place core cores partition call is n
     let set : lock_waiters_after place (Call call) partition.lock.waiters ≡ partition.lock.waiters =
     rw off (none_leaves (WaitsForLock number partition) (ends_wait call)
     (λ entry is_member. goes_on call entry.who (restarts_none call entry.who.part no_restart)
-    (cannot_hold (is_named entry.who call.claim.woken) (named_apart number place cores core partition call.who call.request call.claim is.sound no_lock no_stop
+    (cannot_hold (is_named entry.who call.claim.woken) (named_apart configuration number place cores core partition call.who call.request call.claim is.sound no_lock no_stop
     (conditions_of configuration (time_of cores core) call.who partition call.request) (channel_of partition call.request) is.demands.1.1.1.1.1.1 entry.who is_member.0 is_member.1))
     (stops_nobody call entry.who (not_first (is_some (stop_of call.request)) (is_no_error call.claim.out) (no_target call.request no_stop))))
     partition.lock.waiters is.sound.lock.is_member) in
@@ -76,14 +76,14 @@ other_calls_leave_lock configuration number place core cores partition call is n
 -- calls that are not done
 
 -- they name no process of the caller's partition
-names_none : (number : ℕ) (cores : List CoreState) (core : ℕ) (partition : Partition) (caller : Who) (asked : Request) (claim : Claim) (conditions : List Condition) (channel : Option ℕ)
-    → AllHold (outcome_demands conditions channel number asked (answer_of cores core caller partition asked) claim) → is_no_error claim.out ≡ false → is_done claim.out ≡ false
+names_none : (configuration : Configuration) (number : ℕ) (cores : List CoreState) (core : ℕ) (partition : Partition) (caller : Who) (asked : Request) (claim : Claim) (conditions : List Condition) (channel : Option ℕ)
+    → AllHold (outcome_demands conditions channel number asked (answer_of configuration cores core caller partition asked) claim) → is_no_error claim.out ≡ false → is_done claim.out ≡ false
     → (who : Who) → who.part ≡ number → is_named who claim.woken ≡ false
-names_none number cores core partition caller asked claim (condition ∷ conditions) channel hold not_ok not_done who here = ap (is_named who) hold.1.1.1.1.0
-names_none number cores core partition caller asked claim [] (Some channel) hold not_ok not_done who here =
+names_none configuration number cores core partition caller asked claim (condition ∷ conditions) channel hold not_ok not_done who here = ap (is_named who) hold.1.1.1.1.0
+names_none configuration number cores core partition caller asked claim [] (Some channel) hold not_ok not_done who here =
     not_named who claim.woken (subst (λ part. names_one_of part claim.woken ≡ false) (sym here) hold.1.1.0)
-names_none number cores core partition caller asked claim [] None hold not_ok not_done who here =
-    hold.1.1.1.1.0 who ∙ ap (is_named who) (answer_silent cores core caller partition asked (ap is_no_error (sym hold.1.0) ∙ not_ok) (ap is_done (sym hold.1.0) ∙ not_done))
+names_none configuration number cores core partition caller asked claim [] None hold not_ok not_done who here =
+    hold.1.1.1.1.0 who ∙ ap (is_named who) (answer_silent configuration cores core caller partition asked (ap is_no_error (sym hold.1.0) ∙ not_ok) (ap is_done (sym hold.1.0) ∙ not_done))
 
 pub refused_leaves_lock : RefusedLeavesLock
 refused_leaves_lock configuration number place core cores partition call is not_done =
@@ -92,7 +92,7 @@ refused_leaves_lock configuration number place core cores partition call is not_
     let set : lock_waiters_after place (Call call) partition.lock.waiters ≡ partition.lock.waiters =
     rw off (none_leaves (WaitsForLock number partition) (ends_wait call)
     (λ entry is_member. goes_on call entry.who (restarts_none call entry.who.part (not_done_goes_on call not_done))
-    (names_none number cores core partition call.who call.request call.claim (conditions_of configuration (time_of cores core) call.who partition call.request) (channel_of partition call.request)
+    (names_none configuration number cores core partition call.who call.request call.claim (conditions_of configuration (time_of cores core) call.who partition call.request) (channel_of partition call.request)
     is.demands.1.1.1.1.1.1 not_ok not_done entry.who is_member.0)
     (not_first (is_no_error call.claim.out) _ not_ok)) partition.lock.waiters is.sound.lock.is_member) in
     ap (λ test. lock_left place (Call call) (cond test (lock_by call.who.proc call.request partition.lock) partition.lock)) not_done

@@ -6,7 +6,7 @@ use Rattle.apex_laws.proofs.Common.{channel_set, ends_wait, enters_lock, entry_o
 use Rattle.apex_laws.proofs.Booleans.{by_test, cannot_hold, holds_if}
 use Rattle.apex_laws.proofs.Choices.{ready_waits_not_for_lock}
 use Rattle.apex_laws.proofs.ForeignCalls.{goes_on_here}
-use Rattle.apex_laws.proofs.Keeps.{calls_ready, entered_waits_for_lock, EntersLockWith, IsElsewhere, keeps_waiting_for_lock, leaves, lock_set_after, ready_call, error_leaves_nobody}
+use Rattle.apex_laws.proofs.Keeps.{calls_ready, entered_waits_for_lock, EntersLockWith, IsElsewhere, LeavesSets, keeps_waiting_for_lock, leaves, lock_set_after, ready_call, error_ends_none}
 use Rattle.apex_laws.proofs.Waiters.{all_push, all_weaker, all_without, member_not}
 use Rattle.apex_laws.proofs.Wakes.{arrival_wakes, departure_wakes, found, lock_awaited, lock_waits_not}
 
@@ -53,7 +53,7 @@ enters_tied configuration state place core _ tied law number own = tt
 
 -- an entry at a record of another partition
 foreign_stays : (configuration : Configuration) (state : State) (place core : ℕ) (body : Body) → AreTied configuration state
-    → IsLawfulBody configuration state core body → (number : ℕ) → IsElsewhere number body → (entry : Entry) → IsTiedToLock number state.partitions entry → leaves body entry.who ≡ false
+    → IsLawfulBody configuration state core body → (number : ℕ) → LeavesSets configuration number body → (entry : Entry) → IsTiedToLock number state.partitions entry → leaves body entry.who ≡ false
 foreign_stays configuration state place core (Call call) tied law number elsewhere entry is =
     goes_on_here configuration state core call tied law number elsewhere entry.who is.0
     (λ other of_channel also. lock_waits_not other (found state.partitions entry.who) (lock_awaited state.partitions number entry is) also)
@@ -63,7 +63,8 @@ foreign_stays configuration state place core (Arrive crossing) tied law number e
 foreign_stays configuration state place core (Depart crossing) tied law number elsewhere entry is =
     cannot_hold (is_named entry.who crossing.woken) (λ named.
     lock_waits_not (channel_set crossing.chan Senders) (found state.partitions entry.who) (lock_awaited state.partitions number entry is) (departure_wakes configuration state core crossing tied law entry.who named).1)
-foreign_stays configuration state place core (Error report) tied law number elsewhere entry is = error_leaves_nobody report entry.who law.goes_on
+foreign_stays configuration state place core (Error report) tied law number elsewhere entry is =
+    error_ends_none configuration core number report (state.partitions number) entry.who (calls_ready configuration state core (Error report) tied law number) elsewhere is.0
 foreign_stays configuration state place core _ tied law number elsewhere entry is = absurd elsewhere
 
 -- the set of a partition's lock

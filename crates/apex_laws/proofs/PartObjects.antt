@@ -5,7 +5,7 @@ use Rattle.apex_types.specs.declared.operation.ObjectOperation.TheVariants as on
 use Rattle.apex_laws.proofs.Common.{AllHold, BlackboardOperation, Call, CallRecord, Claim, Condition, Configuration, End, Entry, EventOperation, HasDistinctObjects, IsSoundPart, ObjectKind, ObjectOf, ObjectOperation, OneObjectChanges}
 use Rattle.apex_laws.proofs.Common.{OtherSetsStay, Partition, Port, Request, SamplingOperation, WaitingSet, WaitsIn, Who, answer_of, change_at, channel_of, conditions_of, each_item, each_set, enters, entries_at, entries_at_end, is_done}
 use Rattle.apex_laws.proofs.Common.{is_named, is_no_error, is_of_object, is_same_kind, is_set_used, is_target, is_valid, item_at, kind_of, kind_used, names_one_of, natural_of, new_object, numbered_if, object_effect, objects_by}
-use Rattle.apex_laws.proofs.Common.{objects_changed, objects_of, outcome_demands, restart_of, restarts, set_after, set_at, stop_of, stops, stops_some, waits_at, with_objects, with_sets}
+use Rattle.apex_laws.proofs.Common.{objects_changed, objects_of, outcome_demands, is_restart, restarts, set_after, set_at, stop_of, stops, stops_some, waits_at, with_objects, with_sets}
 use Rattle.apex_laws.proofs.Common.{CoreState, time_of}
 use Rattle.apex_laws.proofs.Booleans.{cannot_hold, differs_back, is_itself, neither_first, neither_later, not_first, not_second, same_if}
 use Rattle.apex_laws.proofs.Objects.{all_stay_with, each_itself, Leaves, new_has_none, object_stays, objects_stay, one_changes, OnSets, put_if, sets_stay}
@@ -44,17 +44,17 @@ stops_nobody call who none = not_stopping (stop_of call.request) (is_no_error ca
 
 -- a call that stops no process restarts no partition
 pub restarts_nobody : (call : CallRecord) (number : ℕ) → stops_some call ≡ false → restarts call number ≡ false
-restarts_nobody call number none = not_first (is_some (restart_of call)) (nat_eq number call.who.part) (neither_first _ _ none)
+restarts_nobody call number none = not_first (is_restart call) (nat_eq number call.who.part) (neither_first _ _ none)
 
 -- a process that an own call names waits in no set that the request does not use
-named_uses : (number place : ℕ) (cores : List CoreState) (core : ℕ) (partition : Partition) (caller : Who) (asked : Request) (claim : Claim) → IsSoundPart number place partition
-    → (conditions : List Condition) (channel : Option ℕ) → AllHold (outcome_demands conditions channel number asked (answer_of cores core caller partition asked) claim)
+named_uses : (configuration : Configuration) (number place : ℕ) (cores : List CoreState) (core : ℕ) (partition : Partition) (caller : Who) (asked : Request) (claim : Claim) → IsSoundPart number place partition
+    → (conditions : List Condition) (channel : Option ℕ) → AllHold (outcome_demands conditions channel number asked (answer_of configuration cores core caller partition asked) claim)
     → (wanted : WaitingSet) → is_set_used asked wanted ≡ false → (who : Who) → who.part ≡ number → waits_at wanted (item_at partition.table who.proc) ≡ true → is_named who claim.woken ≡ true → ⊥
-named_uses number place cores core partition caller asked claim sound (condition ∷ conditions) channel hold wanted unused who here waits named = nobody who claim.woken hold.1.1.1.1.0 named
-named_uses number place cores core partition caller asked claim sound [] (Some channel) hold wanted unused who here waits named =
+named_uses configuration number place cores core partition caller asked claim sound (condition ∷ conditions) channel hold wanted unused who here waits named = nobody who claim.woken hold.1.1.1.1.0 named
+named_uses configuration number place cores core partition caller asked claim sound [] (Some channel) hold wanted unused who here waits named =
     true≢false (sym named ∙ not_named who claim.woken (subst (λ part. names_one_of part claim.woken ≡ false) (sym here) hold.1.1.0))
-named_uses number place cores core partition caller asked claim sound [] None hold wanted unused who here waits named =
-    answer_wakes (λ one. waits_at wanted (item_at partition.table one.proc) ≡ true → ⊥) cores core caller partition asked
+named_uses configuration number place cores core partition caller asked claim sound [] None hold wanted unused who here waits named =
+    answer_wakes (λ one. waits_at wanted (item_at partition.table one.proc) ≡ true → ⊥) configuration cores core caller partition asked
     (λ other used. all_weaker (WaitsInSet number other partition) (λ entry. waits_at wanted (item_at partition.table entry.who.proc) ≡ true → ⊥)
     (λ entry is also. true≢false (sym used ∙ ap (is_set_used asked) (one_set other wanted (item_at partition.table entry.who.proc) is.1 also) ∙ unused))
     (entries_at partition other) (sound.is_member other))
@@ -67,7 +67,7 @@ pub other_sets_stay : OtherSetsStay
 other_sets_stay configuration number place core cores partition call is not_stop wanted unused =
     set_stays (WaitsInSet number wanted partition) place call wanted (entries_at partition wanted) (is.sound.is_member wanted) (enters_no_other call wanted unused)
     (λ entry is_member. goes_on call entry.who (restarts_nobody call entry.who.part not_stop)
-    (cannot_hold (is_named entry.who call.claim.woken) (λ named. named_uses number place cores core partition call.who call.request call.claim is.sound
+    (cannot_hold (is_named entry.who call.claim.woken) (λ named. named_uses configuration number place cores core partition call.who call.request call.claim is.sound
     (conditions_of configuration (time_of cores core) call.who partition call.request) (channel_of partition call.request) is.demands.1.1.1.1.1.1 wanted unused entry.who is_member.0 is_member.1 named))
     (stops_nobody call entry.who (neither_later _ _ not_stop)))
 

@@ -12,6 +12,8 @@ use Rattle.apex_laws.proofs.Common.{item_at, mutex_released, natural_of, next_re
 use Rattle.apex_laws.proofs.Common.{wait_ended, wait_in, wait_of, waiting, waits_for_normal, waking, woken_by}
 use Rattle.apex_laws.proofs.Common.{CoreState, IsModeNumber, IsPartitionStatus, IsProcessStatus, IsStartNumber, IsStateNumber, Partition, StartCondition, answer_by, delay_kept, delay_wait, handed_on, is_occupant, is_ready, mode_number, occupant_of, partition_status, process_status, reporting, start_number, state_number}
 use Rattle.apex_laws.proofs.Common.{Entry, IsMutexState, IsStop, Lock, done_with, first_for_lock, freed_by_stop, mutex_owned, mutex_state, never_waking, next_owner, value_when_woken, IsDeadlineNumber, IsEntryDeadline, deadline_by, deadline_number, entry_deadline}
+use Rattle.apex_laws.proofs.Common.{HasCalled, HealthOperation, handles_more}
+use Rattle.apex_laws.proofs.ErrorRules.{after_error_by, after_error_says, health_is_the_sentence, more_by, more_is, stop_set_by, stop_set_says}
 use Rattle.apex_laws.proofs.WaitersOf.{same_is, same_itself}
 use Rattle.apex_laws.proofs.Choices.{is_ready_by, ready_is}
 use Rattle.apex_laws.proofs.Booleans.{by_test, cannot_hold, either_way, impossible, never_found, same_if}
@@ -179,6 +181,12 @@ setting_is_the_sentence place period cores partition caller (Request.Process pro
     (λ is. is ∙ same_if (is_number process number) old, λ is. is ∙ sym (same_if (is_number process number) old))
 setting_is_the_sentence place period cores partition caller (Request.Process process ProcessOperation.GetMutexState) number old new above =
     (λ is. is ∙ same_if (is_number process number) old, λ is. is ∙ sym (same_if (is_number process number) old))
+setting_is_the_sentence place period cores partition caller (Request.Health (HealthOperation.RaiseError error length message)) number old new above =
+    (after_error_says place partition caller number old new, after_error_by place partition caller number old new)
+setting_is_the_sentence place period cores partition caller (Request.Health operation) number old new above = (λ is. is, λ is. is)
+setting_is_the_sentence place period cores partition caller (Request.Caller CallerOperation.StopSelf) number old new above =
+    (stop_set_says place partition caller number old new, stop_set_by place partition caller number old new)
+setting_is_the_sentence place period cores partition caller (Request.Caller operation) number old new above = (λ is. is, λ is. is)
 setting_is_the_sentence place period cores partition caller _ number old new above = (λ is. is, λ is. is)
 
 -- who falls due
@@ -318,10 +326,10 @@ begun_is now asked chan process begun (IsBegun.object set at is) = is ∙ sym (w
 
 caller_says : (place now : ℕ) (call : CallRecord) (old new : Process) (given : Out) → call.claim.out ≡ given
     → (IsTrue (is_waiting given) → IsBegun now call.request call.claim.chan old (wait_of call.request call.claim.chan now old))
-    → new ≡ record (caller_with place now call given old) { called_at = now } → IsCaller place now call old new
+    → new ≡ record (caller_with place now call given old) { called_at = now } → HasCalled place now call old new
 caller_says place now call old new Out.Waits at begins is =
-    IsCaller.waits (wait_of call.request call.claim.chan now old) (deadline_by call.request now old) at (begins refl) (after_says call.request now old) is
-caller_says place now call old new Out.Never at begins is = IsCaller.ends (stopped old) at refl is
+    HasCalled.waits (wait_of call.request call.claim.chan now old) (deadline_by call.request now old) at (begins refl) (after_says call.request now old) is
+caller_says place now call old new Out.Never at begins is = HasCalled.ends (stopped old) at refl is
 caller_says place now call old new (Out.Answer Code.NoError) at begins is =
     elim (renews call.request) as (λ renewed. renews call.request ≡ renewed → new ≡ record old {
       ready_position = cond (renewed && true) place old.ready_position;
@@ -329,34 +337,34 @@ caller_says place now call old new (Out.Answer Code.NoError) at begins is =
       deadline = deadline_by call.request now old;
       due = Some (outcome_of call Code.NoError);
       called_at = now;
-    } → IsCaller place now call old new) [
-      | true ↦ λ renewed is. IsCaller.is_renewed (deadline_by call.request now old) at (renews_is call.request renewed) (after_says call.request now old)
+    } → HasCalled place now call old new) [
+      | true ↦ λ renewed is. HasCalled.is_renewed (deadline_by call.request now old) at (renews_is call.request renewed) (after_says call.request now old)
           (is ∙ taken place now call old call.request (renews_is call.request renewed))
-      | false ↦ λ not_renewed is. IsCaller.is_answered (deadline_by call.request now old) at (λ renewed. true≢false (sym (renews_by call.request renewed) ∙ not_renewed)) (after_says call.request now old)
+      | false ↦ λ not_renewed is. HasCalled.is_answered (deadline_by call.request now old) at (λ renewed. true≢false (sym (renews_by call.request renewed) ∙ not_renewed)) (after_says call.request now old)
           (is ∙ ap (λ release. record old { last_release = release; deadline = deadline_by call.request now old; due = Some (outcome_of call Code.NoError); called_at = now }) (takes_none call.request old (λ renewed. true≢false (sym (renews_by call.request renewed) ∙ not_renewed))))
     ] refl is
-caller_says place now call old new (Out.Answer given) at begins is = IsCaller.is_refused given at (λ same. cc) (is ∙ kept_so place now call old given)
+caller_says place now call old new (Out.Answer given) at begins is = HasCalled.is_refused given at (λ same. cc) (is ∙ kept_so place now call old given)
 
-caller_by : (place now : ℕ) (call : CallRecord) (old new : Process) → IsCaller place now call old new → new ≡ caller_after place now call old
-caller_by place now call old new (IsCaller.waits begun deadline at begins set is) =
+caller_by : (place now : ℕ) (call : CallRecord) (old new : Process) → HasCalled place now call old new → new ≡ record (caller_with place now call call.claim.out old) { called_at = now }
+caller_by place now call old new (HasCalled.waits begun deadline at begins set is) =
     let same_wait = begun_is now call.request call.claim.chan old begun begins in
     let same_deadline = after_is call.request now old deadline set in
     is ∙ (λ i. record old { wait = same_wait i; deadline = same_deadline i; called_at = now })
     ∙ sym (ap (λ given. record (caller_with place now call given old) { called_at = now }) at)
-caller_by place now call old new (IsCaller.ends one at is_stopped is) =
+caller_by place now call old new (HasCalled.ends one at is_stopped is) =
     is ∙ ap (λ (process : Process). let one : Process = record process { called_at = now } in one) is_stopped ∙ sym (ap (λ given. record (caller_with place now call given old) { called_at = now }) at)
-caller_by place now call old new (IsCaller.is_renewed deadline at renewed set is) =
+caller_by place now call old new (HasCalled.is_renewed deadline at renewed set is) =
     is ∙ ap (λ one. record (taking call.request old) { ready_position = place; deadline = one; due = Some (outcome_of call Code.NoError); called_at = now }) (after_is call.request now old deadline set)
     ∙ sym (taken place now call old call.request renewed)
     ∙ ap (λ test. record old { ready_position = cond (test && true) place old.ready_position; last_release = release_taken call.request old; deadline = deadline_by call.request now old; due = Some (outcome_of call Code.NoError); called_at = now }) (sym (renews_by call.request renewed))
     ∙ sym (ap (λ given. record (caller_with place now call given old) { called_at = now }) at)
-caller_by place now call old new (IsCaller.is_answered deadline at not_renewing set is) =
+caller_by place now call old new (HasCalled.is_answered deadline at not_renewing set is) =
     is ∙ ap (λ one. record old { deadline = one; due = Some (outcome_of call Code.NoError); called_at = now }) (after_is call.request now old deadline set)
     ∙ ap (λ release. record old { last_release = release; deadline = deadline_by call.request now old; due = Some (outcome_of call Code.NoError); called_at = now }) (sym (takes_none call.request old not_renewing))
     ∙ ap (λ test. record old { ready_position = cond (test && true) place old.ready_position; last_release = release_taken call.request old; deadline = deadline_by call.request now old; due = Some (outcome_of call Code.NoError); called_at = now })
     (sym (cannot_hold (renews call.request) (λ renewed. not_renewing (renews_is call.request renewed))))
     ∙ sym (ap (λ given. record (caller_with place now call given old) { called_at = now }) at)
-caller_by place now call old new (IsCaller.is_refused given at differs is) =
+caller_by place now call old new (HasCalled.is_refused given at differs is) =
     is ∙ refused_so place now call old given differs ∙ sym (ap (λ one. record (caller_with place now call one old) { called_at = now }) at)
   where
     refused_so : (place now : ℕ) (call : CallRecord) (old : Process) (given : Code) → ¬ (given ≡ Code.NoError)
@@ -364,204 +372,26 @@ caller_by place now call old new (IsCaller.is_refused given at differs is) =
     refused_so place now call old Code.NoError differs = absurd (differs refl)
     refused_so place now call old given differs = sym (kept_so place now call old given)
 
+-- the caller after its call, by whether it is a handler that has more errors to take
+abbrev after_if : Bool → ℕ → ℕ → CallRecord → Process → Process
+after_if more place now call old = record (cond more old (caller_with place now call call.claim.out old)) { called_at = now }
+
+back : (place now : ℕ) (partition : Partition) (call : CallRecord) (old new : Process) → IsCaller place now partition call old new
+    → new ≡ caller_after place now (handles_more partition call.who.proc call.request) call old
+back place now partition call old new (IsCaller.has_more more is) =
+    is ∙ sym (ap (λ test. after_if test place now call old) (more_by partition call.who.proc call.request more))
+back place now partition call old new (IsCaller.has_called none called) =
+    caller_by place now call old new called ∙ sym (ap (λ test. after_if test place now call old)
+    (cannot_hold (handles_more partition call.who.proc call.request) (λ more. none (more_is partition call.who.proc call.request more))))
+
 pub caller_is_the_sentence : CallerIsTheSentence
-caller_is_the_sentence place now call old new begins = (caller_says place now call old new call.claim.out refl begins, caller_by place now call old new)
-
--- What the services of process management and time give is exactly what the sentences say.
-
--- over at once, or waiting
-over_or_waits : (Over : Type 0) (test : Bool) (answer : Answer) → (test ≡ true → Over) → (Over → test ≡ true)
-    → (answer ≡ cond test done waiting → IsOverOrWaits Over answer) × (IsOverOrWaits Over answer → answer ≡ cond test done waiting)
-over_or_waits Over test answer is by = (
-  λ gives. by_test (λ one. answer ≡ one → IsOverOrWaits Over answer) test done waiting
-      (λ over gives. IsOverOrWaits.over (is over) gives) (λ later gives. IsOverOrWaits.later (λ over. true≢false (sym (by over) ∙ later)) gives) gives,
-  back,
+caller_is_the_sentence place now partition call old new begins = (
+  λ is. either_way (handles_more partition call.who.proc call.request)
+      (λ more. IsCaller.has_more (more_is partition call.who.proc call.request more) (is ∙ ap (λ test. after_if test place now call old) more))
+      (λ none. IsCaller.has_called (λ more. true≢false (sym (more_by partition call.who.proc call.request more) ∙ none))
+      (caller_says place now call old new call.claim.out refl begins (is ∙ ap (λ test. after_if test place now call old) none))),
+  back place now partition call old new,
 )
-  where
-    back : IsOverOrWaits Over answer → answer ≡ cond test done waiting
-    back (IsOverOrWaits.over over gives) = rw (by over) gives
-    back (IsOverOrWaits.later later gives) = rw (cannot_hold test (λ over. later (is over))) gives
-
--- the next release
-release_is : (now : ℕ) (found : Option Process) → is_released now found ≡ true → IsAtRelease now found
-release_is now None is = impossible is
-release_is now (Some process) is = leb-true (next_release process) now is
-
-release_by : (now : ℕ) (found : Option Process) → IsAtRelease now found → is_released now found ≡ true
-release_by now None is = absurd is
-release_by now (Some process) is = grind arith
-
--- RESUME
-suspension_is : (one : Wait) → is_suspension one ≡ true → (due : Option ℕ) × (one ≡ Wait.Suspended due)
-suspension_is (Wait.Suspended due) is = (due, refl)
-suspension_is _ is = impossible is
-
-resuming_says : (target : Who) (found : Option Process) (answer : Answer) → answer ≡ resuming target found → IsResuming target found answer
-resuming_says target None answer gives = IsResuming.nobody refl gives
-resuming_says target (Some process) answer gives =
-    by_test (λ one. answer ≡ one → IsResuming target (Some process) answer) (is_suspension process.wait) (waking (target ∷ [])) done
-    (λ suspends gives. (let is = suspension_is process.wait suspends in IsResuming.suspended_itself process is.0 refl is.1 gives))
-    (λ not_suspended gives. IsResuming.was_marked process refl (λ due is. true≢false (sym (ap is_suspension is) ∙ not_suspended)) gives) gives
-
-resuming_by : (target : Who) (found : Option Process) (answer : Answer) → IsResuming target found answer → answer ≡ resuming target found
-resuming_by target found answer (IsResuming.suspended_itself process due at is gives) =
-    gives ∙ sym (ap (resuming target) at ∙ ap (λ test. cond test (waking (target ∷ [])) done) (ap is_suspension is))
-resuming_by target found answer (IsResuming.was_marked process at not_suspended gives) =
-    gives ∙ sym (ap (resuming target) at ∙ ap (λ test. cond test (waking (target ∷ [])) done)
-    (cannot_hold (is_suspension process.wait) (λ is. let one = suspension_is process.wait is in not_suspended one.0 one.1)))
-resuming_by target found answer (IsResuming.nobody none gives) = gives ∙ sym (ap (resuming target) none)
-
--- statuses
-
-mode_says : (one : Mode) → IsModeNumber one (mode_number one)
-mode_says Mode.Idle = refl
-mode_says Mode.ColdStart = refl
-mode_says Mode.WarmStart = refl
-mode_says Mode.Normal = refl
-
-mode_is : (one : Mode) (number : ℕ) → IsModeNumber one number → number ≡ mode_number one
-mode_is Mode.Idle number is = is
-mode_is Mode.ColdStart number is = is
-mode_is Mode.WarmStart number is = is
-mode_is Mode.Normal number is = is
-
-start_says : (one : StartCondition) → IsStartNumber one (start_number one)
-start_says StartCondition.NormalStart = refl
-start_says StartCondition.PartitionRestart = refl
-
-start_is : (one : StartCondition) (number : ℕ) → IsStartNumber one number → number ≡ start_number one
-start_is StartCondition.NormalStart number is = is
-start_is StartCondition.PartitionRestart number is = is
-
-partition_says : (partition : Partition) (answer : Answer) → answer ≡ partition_status partition → IsPartitionStatus partition answer
-partition_says partition answer gives = record {
-  mode = mode_number partition.mode;
-  is_mode = mode_says partition.mode;
-  start = start_number partition.start;
-  is_start = start_says partition.start;
-  reports = gives;
-}
-
-partition_by : (partition : Partition) (answer : Answer) → IsPartitionStatus partition answer → answer ≡ partition_status partition
-partition_by partition answer is =
-    let same_mode = mode_is partition.mode is.mode is.is_mode in
-    let same_start = start_is partition.start is.start is.is_start in
-    is.reports ∙ (λ i. reporting (pos (same_mode i)) (Some (pos partition.lock.level)) (Some (pos (same_start i))))
-
--- the occupant of a core
-occupant_is : (who : Who) (found : Option Who) → is_occupant who found ≡ true → found ≡ Some who
-occupant_is who None is = impossible is
-occupant_is who (Some one) is = ap Some (sym (same_is who one is))
-
-occupant_by : (who : Who) (found : Option Who) → found ≡ Some who → is_occupant who found ≡ true
-occupant_by who found is = ap (is_occupant who) is ∙ same_itself who
-
--- the number of a state, by its three tests
-abbrev state_by : Bool → Bool → Bool → ℕ
-state_by alive ready occupies = cond (not alive) 0 (cond (not ready) 3 (cond occupies 2 1))
-
-state_says : (cores : List CoreState) (who : Who) (process : Process) → IsStateNumber cores who process (state_number cores who process)
-state_says cores who process = by process.alive refl (is_ready process.affinity process) refl (is_occupant who (occupant_of cores process.affinity)) refl
-  where
-    by : (alive : Bool) → process.alive ≡ alive → (ready : Bool) → is_ready process.affinity process ≡ ready → (occupies : Bool)
-        → is_occupant who (occupant_of cores process.affinity) ≡ occupies → IsStateNumber cores who process (state_by alive ready occupies)
-    by false dead ready readies occupies occupied = IsStateNumber.dormant dead refl
-    by true lives false off occupies occupied = IsStateNumber.waits lives (λ is. true≢false (sym (is_ready_by process.affinity process is) ∙ off)) refl
-    by true lives true readies true occupied = IsStateNumber.running (ready_is process.affinity process readies) (occupant_is who (occupant_of cores process.affinity) occupied) refl
-    by true lives true readies false other =
-        IsStateNumber.ready (ready_is process.affinity process readies) (λ is. true≢false (sym (occupant_by who (occupant_of cores process.affinity) is) ∙ other)) refl
-
-state_is : (cores : List CoreState) (who : Who) (process : Process) (number : ℕ) → IsStateNumber cores who process number → number ≡ state_number cores who process
-state_is cores who process number (IsStateNumber.dormant dead is) =
-    is ∙ sym (ap (λ alive. state_by alive (is_ready process.affinity process) (is_occupant who (occupant_of cores process.affinity))) dead)
-state_is cores who process number (IsStateNumber.waits lives not_ready is) =
-    is ∙ sym (λ i. state_by (lives i) (cannot_hold (is_ready process.affinity process) (λ readies. not_ready (ready_is process.affinity process readies)) i)
-    (is_occupant who (occupant_of cores process.affinity)))
-state_is cores who process number (IsStateNumber.running readies occupied is) =
-    is ∙ sym (λ i. state_by (readies.alive i) (is_ready_by process.affinity process readies i) (occupant_by who (occupant_of cores process.affinity) occupied i))
-state_is cores who process number (IsStateNumber.ready readies other is) =
-    is ∙ sym (λ i. state_by (readies.alive i) (is_ready_by process.affinity process readies i)
-    (cannot_hold (is_occupant who (occupant_of cores process.affinity)) (λ occupies. other (occupant_is who (occupant_of cores process.affinity) occupies)) i))
-
--- a deadline as it is reported
-number_says : (deadline : Option ℕ) → IsDeadlineNumber deadline (deadline_number deadline)
-number_says None = refl
-number_says (Some time) = refl
-
-number_is : (deadline : Option ℕ) (number : ℤ) → IsDeadlineNumber deadline number → number ≡ deadline_number deadline
-number_is None number is = is
-number_is (Some time) number is = is
-
-process_says : (cores : List CoreState) (target : Who) (found : Option Process) (answer : Answer) → answer ≡ answer_by found (process_status cores target) → IsProcessStatus cores target found answer
-process_says cores target None answer gives = IsProcessStatus.nobody refl gives
-process_says cores target (Some process) answer gives = IsProcessStatus.of_process process (state_number cores target process) (deadline_number process.deadline) refl (state_says cores target process) (number_says process.deadline) gives
-
-process_by : (cores : List CoreState) (target : Who) (found : Option Process) (answer : Answer) → IsProcessStatus cores target found answer → answer ≡ answer_by found (process_status cores target)
-process_by cores target found answer (IsProcessStatus.of_process process number deadline at state tells gives) =
-    let same_state = state_is cores target process number state in
-    let same_deadline = number_is process.deadline deadline tells in
-    gives ∙ (λ i. reporting (pos (same_state i)) (Some (pos process.current_priority)) (Some (same_deadline i)))
-    ∙ sym (ap (λ one. answer_by one (process_status cores target)) at)
-process_by cores target found answer (IsProcessStatus.nobody none gives) = gives ∙ sym (ap (λ one. answer_by one (process_status cores target)) none)
-
--- the mutex state of a process
-mutex_state_says : (partition : Partition) (process : ℕ) (answer : Answer) → answer ≡ done_with (Number (mutex_state partition process)) → IsMutexState partition process answer
-mutex_state_says partition process answer gives =
-    by_test (λ (number : ℤ). answer ≡ done_with (Number number) → IsMutexState partition process answer) (is_owner partition.lock.owner process)
-    (negsuc 2) (mutex_owned partition.mutexes process) (λ owns gives. IsMutexState.owns_lock ((owner_tells partition.lock.owner process).0 owns) gives)
-    (λ owns_not gives. IsMutexState.other (λ owns. true≢false (sym ((owner_tells partition.lock.owner process).1 owns) ∙ owns_not)) gives) gives
-
-mutex_state_by : (partition : Partition) (process : ℕ) (answer : Answer) → IsMutexState partition process answer → answer ≡ done_with (Number (mutex_state partition process))
-mutex_state_by partition process answer (IsMutexState.owns_lock owns gives) = rw ((owner_tells partition.lock.owner process).1 owns) gives
-mutex_state_by partition process answer (IsMutexState.other owns_not gives) =
-    rw (cannot_hold (is_owner partition.lock.owner process) (λ owns. owns_not ((owner_tells partition.lock.owner process).0 owns))) gives
-
--- STOP, STOP_SELF
-
--- what a stop answers, by whether its target owns the lock, and by the first that waits for it
-abbrev freed_if : Lock → Bool → List Who
-freed_if lock owns = cond owns (next_owner lock) []
-
-abbrev to_wake : Option Entry → List Who
-to_wake first = option_to_list (option_map (λ entry. entry.who) first)
-
-stop_says : (process : ℕ) (lock : Lock) (Answers : List Who → Answer) (answer : Answer) → answer ≡ Answers (freed_by_stop process lock) → IsStop process lock Answers answer
-stop_says process lock Answers answer gives =
-    either_way (is_owner lock.owner process)
-    (λ owns. by (first_for_lock lock) refl ((owner_tells lock.owner process).0 owns) (gives ∙ ap (λ one. Answers (freed_if lock one)) owns))
-    (λ owns_not. IsStop.owns_nothing (λ owns. true≢false (sym ((owner_tells lock.owner process).1 owns) ∙ owns_not)) (gives ∙ ap (λ one. Answers (freed_if lock one)) owns_not))
-  where
-    by : (first : Option Entry) → first_for_lock lock ≡ first → lock.owner ≡ Some process → answer ≡ Answers (next_owner lock) → IsStop process lock Answers answer
-    by None none owns gives = IsStop.nobody_waits owns none (gives ∙ ap (λ one. Answers (to_wake one)) none)
-    by (Some waiter) first owns gives = IsStop.passes_on waiter owns first (gives ∙ ap (λ one. Answers (to_wake one)) first)
-
-stop_by : (process : ℕ) (lock : Lock) (Answers : List Who → Answer) (answer : Answer) → IsStop process lock Answers answer → answer ≡ Answers (freed_by_stop process lock)
-stop_by process lock Answers answer (IsStop.passes_on waiter owns first gives) =
-    gives ∙ sym (ap (λ one. Answers (freed_if lock one)) ((owner_tells lock.owner process).1 owns) ∙ ap (λ one. Answers (to_wake one)) first)
-stop_by process lock Answers answer (IsStop.nobody_waits owns none gives) =
-    gives ∙ sym (ap (λ one. Answers (freed_if lock one)) ((owner_tells lock.owner process).1 owns) ∙ ap (λ one. Answers (to_wake one)) none)
-stop_by process lock Answers answer (IsStop.owns_nothing owns_not gives) =
-    gives ∙ sym (ap (λ one. Answers (freed_if lock one)) (cannot_hold (is_owner lock.owner process) (λ owns. owns_not ((owner_tells lock.owner process).0 owns))))
-
--- every service
-pub answer_is_the_sentence : AnswerIsTheSentence
-answer_is_the_sentence cores core who partition (Request.Caller (CallerOperation.SuspendSelf time_out)) answer = over_or_waits (time_out ≡ pos 0) (is_over time_out) answer (over_tells time_out).0 (λ is. ap is_over is)
-answer_is_the_sentence cores core who partition (Request.Caller (CallerOperation.TimedWait ticks)) answer = over_or_waits (ticks ≡ pos 0) (is_over ticks) answer (over_tells ticks).0 (λ is. ap is_over is)
-answer_is_the_sentence cores core who partition (Request.Caller CallerOperation.PeriodicWait) answer =
-    over_or_waits (IsAtRelease (time_of cores core) (item_at partition.table who.proc)) (is_released (time_of cores core) (item_at partition.table who.proc)) answer
-    (release_is (time_of cores core) (item_at partition.table who.proc)) (release_by (time_of cores core) (item_at partition.table who.proc))
-answer_is_the_sentence cores core who partition (Request.Process process ProcessOperation.Resume) answer =
-    (resuming_says (peer who process) (created partition.table process) answer, resuming_by (peer who process) (created partition.table process) answer)
-answer_is_the_sentence cores core who partition (Request.Process process ProcessOperation.GetStatus) answer =
-    (process_says cores (peer who process) (created partition.table process) answer, process_by cores (peer who process) (created partition.table process) answer)
-answer_is_the_sentence cores core who partition (Request.Caller CallerOperation.GetPartitionStatus) answer = (partition_says partition answer, partition_by partition answer)
-answer_is_the_sentence cores core who partition (Request.Process process ProcessOperation.GetMutexState) answer =
-    (mutex_state_says partition (natural_of process) answer, mutex_state_by partition (natural_of process) answer)
-answer_is_the_sentence cores core who partition (Request.Process process ProcessOperation.Stop) answer =
-    (stop_says (natural_of process) partition.lock waking answer, stop_by (natural_of process) partition.lock waking answer)
-answer_is_the_sentence cores core who partition (Request.Caller CallerOperation.StopSelf) answer =
-    (stop_says who.proc partition.lock never_waking answer, stop_by who.proc partition.lock never_waking answer)
-answer_is_the_sentence cores core who partition _ answer = (λ gives. gives, λ gives. gives)
 
 pub creation_is_the_sentence : CreationIsTheSentence
 creation_is_the_sentence core name priority period time_capacity = record {
@@ -574,6 +404,7 @@ creation_is_the_sentence core name priority period time_capacity = record {
   time_capacity = refl;
   deadline = refl;
   alive = refl;
+  faulted = refl;
   suspended = refl;
   wait = refl;
   due = refl;

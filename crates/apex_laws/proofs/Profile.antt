@@ -2,9 +2,9 @@
 use Rattle.std.proofs.Common.{◌≡◌, ◌⊎◌, ℕ, Option, Bool, true, false, not, ◌&&◌, nat_eq, refl, sym, ap, inl, inr, ◌↔◌}
 use Rattle.apex_laws.specs.ProfileLaws.{AwaitsMutex, IsOutsideProfile, ProfileIsTheSentence}
 use Rattle.apex_types.specs.declared.object_kind.ObjectKind.TheVariants as kind
-use Rattle.apex_laws.proofs.Common.{CallerOperation, End, Owns, Partition, ProcessOperation, Request, Wait, Who, in_profile, is_for_mutex, item_at, natural_of, owns_mutex, set_at, waits_for_mutex}
+use Rattle.apex_laws.proofs.Common.{CallerOperation, End, Mode, Owns, Partition, ProcessOperation, Request, Wait, Who, in_profile, is_for_mutex, is_normal, item_at, natural_of, owns_mutex, set_at, waits_for_mutex}
 use Rattle.apex_laws.proofs.Booleans.{impossible}
-use Rattle.apex_laws.proofs.ConditionTests.{caller_tells, equal_tells, owns_tells, Tells}
+use Rattle.apex_laws.proofs.ConditionTests.{caller_tells, equal_tells, normal_tells, owns_tells, Tells, tells_both, tells_not}
 use Rattle.apex_laws.proofs.SetNames.{same_kind_is}
 
 -- two negations do not both hold exactly if one of the facts does
@@ -33,9 +33,10 @@ awaits_tells partition number =
     )
 
 module _ (who : Who) (partition : Partition) where
-  -- the caller is the initialising process, or owns a mutex; a process owns a mutex, or waits for one
-  caller_stops : ((not (nat_eq who.proc 0) && not (owns_mutex partition.mutexes who.proc)) ≡ false) ↔ ((who.proc ≡ 0) ⊎ ((held : ℕ) × Owns partition who.proc held))
-  caller_stops = some_holds (equal_tells who.proc 0) (owns_tells partition who.proc)
+  -- the caller is process 0 before NORMAL, or owns a mutex; a process owns a mutex, or waits for one
+  caller_stops : ((not (nat_eq who.proc 0 && not (is_normal partition.mode)) && not (owns_mutex partition.mutexes who.proc)) ≡ false)
+      ↔ (((who.proc ≡ 0) × ¬ (partition.mode ≡ Mode.Normal)) ⊎ ((held : ℕ) × Owns partition who.proc held))
+  caller_stops = some_holds (tells_both (equal_tells who.proc 0) (tells_not (normal_tells partition.mode))) (owns_tells partition who.proc)
 
   is_held : (number : ℕ) → ((not (owns_mutex partition.mutexes number) && not (waits_for_mutex partition.table number)) ≡ false)
       ↔ (((held : ℕ) × Owns partition number held) ⊎ AwaitsMutex partition number)
@@ -44,7 +45,7 @@ module _ (who : Who) (partition : Partition) where
   outside : (asked : Request) → in_profile who partition asked ≡ false → IsOutsideProfile who partition asked
   outside (Request.Process process ProcessOperation.Stop) is = IsOutsideProfile.owner_is_stopped ((owns_tells partition (natural_of process)).0 (not_fails (owns_mutex partition.mutexes (natural_of process)) is))
   outside (Request.Caller CallerOperation.StopSelf) is =
-      elim (caller_stops.0 is) [ inl none ↦ IsOutsideProfile.initialising_stops none | inr owns ↦ IsOutsideProfile.owner_stops owns ]
+      elim (caller_stops.0 is) [ inl none ↦ IsOutsideProfile.initialising_stops none.1 none.0 | inr owns ↦ IsOutsideProfile.owner_stops owns ]
   outside (Request.Process process ProcessOperation.Suspend) is =
       elim ((is_held (natural_of process)).0 is) [ inl owns ↦ IsOutsideProfile.owner_is_suspended owns | inr awaits ↦ IsOutsideProfile.waiter_is_suspended awaits ]
   outside (Request.Process process (ProcessOperation.SetPriority priority)) is =
@@ -53,7 +54,7 @@ module _ (who : Who) (partition : Partition) where
 
   lies_outside : {asked : Request} → IsOutsideProfile who partition asked → in_profile who partition asked ≡ false
   lies_outside (IsOutsideProfile.owner_is_stopped {process = process} owns) = ap not ((owns_tells partition (natural_of process)).1 owns)
-  lies_outside (IsOutsideProfile.initialising_stops none) = caller_stops.1 (inl none)
+  lies_outside (IsOutsideProfile.initialising_stops other none) = caller_stops.1 (inl (none, other))
   lies_outside (IsOutsideProfile.owner_stops owns) = caller_stops.1 (inr owns)
   lies_outside (IsOutsideProfile.owner_is_suspended {process = process} owns) = (is_held (natural_of process)).1 (inl owns)
   lies_outside (IsOutsideProfile.waiter_is_suspended {process = process} awaits) = (is_held (natural_of process)).1 (inr awaits)

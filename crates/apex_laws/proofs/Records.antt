@@ -1,4 +1,4 @@
--- What dispatches, ticks, returns, refused calls and restarts do is what the sentences say.
+-- What dispatches, ticks, returns and refused calls do is what the sentences say.
 use Rattle.std.proofs.Common.{◌≡◌, ℕ, ap, subst, ◌∙◌, List, [], ◌⊎◌, ◌∷◌, ◌++◌, Bool, true, false, cond, IsTrue, IsFalse, refl, sym, inl, inr, true≢false, ◌+◌, length, nat_eq, Option, Some, None, ◌&&◌, zero, suc, ℤ, pos, negsuc}
 use Rattle.std.proofs.lemmas.Bool.{cases_Bool, eqb-true}
 use Rattle.std.proofs.lemmas.List.{append-nil}
@@ -8,20 +8,19 @@ use Rattle.apex_laws.proofs.Common.{IsInitialising, IsLawfulBody, IsLawfulTick, 
 use Rattle.apex_laws.proofs.Common.{RestartIsTheSentence, Restarts, Ret, ReturnIsTheSentence, Senders, SetIsTheSentence, State, Step, Table, Tick, TickIsTheSentence, WaitingSet, Who, answer_of, called, caller_after, caller_with}
 use Rattle.apex_laws.proofs.Common.{channel_effect, channel_of, channel_set, conditions_of, content_by, cores_by, created_by, each_item, each_set, emptied, ends_wait, enters, entries_at, entry_of, falls_due, first_core, first_processes}
 use Rattle.apex_laws.proofs.Common.{has_partition, initialising_process, is_channel, is_done, is_named, is_no_error, is_same, is_waiting, item_at, mode_by, never, objects_by, objects_called, objects_of, occupant_of, outcome_of}
-use Rattle.apex_laws.proofs.Common.{outcome_returned, own_partition, partition_by, partition_called, period_of, process_in, release_taken, released, renews, restart_by, restart_given, restart_of, returned, service_of, set_after}
+use Rattle.apex_laws.proofs.Common.{outcome_returned, own_partition, partition_by, partition_called, period_of, process_in, release_taken, released, renews, restart_of, returned, service_of, set_after}
 use Rattle.apex_laws.proofs.Common.{started_partition, stops, ticked, time_of, use_of, with_sets, without, woken_if_named}
-use Rattle.apex_laws.proofs.Common.{Lock, StartCondition, has_handler_by, lock_by, lock_called, lock_left, lock_waiters_after, message_of, sets_left, deadline_by, Error, ErrorIsTheSentence, deadline_taken, reported}
+use Rattle.apex_laws.proofs.Common.{CallerOperation, Lock, errors_by, handler_by, handles_more, lock_by, lock_called, lock_left, lock_waiters_after, message_of, sets_left, deadline_by}
 use Rattle.apex_laws.proofs.Booleans.{by_test, cannot_hold, either_way, impossible, is_itself, never_found, not_first, one_item, other_holds}
 use Rattle.apex_laws.proofs.Codes.{no_error_is_done, not_done}
 use Rattle.apex_laws.proofs.Keeps.{same_sets_with}
 use Rattle.apex_laws.proofs.Objects.{each_itself, each_set_each, each_set_holds, Leaves}
 use Rattle.apex_laws.proofs.ProcessRules.{due_is_the_sentence, release_is_the_sentence}
-use Rattle.apex_laws.proofs.Restarts.{goes_on, not_done_goes_on, restart_ends, restarts_none, restarts_other, return_case, woken_table, error_case}
+use Rattle.apex_laws.proofs.Restarts.{goes_on, no_restart, not_done_goes_on, restarts_none, return_case, woken_table}
 use Rattle.apex_laws.proofs.SetNames.{ends_kept}
 use Rattle.apex_laws.proofs.Tables.{core_changes, core_stays, count_stays, gives_occupant, gives_time, stays_each, turns_each}
 use Rattle.apex_laws.proofs.Untouched.{each_stays, not_woken_if_named}
 use Rattle.apex_laws.proofs.WaitersOf.{due_exists, free_exists, same_is, same_who}
-use Rattle.apex_laws.proofs.DeadlineRules.{missed_exists}
 
 -- What a step says, if the record's body is known.
 
@@ -126,54 +125,6 @@ dispatch_is_the_sentence configuration state ordered who next step is within =
       count = subst (λ one. length one ≡ length state.cores) (sym cores) (count_stays change core state.cores);
       partitions = next_partition configuration state ordered next (Disp who) step is;
       channels = next_channel configuration state ordered next (Disp who) step is;
-    }
-
--- errors
-
-pub error_is_the_sentence : ErrorIsTheSentence
-error_is_the_sentence configuration state ordered report next step is =
-    let law = lawful_body configuration state ordered next (Error report) step is in
-    let partitions = next_partition configuration state ordered next (Error report) step is in
-    let old = missed_exists ordered.core (time_of state.cores ordered.core) (process_in state report.who) law.missed in
-    let table = (state.partitions report.who.part).table in
-    let own : next.partitions report.who.part ≡ record (state.partitions report.who.part) { table = each_item (deadline_taken report.who.proc) table } =
-    partitions report.who.part ∙ ap (λ test. cond test (record (state.partitions report.who.part) { table = each_item (deadline_taken report.who.proc) table }) (state.partitions report.who.part)) (is_itself report.who.part) in
-    record {
-      process = old.0;
-      found = old.1;
-      missed = old.2;
-      reported = record {
-        changed = record {
-          old = old.0;
-          new = reported old.0;
-          before = old.1;
-          after = ap (λ (one : Partition). item_at one.table report.who.proc) own ∙ turns_each (deadline_taken report.who.proc) table report.who.proc old.0 old.1
-              ∙ ap (λ test. Some (cond test (reported old.0) old.0)) (is_itself report.who.proc);
-          change = refl;
-        };
-        others = λ other differs. ap (λ (one : Partition). item_at one.table other.proc) (partitions other.part)
-            ∙ either_way (nat_eq report.who.part other.part)
-            (λ here. rw here (stays_each (deadline_taken report.who.proc) (state.partitions other.part).table other.proc
-            (λ one at. either_way (nat_eq other.proc report.who.proc)
-            (λ same. absurd (differs (same_who other report.who (sym (eqb-true report.who.part other.part here)) (eqb-true other.proc report.who.proc same))))
-            (λ apart. rw apart refl))))
-            (λ elsewhere. rw elsewhere refl);
-        rest = λ number. by number (partitions number);
-        channels = λ number. next_channel configuration state ordered next (Error report) step is number ∙ ap (left_if number) law.goes_on;
-        cores = next_cores configuration state ordered next (Error report) step is;
-      };
-    }
-  where
-    by : (number : ℕ) → next.partitions number ≡ partition_by configuration state.cores ordered.pos ordered.core number (Error report) (state.partitions number)
-        → next.partitions number ≡ record (state.partitions number) { table = (next.partitions number).table }
-    by number at = at ∙ error_case (λ one. one ≡ record (state.partitions number) { table = one.table }) configuration state.cores ordered.pos ordered.core number report (state.partitions number) refl refl
-        ∙ ap (λ (one : Partition). let back : Partition = record (state.partitions number) { table = one.table } in back) (sym at)
-
-    -- a channel, by whether its processes of the partition leave it
-    left_if : ℕ → Bool → Channel
-    left_if number restarts = record (state.channels number) {
-      senders = cond restarts (without (λ who. nat_eq who.part report.who.part) (state.channels number).senders) (state.channels number).senders;
-      receivers = cond restarts (without (λ who. nat_eq who.part report.who.part) (state.channels number).receivers) (state.channels number).receivers;
     }
 
 -- returns
@@ -356,10 +307,11 @@ none_created core call _ not_so = refl
 
 -- the caller of a refused call
 refused_caller : (place now : ℕ) (call : CallRecord) (code : Code) (process : Process) → call.claim.out ≡ Out.Answer code → is_done (Out.Answer code) ≡ false → HasNoValues call.claim → call.claim.bytes ≡ []
-    → caller_after place now call process ≡ record process { due = Some (record { service = service_of call.request; code = code; val = None; val2 = None; val3 = None; bytes = [] }); called_at = now }
-refused_caller place now call code process is not_so values bytes =
+    → (more : Bool) → more ≡ false → caller_after place now more call process ≡ record process { due = Some (record { service = service_of call.request; code = code; val = None; val2 = None; val3 = None; bytes = [] }); called_at = now }
+refused_caller place now call code process is not_so values bytes more none =
     let error : is_no_error (Out.Answer code) ≡ false = not_no_error (Out.Answer code) not_so in
-    ap (λ given. record (caller_with place now call given process) { called_at = now }) is
+    ap (λ test. record (cond test process (caller_with place now call call.claim.out process)) { called_at = now }) none
+    ∙ ap (λ given. record (caller_with place now call given process) { called_at = now }) is
     ∙ ap (λ test. record process {
       ready_position = cond (renews call.request && test) place process.ready_position;
       last_release = cond test (release_taken call.request process) process.last_release;
@@ -373,6 +325,13 @@ refused_caller place now call code process is not_so values bytes =
     never : (test : Bool) → (test && false) ≡ false
     never true = refl
     never false = refl
+
+-- the handler's STOP_SELF is never refused
+refused_ends_not : (configuration : Configuration) (now : ℕ) (who : Who) (partition : Partition) (asked : Request) → ¬ (conditions_of configuration now who partition asked ≡ [])
+    → handles_more partition who.proc asked ≡ false
+refused_ends_not configuration now who partition (Request.Caller CallerOperation.StopSelf) some = absurd (some refl)
+refused_ends_not configuration now who partition (Request.Caller operation) some = refl
+refused_ends_not configuration now who partition _ some = refl
 
 -- any other process of the caller's partition
 refused_other : (place now period : ℕ) (cores : List CoreState) (partition : Partition) (call : CallRecord) (number : ℕ) (process : Process) → is_done call.claim.out ≡ false → call.claim.woken ≡ []
@@ -391,33 +350,34 @@ refused_rest configuration cores place core call partition not_so nobody =
     ap (λ test. each_set (set_after place (Call call)) (cond test (objects_by configuration call.who call.claim.val call.request partition) partition)) not_so
     ∙ sets_same (set_after place (Call call)) partition (set_left place call not_so nobody) in
     let same_mode : cond (is_done call.claim.out) (mode_by call.request partition.mode) partition.mode ≡ partition.mode = rw not_so refl in
-    let same_handler : cond (is_done call.claim.out) (has_handler_by call.request partition.has_handler) partition.has_handler ≡ partition.has_handler = rw not_so refl in
-    λ i. record (objects i) { mode = same_mode i; has_handler = same_handler i; lock = refused_lock place call not_so nobody partition.lock i; table = (partition_called configuration cores place core call partition).table }
+    let same_handler : cond (is_done call.claim.out) (handler_by configuration call.who.part call.request partition.handler) partition.handler ≡ partition.handler = rw not_so refl in
+    let same_errors : cond (is_done call.claim.out) (errors_by call.who.proc call.request partition) partition.errors ≡ partition.errors = rw not_so refl in
+    λ i. record (objects i) { mode = same_mode i; handler = same_handler i; errors = same_errors i; lock = refused_lock place call not_so nobody partition.lock i; table = (partition_called configuration cores place core call partition).table }
 
 -- the caller among the processes of its partition
 caller_is : (place now period : ℕ) (cores : List CoreState) (partition : Partition) (call : CallRecord) (process : Process) → is_done call.claim.out ≡ false
-    → called place now period cores partition call call.who.proc process ≡ caller_after place now call process
+    → called place now period cores partition call call.who.proc process ≡ caller_after place now (handles_more partition call.who.proc call.request) call process
 caller_is place now period cores partition call process not_so = rw (is_itself call.who.proc, not_so) refl
 
 -- another partition, if the call names no process
 
 foreign_stays : (configuration : Configuration) (place core : ℕ) (call : CallRecord) → call.claim.woken ≡ [] → (state next : State) (other : Who)
-    → next.partitions other.part ≡ cond (nat_eq call.who.part other.part) (own_partition (restart_of call) configuration state.cores place core call (state.partitions other.part))
+    → next.partitions other.part ≡ cond (nat_eq call.who.part other.part) (own_partition (restart_of configuration call) configuration state.cores place core call (state.partitions other.part))
     (record (state.partitions other.part) { table = woken_table place other.part (message_of call.request) call.claim.woken (state.partitions other.part).table })
     → nat_eq call.who.part other.part ≡ false → process_in next other ≡ process_in state other
 foreign_stays configuration place core call nobody state next other is elsewhere =
-    let there = is ∙ ap (λ test. cond test (own_partition (restart_of call) configuration state.cores place core call (state.partitions other.part))
+    let there = is ∙ ap (λ test. cond test (own_partition (restart_of configuration call) configuration state.cores place core call (state.partitions other.part))
     (record (state.partitions other.part) { table = woken_table place other.part (message_of call.request) call.claim.woken (state.partitions other.part).table })) elsewhere in
     ap (λ (found : Partition). item_at found.table other.proc) there
     ∙ stays_each (λ number process. woken_if_named place (message_of call.request) call.claim.woken (record { part = other.part; proc = number }) process) (state.partitions other.part).table other.proc
     (λ process at. (let named : is_named other call.claim.woken ≡ false = ap (is_named other) nobody in rw named refl))
 
 pub foreign_rest : (configuration : Configuration) (place core : ℕ) (call : CallRecord) (state next : State) (number : ℕ)
-    → next.partitions number ≡ cond (nat_eq call.who.part number) (own_partition (restart_of call) configuration state.cores place core call (state.partitions number))
+    → next.partitions number ≡ cond (nat_eq call.who.part number) (own_partition (restart_of configuration call) configuration state.cores place core call (state.partitions number))
     (record (state.partitions number) { table = woken_table place number (message_of call.request) call.claim.woken (state.partitions number).table })
     → nat_eq call.who.part number ≡ false → next.partitions number ≡ record (state.partitions number) { table = (next.partitions number).table }
 foreign_rest configuration place core call state next number is elsewhere =
-    let there = is ∙ ap (λ test. cond test (own_partition (restart_of call) configuration state.cores place core call (state.partitions number))
+    let there = is ∙ ap (λ test. cond test (own_partition (restart_of configuration call) configuration state.cores place core call (state.partitions number))
     (record (state.partitions number) { table = woken_table place number (message_of call.request) call.claim.woken (state.partitions number).table })) elsewhere in
     there ∙ ap (λ (found : Partition). let back : Partition = record (state.partitions number) { table = found.table } in back) (sym there)
 
@@ -439,9 +399,9 @@ refusal_is_the_sentence configuration state ordered call next step is some =
     let change : ℕ → Process → Process = called place now period state.cores (state.partitions call.who.part) call in
     let more = created_by (first_core configuration call.who.part) call call.request in
     let own : next.partitions call.who.part ≡ partition_called configuration state.cores place core call (state.partitions call.who.part) =
-    partitions call.who.part ∙ ap (λ test. cond test (own_partition (restart_of call) configuration state.cores place core call (state.partitions call.who.part))
+    partitions call.who.part ∙ ap (λ test. cond test (own_partition (restart_of configuration call) configuration state.cores place core call (state.partitions call.who.part))
     (record (state.partitions call.who.part) { table = each_item (λ other process. woken_if_named place (message_of call.request) call.claim.woken (record { part = call.who.part; proc = other }) process) table })) (is_itself call.who.part)
-    ∙ ap (λ one. own_partition one configuration state.cores place core call (state.partitions call.who.part)) (not_done_goes_on call not_so) in
+    ∙ ap (λ one. own_partition one configuration state.cores place core call (state.partitions call.who.part)) (no_restart configuration call (not_done_goes_on call not_so)) in
     let all : each_item change table ++ more ≡ each_item change table = ap (λ rest. each_item change table ++ rest) (none_created (first_core configuration call.who.part) call call.request not_so) ∙ append-nil (each_item change table) in
     record {
       code = one.code;
@@ -452,7 +412,8 @@ refusal_is_the_sentence configuration state ordered call next step is some =
           new = record old.0 { due = Some (record { service = service_of call.request; code = one.code; val = None; val2 = None; val3 = None; bytes = [] }); called_at = now };
           before = old.1;
           after = ap (λ (found : Partition). item_at found.table call.who.proc) own ∙ ap (λ found. item_at found call.who.proc) all ∙ turns_each change table call.who.proc old.0 old.1
-              ∙ ap Some (caller_is place now period state.cores (state.partitions call.who.part) call old.0 not_so ∙ refused_caller place now call one.code old.0 one.is code_not_done refusal.values refusal.bytes);
+              ∙ ap Some (caller_is place now period state.cores (state.partitions call.who.part) call old.0 not_so ∙ refused_caller place now call one.code old.0 one.is code_not_done refusal.values refusal.bytes
+              (handles_more (state.partitions call.who.part) call.who.proc call.request) (refused_ends_not configuration now call.who (state.partitions call.who.part) call.request some));
           change = refl;
         };
         others = λ other differs. either_way (nat_eq call.who.part other.part)
@@ -476,138 +437,3 @@ refusal_is_the_sentence configuration state ordered call next step is some =
         cores = next_cores configuration state ordered next (Call call) step is;
       };
     }
-
--- A call that restarts its partition does what the sentence says.
-
--- which calls restart a partition
-
--- a restart asks for a mode by its number, and does not return
-record IsRestart (asked : Request) (given : Out) (mode : Mode) : Type 0 where
-  next : ℤ
-  asks : asked ≡ Request.SetPartitionMode next
-  never : given ≡ Out.Never
-  names : restart_given next ≡ Some mode
-
-restart_is : (asked : Request) (given : Out) (mode : Mode) → restart_by asked given ≡ Some mode → IsRestart asked given mode
-restart_is (Request.SetPartitionMode next) Out.Never mode is = record { next = next; asks = refl; never = refl; names = is }
-restart_is (Request.SetPartitionMode next) _ mode is = never_found is
-restart_is _ given mode is = never_found is
-
-restarts_in : (call : CallRecord) (entered : Mode) (next : ℤ) → call.request ≡ Request.SetPartitionMode next → call.claim.out ≡ Out.Never → restart_given next ≡ Some entered → Restarts call entered
-restarts_in call entered (pos zero) asks never names = subst (Restarts call) (one_item names) (Restarts.to_idle asks never)
-restarts_in call entered (pos (suc zero)) asks never names = subst (Restarts call) (one_item names) (Restarts.to_cold_start asks never)
-restarts_in call entered (pos (suc (suc zero))) asks never names = subst (Restarts call) (one_item names) (Restarts.to_warm_start asks never)
-restarts_in call entered (pos (suc (suc (suc n)))) asks _ names = never_found names
-restarts_in call entered (negsuc n) asks _ names = never_found names
-
-says_restart : (call : CallRecord) (mode : Mode) → restart_of call ≡ Some mode → Restarts call mode
-says_restart call mode is =
-    let restart = restart_is call.request call.claim.out mode is in
-    restarts_in call mode restart.next restart.asks restart.never restart.names
-
-is_restart : (call : CallRecord) (mode : Mode) → Restarts call mode → restart_of call ≡ Some mode
-is_restart call _ (Restarts.to_idle asks never) = λ i. restart_by (asks i) (never i)
-is_restart call _ (Restarts.to_cold_start asks never) = λ i. restart_by (asks i) (never i)
-is_restart call _ (Restarts.to_warm_start asks never) = λ i. restart_by (asks i) (never i)
-
--- what its call claims
-
--- no process is named, and no channel
-record IsSilent (claim : Claim) : Type 0 where
-  nobody : (who : Who) → is_named who claim.woken ≡ false
-  no_channel : claim.chan ≡ None
-
-silent : (conditions : List Condition) (channel : Option ℕ) (answer : Answer) (suited : ℕ → Bool) (through : ℕ → Answer) (claim : Claim)
-    → channel ≡ None → answer ≡ never → claim.out ≡ Out.Never → HasOutcome conditions channel answer suited through claim → IsSilent claim
-silent [] None answer suited through claim off is stops has = record { nobody = λ who. has.woken who ∙ ap (λ one. is_named who one.woken) is; no_channel = has.chan }
-silent [] (Some channel) answer suited through claim off is stops has = never_found (sym off)
-silent (condition ∷ conditions) channel answer suited through claim off is stops has = record { nobody = λ who. ap (is_named who) has.woken; no_channel = has.chan }
-
--- the partition as it starts
-
-initialising : (core place : ℕ) → IsInitialising core place (initialising_process core place)
-initialising core place = record { ready = record { alive = refl; goes_on = refl; waits = refl; affinity = refl }; position = refl; priority = refl; due = refl; period = refl; deadline = refl }
-
-alone : (core place : ℕ)
-    → ((process : Process) × (item_at ((0, initialising_process core place) ∷ []) 0 ≡ Some process) × IsInitialising core place process)
-    × ((number : ℕ) → ¬ (number ≡ 0) → item_at ((0, initialising_process core place) ∷ []) number ≡ None)
-alone core place = (
-  (initialising_process core place, refl, initialising core place),
-  λ number differs. (let off : nat_eq number 0 ≡ false = cannot_hold (nat_eq number 0) (λ same. differs (eqb-true number 0 same)) in rw off refl),
-)
-
-starts : (mode : Mode) (core place : ℕ) → IsStart mode core place (first_processes mode core place)
-starts Mode.Idle core place = λ number. refl
-starts Mode.ColdStart core place = alone core place
-starts _ core place = alone core place
-
--- the sets of channels
-
--- a restart takes exactly the processes of its partition out of a set
-restarted_set : (place : ℕ) (call : CallRecord) (mode : Mode) (wanted : WaitingSet) (entries : List Entry) → restart_of call ≡ Some mode → call.claim.out ≡ Out.Never
-    → ((who : Who) → is_named who call.claim.woken ≡ false) → KeepsOnly (λ who. who.part ≡ call.who.part) entries (set_after place (Call call) wanted entries)
-restarted_set place call mode wanted entries is stops nobody =
-    let enters_not : enters call wanted ≡ false = not_first (is_waiting call.claim.out) _ (ap is_waiting stops) in
-    rw enters_not (keeps_only (λ who. who.part ≡ call.who.part) (ends_wait call) goes stays entries)
-  where
-    goes : (who : Who) → ends_wait call who ≡ true → who.part ≡ call.who.part
-    goes who passed =
-        either_way (nat_eq who.part call.who.part) (λ here. eqb-true who.part call.who.part here)
-        (λ there. absurd (true≢false (sym passed ∙ goes_on call who (restarts_other call who.part there) (nobody who) (not_first (is_no_error call.claim.out) _ (ap is_no_error stops)))))
-
-    stays : (who : Who) → ends_wait call who ≡ false → ¬ (who.part ≡ call.who.part)
-    stays who kept here = true≢false (sym (restart_ends call who mode is here) ∙ kept)
-
--- the whole
-
-says : (configuration : Configuration) (state : State) (ordered : Ordered) (call : CallRecord) (mode : Mode) (next : State)
-    → Step configuration state ordered next → ordered.rec.body ≡ Call call → restart_of call ≡ Some mode
-    → IsRestartOf configuration ordered.pos mode call.who.part state next
-says configuration state ordered call mode next step is restarted =
-    let place = ordered.pos in
-    let core = ordered.core in
-    let part = call.who.part in
-    let partition = state.partitions part in
-    let restart = restart_is call.request call.claim.out mode restarted in
-    let law = lawful_body configuration state ordered next (Call call) step is in
-    let quiet = silent (conditions_of configuration (time_of state.cores core) call.who partition call.request) (channel_of partition call.request) (answer_of state.cores core call.who partition call.request)
-    _ _ call.claim (ap (channel_of partition) restart.asks) (ap (answer_of state.cores core call.who partition) restart.asks) restart.never law.outcome in
-    let partitions = next_partition configuration state ordered next (Call call) step is in
-    let channels = next_channel configuration state ordered next (Call call) step is in
-    let own : next.partitions part ≡ started_partition StartCondition.PartitionRestart mode configuration part place =
-    partitions part
-    ∙ ap (λ test. cond test (own_partition (restart_of call) configuration state.cores place core call partition) (record partition { table = woken_table place part (message_of call.request) call.claim.woken partition.table })) (is_itself part)
-    ∙ ap (λ one. own_partition one configuration state.cores place core call partition) restarted in
-    record {
-      mode = ap (λ (one : Partition). one.mode) own;
-      start = ap (λ (one : Partition). one.start) own;
-      handler = ap (λ (one : Partition). one.has_handler) own;
-      lock = ap (λ (one : Partition). one.lock) own;
-      processes = subst (IsStart mode (first_core configuration part) place) (sym (ap (λ (one : Partition). one.table) own)) (starts mode (first_core configuration part) place);
-      buffers = ap (λ (one : Partition). one.buffers) own;
-      blackboards = ap (λ (one : Partition). one.blackboards) own;
-      semaphores = ap (λ (one : Partition). one.semaphores) own;
-      events = ap (λ (one : Partition). one.events) own;
-      mutexes = ap (λ (one : Partition). one.mutexes) own;
-      sampling_ports = ap (λ (one : Partition). one.sampling_ports) own;
-      queuing_ports = ap (λ (one : Partition). one.queuing_ports) own;
-      elsewhere = λ number there.
-          let foreign : nat_eq part number ≡ false = cannot_hold (nat_eq part number) (λ same. there (sym (eqb-true part number same))) in
-          partitions number
-          ∙ ap (λ test. cond test (own_partition (restart_of call) configuration state.cores place core call (state.partitions number))
-          (record (state.partitions number) { table = woken_table place number (message_of call.request) call.claim.woken (state.partitions number).table })) foreign
-          ∙ ap (λ (table : Table). let other : Partition = record (state.partitions number) { table = table } in other)
-          (each_stays (λ other process. woken_if_named place (message_of call.request) call.claim.woken (record { part = number; proc = other }) process) (state.partitions number).table
-          (λ other process. not_woken_if_named place (message_of call.request) call.claim.woken (record { part = number; proc = other }) process (quiet.nobody (record { part = number; proc = other }))));
-      contents = λ number. ap (λ (one : Channel). one.content) (channels number)
-          ∙ ap (λ test. cond test (channel_effect configuration (time_of state.cores core) number call.who.part (use_of call.request) (state.channels number)).next (state.channels number).content)
-          (ap (is_channel number) quiet.no_channel);
-      senders = λ number. subst (KeepsOnly (λ who. who.part ≡ part) (state.channels number).senders) (sym (ap (λ (one : Channel). one.senders) (channels number)))
-          (restarted_set place call mode (channel_set number Senders) (state.channels number).senders restarted restart.never quiet.nobody);
-      receivers = λ number. subst (KeepsOnly (λ who. who.part ≡ part) (state.channels number).receivers) (sym (ap (λ (one : Channel). one.receivers) (channels number)))
-          (restarted_set place call mode (channel_set number Receivers) (state.channels number).receivers restarted restart.never quiet.nobody);
-      cores = next_cores configuration state ordered next (Call call) step is;
-    }
-
-pub restart_is_the_sentence : RestartIsTheSentence
-restart_is_the_sentence = (says, λ call mode. (says_restart call mode, is_restart call mode))

@@ -8,15 +8,18 @@ use Rattle.apex_laws.proofs.Common.{PartStaysSound, QueuingOperation, Receivers,
 use Rattle.apex_laws.proofs.Common.{channel_set, cold_partition, conditions_of, each_item, each_set, ends_wait, entries_at, first_core, has_entry_in, is_done, is_free, is_named, is_new, is_of_channel, is_same, item_at, kind_of, kind_used}
 use Rattle.apex_laws.proofs.Common.{new_object, numbered_if, objects_by, objects_called, objects_of, outcome_demands, own_call_demands, partition_by, partition_called, partition_demands, returned, set_after, started_partition, ticked}
 use Rattle.apex_laws.proofs.Common.{waits_at}
-use Rattle.apex_laws.proofs.Common.{Arrive, Depart, IsSoundLock, Lock, StartCondition, first_processes, lock_left, message_of, waits_for_lock, time_of, Error, deadline_taken}
+use Rattle.apex_laws.proofs.Common.{Arrive, Depart, IsSoundLock, Lock, StartCondition, first_processes, lock_left, message_of, waits_for_lock, time_of, Error, ErrorHandler, ListedError, errors_after, reported, restarts_by_error}
 use Rattle.apex_laws.proofs.Awaited.{Awaited, lock_awaits}
 use Rattle.apex_laws.proofs.LockTies.{each_lock_entry}
 use Rattle.apex_laws.proofs.Wakes.{lock_waits_not}
 use Rattle.apex_laws.proofs.Booleans.{cannot_hold, differs_back, either_way, holds_if, never_found, other_holds}
 use Rattle.apex_laws.proofs.Choices.{choice_exists, FoundReady, ready_waits_not, ready_waits_not_for_lock}
 use Rattle.apex_laws.proofs.Codes.{not_done}
+use Rattle.apex_laws.proofs.Dormant.{dormant_by, start_dormant}
+use Rattle.apex_laws.proofs.Errors.{demanded_restart, told_restarts}
 use Rattle.apex_laws.proofs.Exact.{lock_has_entry, not_stopped, object_has_entry}
-use Rattle.apex_laws.proofs.Keeps.{CallsClaimValues, CallsReady, distinct_by, distinct_new, each_entry, entered_waits, entered_waits_for_lock, EntersLockWith, EntersWith, IsElsewhere, IsReadyCall, keeps_waiting, keeps_waiting_for_lock, leaves, lock_set_after, one_set_after, error_leaves_nobody}
+use Rattle.apex_laws.proofs.Distinct.{CallsClaimValues, distinct_by, distinct_new}
+use Rattle.apex_laws.proofs.Keeps.{CallsReady, each_entry, entered_waits, entered_waits_for_lock, EntersLockWith, EntersWith, IsElsewhere, LeavesSets, IsReadyCall, keeps_waiting, keeps_waiting_for_lock, leaves, lock_set_after, one_set_after, error_ends_none}
 use Rattle.apex_laws.proofs.Objects.{of_objects}
 use Rattle.apex_laws.proofs.Restarts.{call_case, done_case, goes_on, restarts_other, return_case, start_awaits_not, start_set, start_waits_not, woken_table, error_case}
 use Rattle.apex_laws.proofs.SetNames.{off_channel, put_holds}
@@ -44,19 +47,20 @@ demands_value (condition ∷ conditions) channel number asked answer claim none 
 pub own_ready : (configuration : Configuration) (number core : ℕ) (cores : List CoreState) (partition : Partition) (call : CallRecord)
     → are_distinct partition.table ≡ true → AllHold (own_call_demands configuration number cores partition core call) → IsReadyCall configuration partition core call
 own_ready configuration number core cores partition call distinct hold = record {
-  ready = choice_exists number core partition.lock.owner partition.table call.who distinct hold.1.1.0.1;
+  ready = choice_exists number core partition call.who distinct hold.1.1.0.1;
   now = time_of cores core;
   none = λ done. demands_none (conditions_of configuration (time_of cores core) call.who partition call.request) (channel_of partition call.request) number call.request
-      (answer_of cores core call.who partition call.request) call.claim hold.1.1.1.1.1.1 done;
+      (answer_of configuration cores core call.who partition call.request) call.claim hold.1.1.1.1.1.1 done;
+  anew = demanded_restart configuration cores core number partition call (conditions_of configuration (time_of cores core) call.who partition call.request) hold.1.1.1.1.1.1;
 }
 
 -- and the value is the service's
 own_value : (configuration : Configuration) (number core : ℕ) (cores : List CoreState) (partition : Partition) (call : CallRecord)
     → AllHold (own_call_demands configuration number cores partition core call) → is_done call.claim.out ≡ true → channel_of partition call.request ≡ None
-    → HasValue (answer_of cores core call.who partition call.request).val call.claim.val
+    → HasValue (answer_of configuration cores core call.who partition call.request).val call.claim.val
 own_value configuration number core cores partition call hold done off =
     let conditions = conditions_of configuration (time_of cores core) call.who partition call.request in
-    let answer = answer_of cores core call.who partition call.request in
+    let answer = answer_of configuration cores core call.who partition call.request in
     demands_value conditions (channel_of partition call.request) number call.request answer call.claim
     (demands_none conditions (channel_of partition call.request) number call.request answer call.claim hold.1.1.1.1.1.1 done)
     off hold.1.1.1.1.1.1
@@ -71,7 +75,8 @@ calls_ready : (configuration : Configuration) (number core : ℕ) (cores : List 
     → AllHold (partition_demands configuration number cores partition core body) → CallsReady configuration core number body partition
 calls_ready configuration number core cores partition (Call call) distinct hold =
     λ own. own_ready configuration number core cores partition call distinct (own_holds configuration number core cores partition call own hold)
-calls_ready configuration number core cores partition (Error report) distinct hold = hold.1.1.0
+calls_ready configuration number core cores partition (Error report) distinct hold =
+    λ own. told_restarts configuration partition report (subst (λ one. restarts_by_error configuration one partition report.who.proc ≡ report.restarts) (sym (eqb-true report.who.part number own)) hold.1.1.0)
 calls_ready configuration number core cores partition _ distinct hold = tt
 
 -- calls of other partitions, by their demands
@@ -118,11 +123,11 @@ foreign_stays configuration number core cores partition call elsewhere hold want
 
 -- numbers
 
--- a partition with other processes, another mode, another lock, or an error handler
-pub with_table : (partition : Partition) (mode : Mode) (handler : Bool) (lock : Lock) (table : Table) → HasDistinctObjects partition
-    → HasDistinctObjects (record partition { mode = mode; has_handler = handler; lock = lock; table = table })
-with_table partition mode handler lock table has kind.Buffer = has kind.Buffer
-with_table partition mode handler lock table has other = has other
+-- a partition with other processes, another mode, another lock, or another error handler with its errors
+pub with_table : (partition : Partition) (mode : Mode) (handler : Option ErrorHandler) (errors : List ListedError) (lock : Lock) (table : Table) → HasDistinctObjects partition
+    → HasDistinctObjects (record partition { mode = mode; handler = handler; errors = errors; lock = lock; table = table })
+with_table partition mode handler errors lock table has kind.Buffer = has kind.Buffer
+with_table partition mode handler errors lock table has other = has other
 
 -- what is created has a new number
 new_distinct : {Object : Type 0} (objects : List (ℕ × Object)) (claimed : Option ℤ) (made : Option Object) → are_distinct objects ≡ true → is_new (is_free objects) claimed ≡ true
@@ -132,7 +137,7 @@ new_distinct objects claimed (Some new) distinct fresh = distinct_new objects cl
 
 -- so it is with the objects of all kinds, and what is used keeps its number
 used_distinct : (configuration : Configuration) (cores : List CoreState) (core : ℕ) (who : Who) (claimed : Option ℤ) (asked : Request) (partition : Partition) → HasDistinctObjects partition
-    → (channel_of partition asked ≡ None → HasValue (answer_of cores core who partition asked).val claimed) → HasDistinctObjects (objects_by configuration who claimed asked partition)
+    → (channel_of partition asked ≡ None → HasValue (answer_of configuration cores core who partition asked).val claimed) → HasDistinctObjects (objects_by configuration who claimed asked partition)
 used_distinct configuration cores core who claimed (Request.Create name object) partition has value other =
     put_holds (kind_of object) _ partition other (λ kind objects. are_distinct objects ≡ true)
     (λ same. new_distinct (objects_of partition (kind_of object)) claimed (new_object configuration who.part name object) (has (kind_of object)) (value refl)) (λ differs. has other)
@@ -157,26 +162,28 @@ start_has_distinct start entered configuration number place _ = refl
 
 -- the objects of a partition after a record
 objects_distinct : (configuration : Configuration) (cores : List CoreState) (place core number : ℕ) (body : Body) (partition : Partition)
-    → CallsClaimValues number cores core body partition → HasDistinctObjects partition → HasDistinctObjects (partition_by configuration cores place core number body partition)
+    → CallsClaimValues configuration number cores core body partition → HasDistinctObjects partition → HasDistinctObjects (partition_by configuration cores place core number body partition)
 objects_distinct configuration cores place core number (Disp who) partition claims has = has
 objects_distinct configuration cores place core number (Tick woken) partition claims has =
-    with_table (each_set (set_after place (Tick woken)) partition) partition.mode partition.has_handler (lock_left place (Tick woken) partition.lock) (each_item (ticked place number woken) partition.table) (sets_distinct (set_after place (Tick woken)) partition has)
+    with_table (each_set (set_after place (Tick woken)) partition) partition.mode partition.handler partition.errors (lock_left place (Tick woken) partition.lock) (each_item (ticked place number woken) partition.table) (sets_distinct (set_after place (Tick woken)) partition has)
 objects_distinct configuration cores place core number (Ret ret) partition claims has =
-    return_case HasDistinctObjects configuration cores place core number ret partition (with_table partition partition.mode partition.has_handler partition.lock (each_item (returned ret.who.proc) partition.table) has) has
+    return_case HasDistinctObjects configuration cores place core number ret partition (with_table partition partition.mode partition.handler partition.errors partition.lock (each_item (returned ret.who.proc) partition.table) has) has
 objects_distinct configuration cores place core number (Error report) partition claims has =
-    error_case HasDistinctObjects configuration cores place core number report partition (with_table partition partition.mode partition.has_handler partition.lock (each_item (deadline_taken report.who.proc) partition.table) has) has
+    error_case HasDistinctObjects configuration cores place core number report partition
+    (λ own none. with_table partition partition.mode partition.handler (errors_after partition report) partition.lock (each_item (reported place partition report) partition.table) has)
+    (λ own restart is. start_has_distinct restart.start restart.mode configuration report.who.part place) (λ elsewhere. has)
 objects_distinct configuration cores place core number (Call call) partition claims has =
     let after : Partition = partition_called configuration cores place core call partition in
     call_case HasDistinctObjects configuration cores place core number call partition
-    (λ own none. with_table (objects_called configuration place call partition) after.mode after.has_handler after.lock after.table (sets_distinct (set_after place (Call call))
+    (λ own none. with_table (objects_called configuration place call partition) after.mode after.handler after.errors after.lock after.table (sets_distinct (set_after place (Call call))
     (cond (is_done call.claim.out) (objects_by configuration call.who call.claim.val call.request partition) partition)
     (done_case HasDistinctObjects configuration call partition (λ done. used_distinct configuration cores core call.who call.claim.val call.request partition has (claims own done)) has)))
-    (λ own mode is. start_has_distinct StartCondition.PartitionRestart mode configuration call.who.part place)
-    (λ elsewhere. with_table partition partition.mode partition.has_handler partition.lock (woken_table place number (message_of call.request) call.claim.woken partition.table) has)
+    (λ own restart is. start_has_distinct restart.start restart.mode configuration call.who.part place)
+    (λ elsewhere. with_table partition partition.mode partition.handler partition.errors partition.lock (woken_table place number (message_of call.request) call.claim.woken partition.table) has)
 objects_distinct configuration cores place core number (Arrive crossing) partition claims has =
-    with_table partition partition.mode partition.has_handler partition.lock (woken_table place number crossing.message crossing.woken partition.table) has
+    with_table partition partition.mode partition.handler partition.errors partition.lock (woken_table place number crossing.message crossing.woken partition.table) has
 objects_distinct configuration cores place core number (Depart crossing) partition claims has =
-    with_table partition partition.mode partition.has_handler partition.lock (woken_table place number [] crossing.woken partition.table) has
+    with_table partition partition.mode partition.handler partition.errors partition.lock (woken_table place number [] crossing.woken partition.table) has
 
 -- the sets
 
@@ -222,7 +229,7 @@ crossed_waiting configuration cores place core number body partition wanted read
 
 -- an entry at a call of another partition, at an arrival or at a departure
 foreign_waiting : (configuration : Configuration) (cores : List CoreState) (place core number : ℕ) (body : Body) (partition : Partition) (wanted : WaitingSet)
-    → CallsReady configuration core number body partition → AllHold (partition_demands configuration number cores partition core body) → IsElsewhere number body
+    → CallsReady configuration core number body partition → AllHold (partition_demands configuration number cores partition core body) → LeavesSets configuration number body
     → AllEntries (WaitsInSet number wanted partition) (entries_at partition wanted)
     → AllEntries (WaitsInSet number wanted (partition_by configuration cores place core number body partition)) (entries_at partition wanted)
 foreign_waiting configuration cores place core number (Call call) partition wanted ready hold elsewhere all =
@@ -238,7 +245,7 @@ foreign_waiting configuration cores place core number (Depart crossing) partitio
     (λ who here named. named_wait (channel_set crossing.chan Senders) number partition.table crossing.woken hold.0 who here named) all
 foreign_waiting configuration cores place core number (Error report) partition wanted ready hold elsewhere all =
     all_weaker (WaitsInSet number wanted partition) (WaitsInSet number wanted (partition_by configuration cores place core number (Error report) partition))
-    (λ entry is. stays_waiting configuration cores place core number (Error report) partition wanted ready entry (error_leaves_nobody report entry.who hold.1.1.0) is) (entries_at partition wanted) all
+    (λ entry is. stays_waiting configuration cores place core number (Error report) partition wanted ready entry (error_ends_none configuration core number report partition entry.who ready elsewhere is.0) is) (entries_at partition wanted) all
 foreign_waiting configuration cores place core number _ partition wanted ready hold elsewhere all = absurd elsewhere
 
 -- a process that is ready has an entry in no set
@@ -289,18 +296,20 @@ enters_for_lock configuration cores place core number _ partition ready own = tt
 
 -- an entry at a call of another partition, at an arrival or at a departure
 foreign_for_lock : (configuration : Configuration) (number core : ℕ) (cores : List CoreState) (body : Body) (partition : Partition)
-    → AllHold (partition_demands configuration number cores partition core body) → IsElsewhere number body → (entry : Entry) → WaitsForLock number partition entry → leaves body entry.who ≡ false
-foreign_for_lock configuration number core cores (Call call) partition hold elsewhere entry is =
+    → CallsReady configuration core number body partition → AllHold (partition_demands configuration number cores partition core body) → LeavesSets configuration number body
+    → (entry : Entry) → WaitsForLock number partition entry → leaves body entry.who ≡ false
+foreign_for_lock configuration number core cores (Call call) partition ready hold elsewhere entry is =
     foreign_goes_on configuration number core cores partition call elsewhere hold entry.who is.0
     (λ other of_channel also. lock_waits_not other (item_at partition.table entry.who.proc) is.1 also)
-foreign_for_lock configuration number core cores (Arrive crossing) partition hold elsewhere entry is =
+foreign_for_lock configuration number core cores (Arrive crossing) partition ready hold elsewhere entry is =
     cannot_hold (is_named entry.who crossing.woken) (λ named. lock_waits_not (channel_set crossing.chan Receivers) (item_at partition.table entry.who.proc) is.1
     (named_wait (channel_set crossing.chan Receivers) number partition.table crossing.woken hold.0 entry.who is.0 named))
-foreign_for_lock configuration number core cores (Depart crossing) partition hold elsewhere entry is =
+foreign_for_lock configuration number core cores (Depart crossing) partition ready hold elsewhere entry is =
     cannot_hold (is_named entry.who crossing.woken) (λ named. lock_waits_not (channel_set crossing.chan Senders) (item_at partition.table entry.who.proc) is.1
     (named_wait (channel_set crossing.chan Senders) number partition.table crossing.woken hold.0 entry.who is.0 named))
-foreign_for_lock configuration number core cores (Error report) partition hold elsewhere entry is = error_leaves_nobody report entry.who hold.1.1.0
-foreign_for_lock configuration number core cores _ partition hold elsewhere entry is = absurd elsewhere
+foreign_for_lock configuration number core cores (Error report) partition ready hold elsewhere entry is =
+    error_ends_none configuration core number report partition entry.who ready elsewhere is.0
+foreign_for_lock configuration number core cores _ partition ready hold elsewhere entry is = absurd elsewhere
 
 -- a process that is ready has no entry in it
 pub not_in_lock : (number place core : ℕ) (partition : Partition) (who : Who) → IsSoundPart number place partition → FoundReady core (item_at partition.table who.proc)
@@ -326,12 +335,12 @@ sound_lock_after configuration number cores partition place core body sound read
           (stays_for_lock configuration cores place core number body partition ready)
           (enters_for_lock configuration cores place core number body partition ready own) partition.lock.waiters all)
           (λ elsewhere all. all_weaker (WaitsForLock number partition) (WaitsForLock number next)
-          (λ entry is. stays_for_lock configuration cores place core number body partition ready entry (foreign_for_lock configuration number core cores body partition hold elsewhere entry is) is)
+          (λ entry is. stays_for_lock configuration cores place core number body partition ready entry (foreign_for_lock configuration number core cores body partition ready hold elsewhere entry is) is)
           partition.lock.waiters all) sound.lock.is_member;
       order = subst (λ count. IsInOrder count next.lock.waiters) (next_place place)
           (lock_stays_in_order configuration cores place place core number body partition refl
           (caller_not_in_lock configuration number place core body partition sound ready) sound.lock.order);
-      waiters = λ process waits. lock_has_entry configuration cores place core body partition (record { part = number; proc = process }) ready
+      waiters = λ process waits. lock_has_entry configuration cores place core body partition (record { part = number; proc = process }) ready sound.dormant
           (λ before. sound.lock.waiters process before) waits;
     }
 
@@ -339,7 +348,7 @@ sound_lock_after configuration number cores partition place core body sound read
 
 -- a record's own calls claim their values
 calls_claim : (configuration : Configuration) (number core : ℕ) (cores : List CoreState) (partition : Partition) (body : Body)
-    → AllHold (partition_demands configuration number cores partition core body) → CallsClaimValues number cores core body partition
+    → AllHold (partition_demands configuration number cores partition core body) → CallsClaimValues configuration number cores core body partition
 calls_claim configuration number core cores partition (Call call) hold =
     λ own done off. own_value configuration number core cores partition call (own_holds configuration number core cores partition call own hold) done off
 calls_claim configuration number core cores partition _ hold = tt
@@ -361,8 +370,9 @@ sound_after configuration number cores partition place core body sound hold =
       order = λ wanted. subst (λ count. IsInOrder count (entries_at next wanted)) (next_place place)
           (set_stays_in_order configuration cores place place core number body partition wanted refl
           (own_caller_new configuration number place core body partition sound ready wanted) (sound.order wanted));
-      waiters = λ wanted process off waits. object_has_entry configuration cores place core body partition (record { part = number; proc = process }) wanted ready off
+      waiters = λ wanted process off waits. object_has_entry configuration cores place core body partition (record { part = number; proc = process }) wanted ready sound.dormant off
           (λ before. sound.waiters wanted process off before) waits;
+      dormant = dormant_by configuration cores place core number body partition ready sound.dormant;
       lock = sound_lock_after configuration number cores partition place core body sound ready hold;
     }
 
@@ -380,6 +390,7 @@ sound_later number place later partition most sound = record {
   is_member = sound.is_member;
   order = λ wanted. order_before place later (entries_at partition wanted) most (sound.order wanted);
   waiters = sound.waiters;
+  dormant = sound.dormant;
   lock = record {
     is_member = sound.lock.is_member;
     order = order_before place later partition.lock.waiters most sound.lock.order;
@@ -395,6 +406,7 @@ cold_sound configuration number place =
       is_member = λ wanted. subst (AllEntries (WaitsInSet number wanted (cold_partition configuration number))) (sym (empty wanted)) tt;
       order = λ wanted. subst (IsInOrder place) (sym (empty wanted)) (none_in_order place);
       waiters = λ wanted process off waits. absurd (start_waits_not Mode.ColdStart (first_core configuration number) 0 process wanted waits);
+      dormant = start_dormant Mode.ColdStart (first_core configuration number) 0;
       lock = record {
         is_member = tt;
         order = none_in_order place;
@@ -414,7 +426,7 @@ part_stays_sound = (
 
 pub running_is_in_no_set : RunningIsInNoSet
 running_is_in_no_set number place core cores partition who sound running =
-    let ready = choice_exists number core partition.lock.owner partition.table who sound.distinct running.1 in (
+    let ready = choice_exists number core partition who sound.distinct running.1 in (
       λ wanted. (member_nowhere number place core partition who sound ready wanted, (sound.order wanted).below),
       (not_in_lock number place core partition who sound ready, sound.lock.order.below),
     )

@@ -6,14 +6,16 @@ use Rattle.apex_laws.proofs.Common.{AllEntries, AllPairs, AllPorts, AreApart, Ar
 use Rattle.apex_laws.proofs.Common.{ObjectKind, Ordered, OrderIsApart, Partition, Receivers, Request, Ret, Run, Senders, SetsAreInOrder, State, StaysInOrder, StaysTied, Step, Tick, WaitingSet, WaitsIn, Who, channel_of}
 use Rattle.apex_laws.proofs.Common.{channel_set, cold_state, conditions_of, ends_wait, enters, entries_at, entry_of, has_entry_in, is_named, is_of_channel, is_receiver, is_same, is_sender, objects_by, partition_by}
 use Rattle.apex_laws.proofs.Common.{partition_called, set_after, without}
-use Rattle.apex_laws.proofs.Common.{Arrive, Depart, End, StartCondition, enters_lock, lock_waiters_after, time_of, Error}
+use Rattle.apex_laws.proofs.Common.{Arrive, Depart, End, StartCondition, enters_lock, lock_waiters_after, time_of, Error, first_core}
 use Rattle.apex_laws.proofs.Wakes.{WaitsThere, arrival_wakes, departure_wakes, waits_nowhere_else}
 use Rattle.apex_laws.proofs.Booleans.{by_test, cannot_hold, holds_if, neither_first, neither_later, never_found}
 use Rattle.apex_laws.proofs.Demanded.{caller_in_no_set}
+use Rattle.apex_laws.proofs.Dormant.{dormant_by, start_dormant}
 use Rattle.apex_laws.proofs.ForeignCalls.{goes_on_here}
 use Rattle.apex_laws.proofs.LockTies.{caller_in_no_lock, lock_tied}
 use Rattle.apex_laws.proofs.Ends.{port_is_at_end, ports_after, WaitsAtEnd}
-use Rattle.apex_laws.proofs.Keeps.{calls_ready, distinct_by, each_entry, entered_waits, EntersWith, IsElsewhere, keeps_waiting, lawful_values, leaves, lock_set_after, one_set_after, ready_call, error_leaves_nobody}
+use Rattle.apex_laws.proofs.Distinct.{distinct_by, lawful_values}
+use Rattle.apex_laws.proofs.Keeps.{calls_ready, each_entry, entered_waits, EntersWith, IsElsewhere, LeavesSets, keeps_waiting, leaves, lock_set_after, one_set_after, ready_call, error_ends_none}
 use Rattle.apex_laws.proofs.Objects.{of_objects}
 use Rattle.apex_laws.proofs.Restarts.{call_case, done_case, return_case, start_set, error_case}
 use Rattle.apex_laws.proofs.SetNames.{off_channel}
@@ -87,7 +89,7 @@ crossed_set configuration state place core body tied law number wanted end chann
     (entries_at (state.partitions number) wanted) all)
 
 foreign_set : (configuration : Configuration) (state : State) (place core : ℕ) (body : Body) → AreTied configuration state
-    → IsLawfulBody configuration state core body → (number : ℕ) → IsElsewhere number body → (wanted : WaitingSet)
+    → IsLawfulBody configuration state core body → (number : ℕ) → LeavesSets configuration number body → (wanted : WaitingSet)
     → AllEntries (IsTied (λ home. home ≡ number) wanted state.partitions) (entries_at (state.partitions number) wanted)
     → AllEntries (IsTied (λ home. home ≡ number) wanted (Next configuration state place core body)) (entries_at (state.partitions number) wanted)
 foreign_set configuration state place core (Call call) tied law number elsewhere wanted all =
@@ -103,7 +105,8 @@ foreign_set configuration state place core (Depart crossing) tied law number els
 foreign_set configuration state place core (Error report) tied law number elsewhere wanted all =
     let Then : Entry → Type 0 = IsTied (λ home. home ≡ number) wanted (Next configuration state place core (Error report)) in
     all_weaker (IsTied (λ home. home ≡ number) wanted state.partitions) Then
-    (λ entry is. tied_after configuration state place core (Error report) tied law (λ home. home ≡ number) wanted entry (error_leaves_nobody report entry.who law.goes_on) is) (entries_at (state.partitions number) wanted) all
+    (λ entry is. tied_after configuration state place core (Error report) tied law (λ home. home ≡ number) wanted entry (error_ends_none configuration core number report (state.partitions number) entry.who
+    (calls_ready configuration state core (Error report) tied law number) elsewhere is.0) is) (entries_at (state.partitions number) wanted) all
 foreign_set configuration state place core _ tied law number elsewhere wanted all = absurd elsewhere
 
 -- a caller that enters a set of its partition is at home there
@@ -182,10 +185,11 @@ ports_by configuration state place core (Ret ret) number all =
 ports_by configuration state place core (Arrive crossing) number all = all
 ports_by configuration state place core (Depart crossing) number all = all
 ports_by configuration state place core (Error report) number all =
-    error_case (λ next. AllPorts (λ port. IsAtEnd configuration number port.direction port.channel) next.queuing_ports) configuration state.cores place core number report (state.partitions number) all all
+    error_case (λ next. AllPorts (λ port. IsAtEnd configuration number port.direction port.channel) next.queuing_ports) configuration state.cores place core number report (state.partitions number)
+    (λ own none. all) (λ own restart is. tt) (λ elsewhere. all)
 ports_by configuration state place core (Call call) number all =
     call_case (λ next. AllPorts (λ port. IsAtEnd configuration number port.direction port.channel) next.queuing_ports) configuration state.cores place core number call (state.partitions number)
-    (λ own none. called_ports configuration state place core call number (eqb-true call.who.part number own) all) (λ own mode is. tt) (λ elsewhere. all)
+    (λ own none. called_ports configuration state place core call number (eqb-true call.who.part number own) all) (λ own restart is. tt) (λ elsewhere. all)
 
 -- the whole state
 
@@ -206,6 +210,7 @@ step_tied configuration state ordered next tied step =
       receivers = λ number. set_tied configuration state place core body tied law (λ home. IsTrue (is_receiver configuration number home)) (channel_set number Receivers)
           (enters_at_end configuration state core body tied law (channel_set number Receivers)) (state.channels number).receivers (tied.receivers number);
       ports = λ number. ports_by configuration state place core body number (tied.ports number);
+      dormant = λ number. dormant_by configuration state.cores place core number body (state.partitions number) (calls_ready configuration state core body tied law number) (tied.dormant number);
     })
 
 -- so does a run
@@ -236,6 +241,7 @@ cold_tied configuration = record {
   senders = λ number. tt;
   receivers = λ number. tt;
   ports = λ number. tt;
+  dormant = λ number. start_dormant Mode.ColdStart (first_core configuration number) 0;
 }
 
 pub stays_tied : StaysTied

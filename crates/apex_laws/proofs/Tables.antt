@@ -8,6 +8,12 @@ use Rattle.apex_laws.proofs.Booleans.{either_way, is_itself, never_found}
 
 -- The process or object of a number, if those of its kind were changed.
 
+-- an item that is not among these is found after them
+pub found_after : {Item : Type 0} (items more : List (ℕ × Item)) (number : ℕ) → item_at items number ≡ None → item_at (items ++ more) number ≡ item_at more number
+found_after [] more number none = refl
+found_after (entry ∷ entries) more number none =
+    either_way (nat_eq number entry.0) (λ same. never_found (sym (rw same at none))) (λ other. rw other (found_after entries more number (rw other at none)))
+
 -- if each is changed, the one of a number is
 pub at_each : {Item : Type 0} (change : ℕ → Item → Item) (items : List (ℕ × Item)) (number : ℕ)
     → item_at (each_item change items) number ≡ option_map (change number) (item_at items number)

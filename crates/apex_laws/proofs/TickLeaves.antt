@@ -40,7 +40,7 @@ left_twice first second partition =
 -- the objects stay distinct
 pub left_distinct : (leaves : Awaited → Who → Bool) (partition : Partition) → HasDistinctObjects partition → HasDistinctObjects (left_as leaves partition)
 left_distinct leaves partition has =
-    with_table (each_set (λ wanted entries. without (leaves (Awaited.TheSet wanted)) entries) partition) partition.mode partition.has_handler
+    with_table (each_set (λ wanted entries. without (leaves (Awaited.TheSet wanted)) entries) partition) partition.mode partition.handler partition.errors
     (left_as leaves partition).lock partition.table (sets_distinct (λ wanted entries. without (leaves (Awaited.TheSet wanted)) entries) partition has)
 
 -- whether a process of this number and wait leaves a set as this one

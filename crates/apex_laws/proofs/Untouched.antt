@@ -1,14 +1,14 @@
 -- A piece that a lawful record doesn't touch keeps its part.
 use Rattle.std.proofs.Common.{◌≡◌, ℕ, List, [], ◌∷◌, Bool, true, false, nat_eq, ℤ, Option, Some, None, is_some, IsTrue, IsFalse, refl, sym, ap, subst, ◌∙◌, true≢false, ◌||◌, ◌&&◌}
-use Rattle.std.proofs.lemmas.Bool.{eq-eqb, eqb-true}
+use Rattle.std.proofs.lemmas.Bool.{and_from, eq-eqb, eqb-true}
 use Rattle.apex_types.specs.declared.object_kind.ObjectKind.TheVariants as kind
 use Rattle.apex_laws.proofs.Common.{AllEntries, AreTied, Body, Call, CallRecord, ChannelPart, Configuration, CoreState, Disp, Entry, IsLawful, IsLawfulBody, IsLawfulCall, IsTied, Module, ObjectKind, OfChannel, OfPartition, Ordered}
 use Rattle.apex_laws.proofs.Common.{Partition, PartitionPart, Piece, Process, Receivers, Request, Ret, Senders, State, Table, Tick, WaitingSet, WaitsIn, Who, after, channel_of, channel_set, conditions_of, content_by, cores_by, each_item}
-use Rattle.apex_laws.proofs.Common.{ends_wait, enters, is_at_end, is_channel, is_named, is_no_error, is_receiver, is_sender, is_target, part, partition_by, restart_of, samples, set_after, stop_of, stops_at_end, time_of, times_of, touched_by}
+use Rattle.apex_laws.proofs.Common.{ends_wait, enters, is_at_end, is_channel, is_named, is_no_error, is_receiver, is_sender, is_target, part, partition_by, is_restart, samples, set_after, stop_of, stops_at_end, time_of, times_of, touched_by}
 use Rattle.apex_laws.proofs.Common.{touches, woken_if_named}
-use Rattle.apex_laws.proofs.Common.{Arrive, Depart, End, message_of, names_one_of, partition_woken, without, Error}
+use Rattle.apex_laws.proofs.Common.{Arrive, Depart, End, message_of, names_one_of, partition_woken, without, Error, ErrorReport}
 use Rattle.apex_laws.proofs.Wakes.{WaitsThere, arrival_wakes, departure_wakes, waits_nowhere_else}
-use Rattle.apex_laws.proofs.Booleans.{cannot_hold, is_itself, neither_first, neither_later, not_second}
+use Rattle.apex_laws.proofs.Booleans.{by_test, cannot_hold, is_itself, neither_first, neither_later, not_second}
 use Rattle.apex_laws.proofs.Restarts.{goes_on}
 use Rattle.apex_laws.proofs.Tables.{times_after}
 use Rattle.apex_laws.proofs.Waiters.{none_leaves}
@@ -87,9 +87,9 @@ stays_there configuration call number who end off not_named =
     let at : nat_eq who.part call.who.part ≡ true → is_at_end configuration number call.who.part ≡ true =
     λ here. subst (λ part. is_at_end configuration number part ≡ true) (eqb-true who.part call.who.part here) end in
     let stopping : Bool = is_some (stop_of call.request) && is_no_error call.claim.out in
-    goes_on call who (not_restarted_at (is_some (restart_of call)) stopping (is_at_end configuration number call.who.part) (nat_eq who.part call.who.part) at off) not_named
+    goes_on call who (not_restarted_at (is_restart call) stopping (is_at_end configuration number call.who.part) (nat_eq who.part call.who.part) at off) not_named
     (not_stopped_at (is_at_end configuration number call.who.part) (is_no_error call.claim.out) (nat_eq who.part call.who.part) (stop_of call.request) who.proc at
-    (later_fails (is_some (restart_of call)) stopping (is_at_end configuration number call.who.part) off))
+    (later_fails (is_restart call) stopping (is_at_end configuration number call.who.part) off))
 
 -- a sending or a receiving partition is at an end
 sender_at_end : (configuration : Configuration) (number partition : ℕ) → is_sender configuration number partition ≡ true → is_at_end configuration number partition ≡ true
@@ -149,6 +149,17 @@ stays_at configuration state chan number end own woken Home off waits entries al
     (let same : number ≡ chan = ap (λ one. one.number) (waits_nowhere_else state.partitions configuration chan end (channel_set number own) entry.who (waits entry.who named) tied.1) in
     true≢false (sym (eq-eqb chan number (sym same)) ∙ off)))) entries all
 
+-- so does an error that restarts no partition at an end of the channel
+error_stays : (configuration : Configuration) (state : State) (place number : ℕ) (report : ErrorReport) → (report.restarts && is_at_end configuration number report.who.part) ≡ false
+    → (Home : ℕ → Type 0) (wanted : WaitingSet) → ((part : ℕ) → Home part → is_at_end configuration number part ≡ true)
+    → (entries : List Entry) → AllEntries (IsTied Home wanted state.partitions) entries → set_after place (Error report) wanted entries ≡ entries
+error_stays configuration state place number report off Home wanted at_end entries all =
+    by_test (λ kept. kept ≡ entries) report.restarts (without (λ who. nat_eq who.part report.who.part) entries) entries
+    (λ restarts. none_leaves (IsTied Home wanted state.partitions) (λ who. nat_eq who.part report.who.part)
+    (λ entry tied. cannot_hold (nat_eq entry.who.part report.who.part) (λ here. true≢false (sym (and_from _ _ restarts
+    (subst (λ part. is_at_end configuration number part ≡ true) (eqb-true entry.who.part report.who.part here) (at_end entry.who.part tied.0))) ∙ off))) entries all)
+    (λ stays. refl)
+
 -- the channel's part after a record that doesn't touch it
 channel_part : (configuration : Configuration) (state : State) (place core : ℕ) (body : Body) → AreTied configuration state
     → IsLawfulBody configuration state core body → (number : ℕ) → IsFalse (touched_by configuration body (OfChannel number))
@@ -158,7 +169,14 @@ channel_part : (configuration : Configuration) (state : State) (place core : ℕ
     × (set_after place body (channel_set number Receivers) (state.channels number).receivers ≡ (state.channels number).receivers)
 channel_part configuration state place core (Disp who) tied law number off = (times_after core (Disp who) state.cores, refl, refl, refl)
 channel_part configuration state place core (Ret ret) tied law number off = (refl, refl, refl, refl)
-channel_part configuration state place core (Error report) tied law number off = (refl, refl, rw law.goes_on refl, rw law.goes_on refl)
+channel_part configuration state place core (Error report) tied law number off = (
+  refl,
+  refl,
+  error_stays configuration state place number report off (λ home. IsTrue (is_sender configuration number home)) (channel_set number Senders)
+      (sender_at_end configuration number) (state.channels number).senders (tied.senders number),
+  error_stays configuration state place number report off (λ home. IsTrue (is_receiver configuration number home)) (channel_set number Receivers)
+      (receiver_at_end configuration number) (state.channels number).receivers (tied.receivers number),
+)
 channel_part configuration state place core (Tick woken) tied law number off = absurd (true≢false off)
 channel_part configuration state place core (Arrive crossing) tied law number off =
     let waits = arrival_wakes configuration state core crossing tied law in (

@@ -14,6 +14,7 @@ use Rattle.apex_laws.proofs.Common.{suits_use, time_out_of, unmet, use_of, used,
 use Rattle.apex_laws.proofs.Common.{Clear, CoreState, Crossing, Discipline, IsLawfulArrival, IsLawfulDeparture, arrival_use, emptied_queue, first_waiters, process_status, time_of}
 use Rattle.apex_laws.proofs.Common.{EnteringLockIsTheSentence, IsTiedToLock, Lock, LockIsAwaitedForever, LockOperation, first_for_lock, freed_by_stop, given_up, is_done, is_for_lock, is_of_lock, is_owner, lock_effect, locked_again, locked_from, next_owner, not_locked, stops_one, unlocked_once, waits_for_lock}
 use Rattle.apex_laws.proofs.Waiters.{firsts_have}
+use Rattle.apex_laws.proofs.Common.{HealthOperation, ListedError, health_answer, never, oldest_reported, restarts_by_error}
 use Rattle.apex_laws.proofs.Booleans.{by_test, impossible, is_itself, never_found, not_second, one_item}
 use Rattle.apex_laws.proofs.ConditionTests.{at_most_tells, equal_tells, Tells, tells_both}
 use Rattle.apex_laws.proofs.Objects.{of_objects}
@@ -188,62 +189,76 @@ abbrev NoStopSelf : Request → Type 0
 NoStopSelf (Request.Caller CallerOperation.StopSelf) = ⊥
 NoStopSelf _ = Unit {0}
 
+-- health monitoring wakes no process
+pub health_woken : (configuration : Configuration) (number : ℕ) (partition : Partition) (caller : ℕ) (operation : HealthOperation)
+    → (health_answer configuration number partition caller operation).woken ≡ []
+health_woken configuration number partition caller (HealthOperation.RaiseError error length message) =
+    by_test (λ (answer : Answer). answer.woken ≡ []) (restarts_by_error configuration number partition caller) never done (λ restarts. refl) (λ goes_on. refl)
+health_woken configuration number partition caller HealthOperation.GetErrorStatus = by partition.errors
+  where
+    by : (errors : List ListedError) → (oldest_reported errors).woken ≡ []
+    by [] = refl
+    by (error ∷ errors) = refl
+health_woken configuration number partition caller _ = refl
+
 -- a service that uses no channel wakes processes in a waiting set that it uses, processes that suspended themselves, or one that waits for
 -- the lock
-service_wakes : (Fact : Who → Type 0) (cores : List CoreState) (core : ℕ) (who : Who) (partition : Partition) (asked : Request)
+service_wakes : (Fact : Who → Type 0) (configuration : Configuration) (cores : List CoreState) (core : ℕ) (who : Who) (partition : Partition) (asked : Request)
     → ((wanted : WaitingSet) → is_set_used asked wanted ≡ true → AllEntries (λ entry. Fact entry.who) (entries_at partition wanted))
     → ((process : ℤ) (target : Process) → created partition.table process ≡ Some target → is_suspension target.wait ≡ true → Fact (peer who process))
     → (gives_lock_up asked ≡ true → AllEntries (λ entry. Fact entry.who) partition.lock.waiters) → NoStopSelf asked
-    → Wakes Fact (answer_of cores core who partition asked)
-service_wakes Fact cores core who partition (Request.Object number operation) all suspended lock other =
+    → Wakes Fact (answer_of configuration cores core who partition asked)
+service_wakes Fact configuration cores core who partition (Request.Object number operation) all suspended lock other =
     let objects = objects_of partition (kind_used operation) in
     by_object Fact (given_object objects number) (λ found. (object_effect who.proc operation found).answer)
     (λ found is. operation_wakes Fact who.proc number operation found (λ end used. given_entries (AllEntries (λ entry. Fact entry.who)) (entries_at_end (kind_used operation) end) objects number found is
     (all (set_at (kind_used operation) (natural_of number) end) used)))
-service_wakes Fact cores core who partition (Request.Process process ProcessOperation.Resume) all suspended lock other =
+service_wakes Fact configuration cores core who partition (Request.Process process ProcessOperation.Resume) all suspended lock other =
     resume_wakes Fact (peer who process) (created partition.table process) (suspended process)
-service_wakes Fact cores core who partition (Request.Process process ProcessOperation.GetStatus) all suspended lock other =
+service_wakes Fact configuration cores core who partition (Request.Process process ProcessOperation.GetStatus) all suspended lock other =
     by_object Fact (created partition.table process) (process_status cores (peer who process)) (λ target is. wakes_none refl)
-service_wakes Fact cores core who partition (Request.Caller (CallerOperation.SuspendSelf time_out)) all suspended lock other = wakes_none (done_or_waiting (is_over time_out))
-service_wakes Fact cores core who partition (Request.Caller (CallerOperation.TimedWait delay)) all suspended lock other = wakes_none (done_or_waiting (is_over delay))
-service_wakes Fact cores core who partition (Request.Caller CallerOperation.PeriodicWait) all suspended lock other = wakes_none (done_or_waiting (is_released (time_of cores core) (item_at partition.table who.proc)))
-service_wakes Fact cores core who partition (Request.Process process ProcessOperation.Stop) all suspended lock other =
+service_wakes Fact configuration cores core who partition (Request.Caller (CallerOperation.SuspendSelf time_out)) all suspended lock other = wakes_none (done_or_waiting (is_over time_out))
+service_wakes Fact configuration cores core who partition (Request.Caller (CallerOperation.TimedWait delay)) all suspended lock other = wakes_none (done_or_waiting (is_over delay))
+service_wakes Fact configuration cores core who partition (Request.Caller CallerOperation.PeriodicWait) all suspended lock other = wakes_none (done_or_waiting (is_released (time_of cores core) (item_at partition.table who.proc)))
+service_wakes Fact configuration cores core who partition (Request.Process process ProcessOperation.Stop) all suspended lock other =
     wakes_some refl (freed_wakes Fact (natural_of process) partition.lock (lock refl))
-service_wakes Fact cores core who partition (Request.Preemption operation) all suspended lock other = lock_wakes Fact who.proc operation partition.lock (lock refl)
-service_wakes Fact cores core who partition (Request.Caller CallerOperation.StopSelf) all suspended lock other = absurd other
-service_wakes Fact cores core who partition _ all suspended lock other = wakes_none refl
+service_wakes Fact configuration cores core who partition (Request.Preemption operation) all suspended lock other = lock_wakes Fact who.proc operation partition.lock (lock refl)
+service_wakes Fact configuration cores core who partition (Request.Health operation) all suspended lock other =
+    wakes_none (health_woken configuration who.part partition who.proc operation)
+service_wakes Fact configuration cores core who partition (Request.Caller CallerOperation.StopSelf) all suspended lock other = absurd other
+service_wakes Fact configuration cores core who partition _ all suspended lock other = wakes_none refl
 
-pub answer_wakes : (Fact : Who → Type 0) (cores : List CoreState) (core : ℕ) (who : Who) (partition : Partition) (asked : Request)
+pub answer_wakes : (Fact : Who → Type 0) (configuration : Configuration) (cores : List CoreState) (core : ℕ) (who : Who) (partition : Partition) (asked : Request)
     → ((wanted : WaitingSet) → is_set_used asked wanted ≡ true → AllEntries (λ entry. Fact entry.who) (entries_at partition wanted))
     → ((process : ℤ) (target : Process) → created partition.table process ≡ Some target → is_suspension target.wait ≡ true → Fact (peer who process))
     → (gives_lock_up asked ≡ true → AllEntries (λ entry. Fact entry.who) partition.lock.waiters)
-    → (one : Who) → is_named one (answer_of cores core who partition asked).woken ≡ true → Fact one
-answer_wakes Fact cores core who partition (Request.Caller CallerOperation.StopSelf) all suspended lock = freed_wakes Fact who.proc partition.lock (lock refl)
-answer_wakes Fact cores core who partition (Request.Caller operation) all suspended lock =
-    (service_wakes Fact cores core who partition (Request.Caller operation) all suspended lock tt).has
-answer_wakes Fact cores core who partition asked all suspended lock = (service_wakes Fact cores core who partition asked all suspended lock tt).has
+    → (one : Who) → is_named one (answer_of configuration cores core who partition asked).woken ≡ true → Fact one
+answer_wakes Fact configuration cores core who partition (Request.Caller CallerOperation.StopSelf) all suspended lock = freed_wakes Fact who.proc partition.lock (lock refl)
+answer_wakes Fact configuration cores core who partition (Request.Caller operation) all suspended lock =
+    (service_wakes Fact configuration cores core who partition (Request.Caller operation) all suspended lock tt).has
+answer_wakes Fact configuration cores core who partition asked all suspended lock = (service_wakes Fact configuration cores core who partition asked all suspended lock tt).has
 
 -- so an answer that is not NO_ERROR names no process but one that waits for the lock, and that only if it does not return
-service_quiet : (cores : List CoreState) (core : ℕ) (who : Who) (partition : Partition) (asked : Request) → NoStopSelf asked
-    → is_no_error (answer_of cores core who partition asked).out ≡ false → (answer_of cores core who partition asked).woken ≡ []
-service_quiet cores core who partition asked other =
-    (service_wakes (λ one. Unit {0}) cores core who partition asked (λ wanted used. any (entries_at partition wanted)) (λ process target is suspends. tt) (λ gives. any partition.lock.waiters) other).quiet
+service_quiet : (configuration : Configuration) (cores : List CoreState) (core : ℕ) (who : Who) (partition : Partition) (asked : Request) → NoStopSelf asked
+    → is_no_error (answer_of configuration cores core who partition asked).out ≡ false → (answer_of configuration cores core who partition asked).woken ≡ []
+service_quiet configuration cores core who partition asked other =
+    (service_wakes (λ one. Unit {0}) configuration cores core who partition asked (λ wanted used. any (entries_at partition wanted)) (λ process target is suspends. tt) (λ gives. any partition.lock.waiters) other).quiet
   where
     any : (entries : List Entry) → AllEntries (λ entry. Unit {0}) entries
     any [] = tt
     any (entry ∷ entries) = (tt, any entries)
 
-pub answer_quiet : (Fact : Who → Type 0) (cores : List CoreState) (core : ℕ) (who : Who) (partition : Partition) (asked : Request) → AllEntries (λ entry. Fact entry.who) partition.lock.waiters
-    → is_no_error (answer_of cores core who partition asked).out ≡ false → (one : Who) → is_named one (answer_of cores core who partition asked).woken ≡ true → Fact one
-answer_quiet Fact cores core who partition (Request.Caller CallerOperation.StopSelf) lock off one named = freed_wakes Fact who.proc partition.lock lock one named
-answer_quiet Fact cores core who partition (Request.Caller operation) lock off one named = nobody one _ (service_quiet cores core who partition (Request.Caller operation) tt off) named
-answer_quiet Fact cores core who partition asked lock off one named = nobody one _ (service_quiet cores core who partition asked tt off) named
+pub answer_quiet : (Fact : Who → Type 0) (configuration : Configuration) (cores : List CoreState) (core : ℕ) (who : Who) (partition : Partition) (asked : Request) → AllEntries (λ entry. Fact entry.who) partition.lock.waiters
+    → is_no_error (answer_of configuration cores core who partition asked).out ≡ false → (one : Who) → is_named one (answer_of configuration cores core who partition asked).woken ≡ true → Fact one
+answer_quiet Fact configuration cores core who partition (Request.Caller CallerOperation.StopSelf) lock off one named = freed_wakes Fact who.proc partition.lock lock one named
+answer_quiet Fact configuration cores core who partition (Request.Caller operation) lock off one named = nobody one _ (service_quiet configuration cores core who partition (Request.Caller operation) tt off) named
+answer_quiet Fact configuration cores core who partition asked lock off one named = nobody one _ (service_quiet configuration cores core who partition asked tt off) named
 
-pub answer_silent : (cores : List CoreState) (core : ℕ) (who : Who) (partition : Partition) (asked : Request) → is_no_error (answer_of cores core who partition asked).out ≡ false
-    → is_done (answer_of cores core who partition asked).out ≡ false → (answer_of cores core who partition asked).woken ≡ []
-answer_silent cores core who partition (Request.Caller CallerOperation.StopSelf) off not_done = absurd (true≢false not_done)
-answer_silent cores core who partition (Request.Caller operation) off not_done = service_quiet cores core who partition (Request.Caller operation) tt off
-answer_silent cores core who partition asked off not_done = service_quiet cores core who partition asked tt off
+pub answer_silent : (configuration : Configuration) (cores : List CoreState) (core : ℕ) (who : Who) (partition : Partition) (asked : Request) → is_no_error (answer_of configuration cores core who partition asked).out ≡ false
+    → is_done (answer_of configuration cores core who partition asked).out ≡ false → (answer_of configuration cores core who partition asked).woken ≡ []
+answer_silent configuration cores core who partition (Request.Caller CallerOperation.StopSelf) off not_done = absurd (true≢false not_done)
+answer_silent configuration cores core who partition (Request.Caller operation) off not_done = service_quiet configuration cores core who partition (Request.Caller operation) tt off
+answer_silent configuration cores core who partition asked off not_done = service_quiet configuration cores core who partition asked tt off
 
 -- channels
 
@@ -420,7 +435,7 @@ waits_nowhere_else partitions configuration channel Receivers wanted who there w
 -- what a lawful call claims of its outcome, if these error conditions hold and its service goes through this channel
 abbrev pub ClaimsOutcome : Configuration → State → ℕ → Who → Request → Claim → List Condition → Option ℕ → Type 0
 ClaimsOutcome configuration state core who asked claim conditions channel =
-    HasOutcome conditions channel (answer_of state.cores core who (state.partitions who.part) asked) (λ number. suits_use configuration number who.part (use_of asked) (state.channels number))
+    HasOutcome conditions channel (answer_of configuration state.cores core who (state.partitions who.part) asked) (λ number. suits_use configuration number who.part (use_of asked) (state.channels number))
     (channel_answer configuration (time_of state.cores core) who.part asked state.channels) claim
 
 -- the processes that a call with a lawful outcome names
@@ -429,7 +444,7 @@ pub woken : (configuration : Configuration) (state : State) (core : ℕ) (who : 
     → (one : Who) → is_named one claim.woken ≡ true → IsWokenBy state.partitions who.part claim.chan one
 woken configuration state core who asked claim tied (condition ∷ conditions) channel has one named = nobody one claim.woken has.woken named
 woken configuration state core who asked claim tied [] None has one named =
-    (answer_wakes (IsWokenBy state.partitions who.part claim.chan) state.cores core who (state.partitions who.part) asked
+    (answer_wakes (IsWokenBy state.partitions who.part claim.chan) configuration state.cores core who (state.partitions who.part) asked
     (λ wanted used. own_waiter state.partitions who.part wanted claim.chan (tied.objects who.part wanted))
     (λ process target is suspends. suspended_peer state.partitions who claim.chan process target is suspends)
     (λ gives. lock_waiter state.partitions who.part claim.chan (tied.locks who.part)))
@@ -512,9 +527,9 @@ falls_by_wait place now core time call given old waits =
 
 pub time_out_is_the_sentence : TimeOutIsTheSentence
 time_out_is_the_sentence place now call wanted old waits in_set =
-    let begun : (core time : ℕ) → falls_due core time (Some (caller_after place now call old)) ≡ Due core time old (Wait.At wanted (due_of_call (time_out_of call.request) now)) =
+    let begun : (core time : ℕ) → falls_due core time (Some (caller_after place now false call old)) ≡ Due core time old (Wait.At wanted (due_of_call (time_out_of call.request) now)) =
     λ core time. falls_by_wait place now core time call call.claim.out old waits ∙ ap (Due core time old) (wait_by now old in_set) in
-    let until : (given : ℤ) (core time : ℕ) → HasTimeOut call.request given → falls_due core time (Some (caller_after place now call old)) ≡ Due core time old (Wait.At wanted (due_time given now)) =
+    let until : (given : ℤ) (core time : ℕ) → HasTimeOut call.request given → falls_due core time (Some (caller_after place now false call old)) ≡ Due core time old (Wait.At wanted (due_time given now)) =
     λ given core time has. begun core time ∙ ap (λ due. Due core time old (Wait.At wanted due)) (due_by_call now given in_set has) in (
       λ ticks core time has.
           let due = tells_both (equal_tells old.affinity core) (at_most_tells (now + ticks) time) in

@@ -19,9 +19,11 @@ use Rattle.apex_laws.proofs.ObjectRules.{channel_is_the_sentence}
 use Rattle.apex_laws.proofs.ProcessRules.{caller_is_the_sentence, creation_is_the_sentence, setting_is_the_sentence, waking_is_the_sentence}
 use Rattle.apex_laws.proofs.LockCalls.{lock_says}
 use Rattle.apex_laws.proofs.Records.{emptied_same, foreign_rest, lawful_body, next_channel, next_cores, next_partition, set_says}
-use Rattle.apex_laws.proofs.Restarts.{woken_table}
+use Rattle.apex_laws.proofs.ErrorRules.{handler_says, list_says}
+use Rattle.apex_laws.proofs.Common.{HealthOperation, IsHandlerAfter, IsListAfter, ListedError, errors_by, handler_by, handles_more, health_answer, never, oldest_reported, restarts_by_error}
+use Rattle.apex_laws.proofs.Restarts.{no_restart as none_made, woken_table}
 use Rattle.apex_laws.proofs.Stays.{order_is_apart}
-use Rattle.apex_laws.proofs.Tables.{at_each, stays_each, turns_each}
+use Rattle.apex_laws.proofs.Tables.{at_each, found_after, stays_each, turns_each}
 use Rattle.apex_laws.proofs.Waiters.{all_weaker}
 use Rattle.apex_laws.proofs.WaitersOf.{free_exists, same_who}
 use Rattle.apex_laws.proofs.Wakes.{answer_wakes, channel_wakes, ClaimsOutcome, created_is, found, lock_awaited, nobody, waiting_tells}
@@ -56,6 +58,19 @@ resume_no_wait target None waits = no_wait waits
 resume_no_wait target (Some process) waits =
     by_test (λ (answer : Answer). answer.out ≡ Out.Waits → ⊥) (is_suspension process.wait) (waking (target ∷ [])) done (λ suspends waits. no_wait waits) (λ runs waits. no_wait waits) waits
 
+-- no service of health monitoring waits
+health_no_wait : (configuration : Configuration) (number : ℕ) (partition : Partition) (caller : ℕ) (operation : HealthOperation)
+    → (health_answer configuration number partition caller operation).out ≡ Out.Waits → ⊥
+health_no_wait configuration number partition caller (HealthOperation.RaiseError error length message) waits =
+    by_test (λ (answer : Answer). answer.out ≡ Out.Waits → ⊥) (restarts_by_error configuration number partition caller) never done
+    (λ restarts waits. (let no : Out.Never ≡ Out.Waits = waits in cc)) (λ goes_on waits. no_wait waits) waits
+health_no_wait configuration number partition caller HealthOperation.GetErrorStatus waits = by partition.errors waits
+  where
+    by : (errors : List ListedError) → (oldest_reported errors).out ≡ Out.Waits → ⊥
+    by [] waits = no_wait waits
+    by (error ∷ errors) waits = no_wait waits
+health_no_wait configuration number partition caller _ waits = no_wait waits
+
 -- an operation that waits begins a wait in a set of its object
 operation_begun : (now caller : ℕ) (number : ℤ) (operation : ObjectOperation) (process : Process) (found : ObjectOf (kind_used operation)) → (object_effect caller operation found).answer.out ≡ Out.Waits
     → IsBegun now (Request.Object number operation) None process (wait_of (Request.Object number operation) None now process)
@@ -72,7 +87,7 @@ operation_begun now caller number _ process found waits = no_wait waits
 
 -- a call that uses no channel and waits
 own_begun : (configuration : Configuration) (cores : List CoreState) (core : ℕ) (who : Who) (partition : Partition) (asked : Request) (process : Process) → conditions_of configuration (time_of cores core) who partition asked ≡ []
-    → (answer_of cores core who partition asked).out ≡ Out.Waits → IsBegun (time_of cores core) asked None process (wait_of asked None (time_of cores core) process)
+    → (answer_of configuration cores core who partition asked).out ≡ Out.Waits → IsBegun (time_of cores core) asked None process (wait_of asked None (time_of cores core) process)
 own_begun configuration cores core who partition (Request.Caller (CallerOperation.TimedWait (pos ticks))) process none waits = IsBegun.delay ticks refl refl
 own_begun configuration cores core who partition (Request.Caller (CallerOperation.TimedWait (negsuc n))) process none waits = cc
 own_begun configuration cores core who partition (Request.Caller CallerOperation.PeriodicWait) process none waits = IsBegun.release refl refl
@@ -89,6 +104,7 @@ own_begun configuration cores core who partition (Request.Process number Process
     let there = object_waits (created partition.table number) (process_status cores (peer who number)) waits in no_wait there.1
 own_begun configuration cores core who partition (Request.Caller CallerOperation.StopSelf) process none waits = let no : Out.Never ≡ Out.Waits = waits in cc
 own_begun configuration cores core who partition (Request.SetPartitionMode mode) process none waits = let no : Out.Never ≡ Out.Waits = waits in cc
+own_begun configuration cores core who partition (Request.Health operation) process none waits = absurd (health_no_wait configuration who.part partition who.proc operation waits)
 own_begun configuration cores core who partition _ process none waits = no_wait waits
 
 -- a call through a channel that waits
@@ -166,7 +182,7 @@ named_waits : (configuration : Configuration) (state : State) (core : ℕ) (who 
     → ClaimsOutcome configuration state core who asked claim conditions channel → (one : Who) → is_named one claim.woken ≡ true → OtherAwaited state.partitions one
 named_waits configuration state core who asked claim tied (condition ∷ conditions) channel has one named = nobody one claim.woken has.woken named
 named_waits configuration state core who asked claim tied [] None has one named =
-    (answer_wakes (OtherAwaited state.partitions) state.cores core who (state.partitions who.part) asked
+    (answer_wakes (OtherAwaited state.partitions) configuration state.cores core who (state.partitions who.part) asked
     (λ wanted used. tied_waits (λ home. home ≡ who.part) wanted state.partitions (entries_at (state.partitions who.part) wanted) (tied.objects who.part wanted))
     (peer_waits state.partitions who) (λ gives. tied_to_lock state.partitions who.part (tied.locks who.part)))
     one (sym (has.woken one) ∙ named)
@@ -201,7 +217,7 @@ start_names_nobody [] suited through claim has one named = true≢false (sym nam
 start_names_nobody (condition ∷ conditions) suited through claim has one named = nobody one claim.woken has.woken named
 
 not_started : (configuration : Configuration) (cores : List CoreState) (core : ℕ) (who : Who) (partition : Partition) (asked : Request) (suited : ℕ → Bool) (through : ℕ → Answer) (claim : Claim)
-    → HasOutcome (conditions_of configuration (time_of cores core) who partition asked) (channel_of partition asked) (answer_of cores core who partition asked) suited through claim
+    → HasOutcome (conditions_of configuration (time_of cores core) who partition asked) (channel_of partition asked) (answer_of configuration cores core who partition asked) suited through claim
     → (one : Who) → is_named one claim.woken ≡ true → (number : ℕ) → IsNotStarted asked number
 not_started configuration cores core who partition (Request.Process process ProcessOperation.Start) suited through claim has one named number =
     absurd (start_names_nobody (conditions_of configuration (time_of cores core) who partition (Request.Process process ProcessOperation.Start)) suited through claim has one named)
@@ -227,15 +243,9 @@ objects_are : (configuration : Configuration) (cores : List CoreState) (place co
     → ObjectsAre (partition_called configuration cores place core call partition) objects
 objects_are configuration cores place core call partition objects is =
     let same : objects_called configuration place call partition ≡ each_set (set_after place (Call call)) objects = ap (each_set (set_after place (Call call))) is in
-    ap (λ (one : Partition). emptied (record one { mode = objects.mode; has_handler = objects.has_handler; lock = objects.lock })) same ∙ emptied_same (set_after place (Call call)) objects
+    ap (λ (one : Partition). emptied (record one { mode = objects.mode; handler = objects.handler; errors = objects.errors; lock = objects.lock })) same ∙ emptied_same (set_after place (Call call)) objects
 
 -- what a call adds
-
--- a process that is not among these is found after them
-pub found_after : (table more : Table) (number : ℕ) → item_at table number ≡ None → item_at (table ++ more) number ≡ item_at more number
-found_after [] more number none = refl
-found_after (entry ∷ entries) more number none =
-    either_way (nat_eq number entry.0) (λ same. never_found (sym (rw same at none))) (λ other. rw other (found_after entries more number (rw other at none)))
 
 -- the process under a claimed number
 numbered_is : (claimed : Option ℤ) (process : Process) (number : ℕ)
@@ -307,10 +317,11 @@ call_is_the_sentence configuration state ordered call next above tied order step
     let channels = next_channel configuration state ordered next (Call call) step is in
     let change : ℕ → Process → Process = called place now period state.cores partition call in
     let more = created_by (first_core configuration part) call call.request in
+    let chosen_more = handles_more partition call.who.proc call.request in
     let sets : ℕ → Process → Process = adjusted place period state.cores partition call in
     let own : next.partitions part ≡ partition_called configuration state.cores place core call partition =
-    partitions part ∙ ap (λ test. cond test (own_partition (restart_of call) configuration state.cores place core call partition) (record partition { table = woken_table place part (message_of call.request) call.claim.woken table })) (is_itself part)
-    ∙ ap (λ one. own_partition one configuration state.cores place core call partition) no_restart in
+    partitions part ∙ ap (λ test. cond test (own_partition (restart_of configuration call) configuration state.cores place core call partition) (record partition { table = woken_table place part (message_of call.request) call.claim.woken table })) (is_itself part)
+    ∙ ap (λ one. own_partition one configuration state.cores place core call partition) (none_made configuration call no_restart) in
     let arrives : (number : ℕ) (old : Process) → item_at table number ≡ Some old → item_at (next.partitions part).table number ≡ Some (change number old) = λ number old at.
     ap (λ (one : Partition). item_at one.table number) own ∙ found_changed change table more number old at in
     let peer_at : (who : Who) → who.part ≡ part → who ≡ record { part = part; proc = who.proc } = λ who here. same_who who (record { part = part; proc = who.proc }) here refl in
@@ -326,21 +337,21 @@ call_is_the_sentence configuration state ordered call next above tied order step
     let wake_named : ℕ → ℕ → Process → Process = λ number other process. woken_if_named place (message_of call.request) call.claim.woken (record { part = number; proc = other }) process in
     let found_elsewhere : (who : Who) → ¬ (who.part ≡ part) → process_in next who ≡ item_at (each_item (wake_named who.part) (state.partitions who.part).table) who.proc = λ who there.
     ap (λ (one : Partition). item_at one.table who.proc) (partitions who.part)
-    ∙ ap (λ test. item_at (cond test (own_partition (restart_of call) configuration state.cores place core call (state.partitions who.part))
+    ∙ ap (λ test. item_at (cond test (own_partition (restart_of configuration call) configuration state.cores place core call (state.partitions who.part))
     (record (state.partitions who.part) { table = woken_table place who.part (message_of call.request) call.claim.woken (state.partitions who.part).table })).table who.proc) (foreign who.part there) in
     let caller = free_exists (process_in state call.who) law.due in
     record {
       caller = record {
         old = caller.0;
-        new = caller_after place now call (sets call.who.proc caller.0);
+        new = caller_after place now chosen_more call (sets call.who.proc caller.0);
         before = caller.1;
         after = arrives call.who.proc caller.0 caller.1
-            ∙ ap (λ test. Some (cond test (caller_after place now call (sets call.who.proc caller.0))
+            ∙ ap (λ test. Some (cond test (caller_after place now chosen_more call (sets call.who.proc caller.0))
             (cond (stops call (record { part = part; proc = call.who.proc })) (stopped (sets call.who.proc caller.0)) (woken_if_named place (message_of call.request) call.claim.woken (record { part = part; proc = call.who.proc }) (sets call.who.proc caller.0))))) (is_itself call.who.proc);
         change = record {
           set = sets call.who.proc caller.0;
           first = set_first configuration state place call call.who.proc caller.0 (above part);
-          second = (caller_is_the_sentence place now call (sets call.who.proc caller.0) (caller_after place now call (sets call.who.proc caller.0))
+          second = (caller_is_the_sentence place now partition call (sets call.who.proc caller.0) (caller_after place now chosen_more call (sets call.who.proc caller.0))
               (λ waits. begun configuration state core call law (sets call.who.proc caller.0) waits)).0 refl;
         };
       };
@@ -387,7 +398,16 @@ call_is_the_sentence configuration state ordered call next above tied order step
       elsewhere = λ who there not_named. found_elsewhere who there
           ∙ stays_each (wake_named who.part) (state.partitions who.part).table who.proc (λ one at. ap (λ test. cond test (woken_by place (message_of call.request) one) one) not_named);
       mode = ap (λ (one : Partition). one.mode) own;
-      handler = ap (λ (one : Partition). one.has_handler) own;
+      handler = (
+        λ done. subst (IsHandlerAfter configuration part call.request partition.handler) (sym (ap (λ (one : Partition). one.handler) own
+            ∙ ap (λ test. cond test (handler_by configuration part call.request partition.handler) partition.handler) done)) (handler_says configuration part call.request partition.handler),
+        λ not_so. ap (λ (one : Partition). one.handler) own ∙ ap (λ test. cond test (handler_by configuration part call.request partition.handler) partition.handler) not_so,
+      );
+      errors = (
+        λ done. subst (IsListAfter call.who.proc call.request partition) (sym (ap (λ (one : Partition). one.errors) own
+            ∙ ap (λ test. cond test (errors_by call.who.proc call.request partition) partition.errors) done)) (list_says call.who.proc call.request partition),
+        λ not_so. ap (λ (one : Partition). one.errors) own ∙ ap (λ test. cond test (errors_by call.who.proc call.request partition) partition.errors) not_so,
+      );
       lock = lock_says place call partition.lock (next.partitions part).lock (order_is_apart state.count partition.lock.waiters (order.locks part)) (ap (λ (one : Partition). one.lock) own);
       objects = (
         λ done. subst (λ one. ObjectsAre one (objects_by configuration call.who call.claim.val call.request partition)) (sym own)

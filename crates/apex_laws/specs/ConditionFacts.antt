@@ -3,7 +3,7 @@ use Rattle.std.specs.Prelude.{◌≡◌, ℕ, List, [], ◌∷◌, true, false, 
 use Rattle.apex_types.specs.declared.discipline.Discipline.TheVariants as discipline
 use Rattle.apex_types.specs.declared.object_kind.NamedKind.TheVariants as named
 use Rattle.apex_types.specs.declared.record.Who.{Who}
-use Rattle.apex_types.specs.declared.operation.{BlackboardOperation.BlackboardOperation, BufferOperation.BufferOperation, CallerOperation.CallerOperation, EventOperation.EventOperation, LockOperation.LockOperation, MutexOperation.MutexOperation, NewObject.NewObject, ProcessOperation.ProcessOperation, QueuingOperation.QueuingOperation, SamplingOperation.SamplingOperation, SemaphoreOperation.SemaphoreOperation}
+use Rattle.apex_types.specs.declared.operation.{BlackboardOperation.BlackboardOperation, BufferOperation.BufferOperation, CallerOperation.CallerOperation, EventOperation.EventOperation, HealthOperation.HealthOperation, LockOperation.LockOperation, MutexOperation.MutexOperation, NewObject.NewObject, ProcessOperation.ProcessOperation, QueuingOperation.QueuingOperation, SamplingOperation.SamplingOperation, SemaphoreOperation.SemaphoreOperation}
 use Rattle.apex_types.specs.declared.request.Request.{Request}
 use Rattle.apex_types.specs.declared.operation.ObjectOperation.TheVariants as on
 use Rattle.apex_types.specs.declared.request.Request.TheVariants as request
@@ -36,6 +36,15 @@ furnished = played one_partition (aperiodic 0 (codes "A") (pos 1) (pos 10)
 -- processes 1 and 2 are started, and the partition is in NORMAL
 abbrev pub at_work : State
 at_work = play one_partition furnished (start 0 (pos 1) ∷ start 0 (pos 2) ∷ normal 0 ∷ [])
+
+-- the initialising process has created an error handler
+abbrev pub with_handler : State
+with_handler = play one_partition furnished (does initialiser (request.Health HealthOperation.CreateHandler) ∷ [])
+
+-- process 1 has raised an error, which the handler is to take
+abbrev pub in_error : State
+in_error = play one_partition with_handler (start 0 (pos 1) ∷ start 0 (pos 2) ∷ normal 0
+    ∷ does one (request.Health (HealthOperation.RaiseError (pos 1) (pos 2) (7 ∷ 8 ∷ []))) ∷ [])
 
 -- process 1 owns the mutex
 abbrev pub owning : State
@@ -185,11 +194,24 @@ pub record ConditionFacts : Type 0 where
   pub budget_below : conditions_told at_work two (request.Caller (CallerOperation.Replenish (negsuc 4))) ≡ condition.BudgetOutOfRange ∷ []
   -- names, reports and the error handler
   pub no_such_process : conditions_told at_work one (request.GetId named.Process (codes "D")) ≡ condition.NoSuchName ∷ []
-  pub may_report_nothing : conditions_told at_work one (request.ReportMessage (pos 0) []) ≡ []
-  pub reports_too_much : conditions_told at_work one (request.ReportMessage (pos 129) []) ≡ condition.LengthOutOfRange ∷ []
-  pub may_have_handler : conditions_told furnished initialiser request.CreateErrorHandler ≡ []
-  pub no_handler_in_normal : conditions_told at_work one request.CreateErrorHandler ≡ condition.InNormal ∷ []
-  pub one_handler : conditions_told (play one_partition furnished (does initialiser request.CreateErrorHandler ∷ [])) initialiser request.CreateErrorHandler ≡ condition.HandlerCreated ∷ []
+  pub may_report_nothing : conditions_told at_work one (request.Health (HealthOperation.ReportMessage (pos 0) [])) ≡ []
+  pub reports_too_much : conditions_told at_work one (request.Health (HealthOperation.ReportMessage (pos 129) [])) ≡ condition.LengthOutOfRange ∷ []
+  pub may_have_handler : conditions_told furnished initialiser (request.Health HealthOperation.CreateHandler) ≡ []
+  pub no_handler_in_normal : conditions_told at_work one (request.Health HealthOperation.CreateHandler) ≡ condition.InNormal ∷ []
+  pub one_handler : conditions_told with_handler initialiser (request.Health HealthOperation.CreateHandler) ≡ condition.HandlerCreated ∷ []
+  pub may_configure_handler : conditions_told with_handler initialiser (request.Health (HealthOperation.ConfigureHandler (pos 1) (pos 0))) ≡ []
+  pub no_handler_to_configure : conditions_told furnished initialiser (request.Health (HealthOperation.ConfigureHandler (pos 0) (pos 0))) ≡ condition.NoHandler ∷ []
+  pub no_concurrency : conditions_told with_handler initialiser (request.Health (HealthOperation.ConfigureHandler (pos 2) (pos 0))) ≡ condition.ConcurrencyOutOfRange ∷ []
+  pub concurrency_below : conditions_told with_handler initialiser (request.Health (HealthOperation.ConfigureHandler (negsuc 0) (pos 0))) ≡ condition.ConcurrencyOutOfRange ∷ []
+  pub core_of_no_partition : conditions_told with_handler initialiser (request.Health (HealthOperation.ConfigureHandler (pos 0) (pos 1))) ≡ condition.HandlerCoreNotOfPartition ∷ []
+  pub not_configured_in_normal : conditions_told in_error two (request.Health (HealthOperation.ConfigureHandler (pos 0) (pos 0))) ≡ condition.InNormal ∷ []
+  -- errors that are raised and taken: in NORMAL, process 0 is the handler
+  pub may_raise : conditions_told at_work one (request.Health (HealthOperation.RaiseError (pos 1) (pos 0) [])) ≡ []
+  pub raises_another : conditions_told at_work one (request.Health (HealthOperation.RaiseError (pos 2) (pos 0) [])) ≡ condition.ErrorNotOfApplication ∷ []
+  pub raises_too_much : conditions_told at_work one (request.Health (HealthOperation.RaiseError (pos 1) (pos 129) [])) ≡ condition.LengthOutOfRange ∷ []
+  pub may_take_error : conditions_told in_error initialiser (request.Health HealthOperation.GetErrorStatus) ≡ []
+  pub no_error_is_left : conditions_told (play one_partition with_handler (normal 0 ∷ [])) initialiser (request.Health HealthOperation.GetErrorStatus) ≡ condition.NoErrorListed ∷ []
+  pub others_take_none : conditions_told in_error two (request.Health HealthOperation.GetErrorStatus) ≡ condition.NotHandler ∷ []
   -- ports
   pub sampling_as_configured : conditions_at_first 1 (request.Create (codes "S") (NewObject.SamplingPort (pos 4) (pos 1) (pos 5))) ≡ []
   pub other_refresh : conditions_at_first 1 (request.Create (codes "S") (NewObject.SamplingPort (pos 4) (pos 1) (pos 6))) ≡ condition.NotAsConfigured ∷ []
@@ -223,6 +245,7 @@ pub record ConditionFacts : Type 0 where
   pub owner_is_not_stopped : in_profile two (owning.partitions 0) (request.Process (pos 1) ProcessOperation.Stop) ≡ false
   pub who_wants_it_may_be_stopped : in_profile one (wanting.partitions 0) (request.Process (pos 2) ProcessOperation.Stop) ≡ true
   pub initialiser_stays : in_profile initialiser (furnished.partitions 0) (request.Caller CallerOperation.StopSelf) ≡ false
+  pub handler_may_stop_itself : in_profile initialiser (in_error.partitions 0) (request.Caller CallerOperation.StopSelf) ≡ true
   pub may_stop_itself : in_profile one (at_work.partitions 0) (request.Caller CallerOperation.StopSelf) ≡ true
   pub restart_is_inside : in_profile one (at_work.partitions 0) (request.SetPartitionMode (pos 2)) ≡ true
   pub normal_mode : in_profile initialiser (furnished.partitions 0) (request.SetPartitionMode (pos 3)) ≡ true

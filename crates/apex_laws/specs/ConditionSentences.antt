@@ -1,6 +1,6 @@
 -- The error conditions of the services, in sentences: one case for each condition of each service, with what holds in the caller's
 -- partition. Services that share a condition share its case.
-use Rattle.std.specs.Prelude.{◌≡◌, ◌⊎◌, ℕ, ◌*◌, ◌-◌, ◌<◌, ◌≤◌, ℤ, pos, negsuc, ◌<ℤ◌, ◌≤ℤ◌, List, length, Option, Some, IsTrue, IsFalse, Contains}
+use Rattle.std.specs.Prelude.{◌≡◌, ◌⊎◌, ℕ, ◌*◌, ◌-◌, ◌<◌, ◌≤◌, ℤ, pos, negsuc, ◌<ℤ◌, ◌≤ℤ◌, List, [], length, Option, Some, None, IsTrue, IsFalse, Contains}
 use Rattle.apex_types.specs.declared.limits.TheConstants.{GREATEST_LOCK_LEVEL, GREATEST_MAXIMUM, GREATEST_PRIORITY, LONGEST_MESSAGE, LONGEST_REPORT, MOST_MESSAGES}
 use Rattle.apex_types.specs.declared.discipline.Discipline.{Discipline}
 use Rattle.apex_types.specs.declared.discipline.Discipline.TheVariants as discipline
@@ -9,7 +9,7 @@ use Rattle.apex_types.specs.declared.object_kind.NamedKind.TheVariants as named
 use Rattle.apex_types.specs.declared.object_kind.ObjectKind.{ObjectKind}
 use Rattle.apex_types.specs.declared.object_kind.ObjectKind.TheVariants as kind
 use Rattle.apex_types.specs.declared.record.Who.{Who}
-use Rattle.apex_types.specs.declared.operation.{BlackboardOperation.BlackboardOperation, BufferOperation.BufferOperation, CallerOperation.CallerOperation, EventOperation.EventOperation, LockOperation.LockOperation, MutexOperation.MutexOperation, NewObject.NewObject, ProcessOperation.ProcessOperation, QueuingOperation.QueuingOperation, SamplingOperation.SamplingOperation, SemaphoreOperation.SemaphoreOperation}
+use Rattle.apex_types.specs.declared.operation.{BlackboardOperation.BlackboardOperation, BufferOperation.BufferOperation, CallerOperation.CallerOperation, EventOperation.EventOperation, HealthOperation.HealthOperation, LockOperation.LockOperation, MutexOperation.MutexOperation, NewObject.NewObject, ProcessOperation.ProcessOperation, QueuingOperation.QueuingOperation, SamplingOperation.SamplingOperation, SemaphoreOperation.SemaphoreOperation}
 use Rattle.apex_types.specs.declared.request.Request.{Request}
 use Rattle.apex_types.specs.declared.operation.ObjectOperation.TheVariants as on
 use Rattle.apex_types.specs.declared.request.Request.TheVariants as request
@@ -25,7 +25,9 @@ use Rattle.apex_machine.specs.Channels.{QueuingPort, SamplingPort, queuing_port,
 use Rattle.apex_machine.specs.Configuration.{Configuration, PartitionLimits, limits_of, object_limit, period_of, process_limit}
 use Rattle.apex_machine.specs.DueTimes.{next_release}
 use Rattle.apex_machine.specs.State.{Blackboard, Buffer, Mutex, Partition, Port, item_at, name_in, objects_of}
+use Rattle.apex_machine.specs.declared.state.ErrorHandler.{ErrorHandler}
 use Rattle.apex_laws.specs.DeadlineSentences.{EndsAfter}
+use Rattle.apex_laws.specs.ErrorSentences.{IsByHandler}
 
 -- the numbers that a caller gives
 
@@ -189,12 +191,13 @@ HasTimeOut (request.Caller (CallerOperation.SuspendSelf given)) time_out = time_
 HasTimeOut (request.Object mutex (on.Mutex (MutexOperation.Acquire given))) time_out = time_out ≡ given
 HasTimeOut asked time_out = WaitsFor asked time_out
 
--- a service that sets a partition up: a creation, also of an error handler, or INITIALIZE_PROCESS_CORE_AFFINITY
+-- a service that sets a partition up: a creation, also of an error handler, CONFIGURE_ERROR_HANDLER or INITIALIZE_PROCESS_CORE_AFFINITY
 abbrev pub IsSetUp : Request → Type 0
 IsSetUp (request.CreateProcess name priority period time_capacity) = Unit {0}
 IsSetUp (request.Process process (ProcessOperation.InitializeCoreAffinity core)) = Unit {0}
 IsSetUp (request.Create name object) = Unit {0}
-IsSetUp request.CreateErrorHandler = Unit {0}
+IsSetUp (request.Health HealthOperation.CreateHandler) = Unit {0}
+IsSetUp (request.Health (HealthOperation.ConfigureHandler concurrency core)) = Unit {0}
 IsSetUp _ = ⊥
 
 -- the name is taken in the kind that a service creates
@@ -352,9 +355,22 @@ module _ (configuration : Configuration) (now : ℕ) (who : Who) (partition : Pa
     -- GET_PROCESS_ID, GET_BUFFER_ID and its counterparts: no process, or nothing of the kind, has the name
     get_id_unnamed : {of : NamedKind} {name : List ℕ} → ¬ OneHasName partition of name → HasCondition (request.GetId of name) condition.NoSuchName
     -- REPORT_APPLICATION_MESSAGE: a length that is not 0 to 128 bytes
-    report_length : {length : ℤ} {message : List ℕ} → ¬ IsFrom (pos 0) (pos LONGEST_REPORT) length → HasCondition (request.ReportMessage length message) condition.LengthOutOfRange
+    report_length : {length : ℤ} {message : List ℕ} → ¬ IsFrom (pos 0) (pos LONGEST_REPORT) length → HasCondition (request.Health (HealthOperation.ReportMessage length message)) condition.LengthOutOfRange
     -- CREATE_ERROR_HANDLER: a handler that is created already
-    handler_created : IsTrue partition.has_handler → HasCondition request.CreateErrorHandler condition.HandlerCreated
+    handler_created : (handler : ErrorHandler) → partition.handler ≡ Some handler → HasCondition (request.Health HealthOperation.CreateHandler) condition.HandlerCreated
+    -- CONFIGURE_ERROR_HANDLER: no handler that is created; a concurrency that is neither 0 nor 1; a core that is not the partition's
+    configure_none : {concurrency core : ℤ} → partition.handler ≡ None → HasCondition (request.Health (HealthOperation.ConfigureHandler concurrency core)) condition.NoHandler
+    configure_concurrency : {concurrency core : ℤ} → ¬ IsFrom (pos 0) (pos 1) concurrency
+        → HasCondition (request.Health (HealthOperation.ConfigureHandler concurrency core)) condition.ConcurrencyOutOfRange
+    configure_core : {concurrency core : ℤ} → ¬ IsCoreOf configuration who.part core
+        → HasCondition (request.Health (HealthOperation.ConfigureHandler concurrency core)) condition.HandlerCoreNotOfPartition
+    -- RAISE_APPLICATION_ERROR: a number that is not that of APPLICATION_ERROR; a length that is not 0 to 128 bytes
+    raise_other : {given length : ℤ} {message : List ℕ} → ¬ (given ≡ pos 1) → HasCondition (request.Health (HealthOperation.RaiseError given length message)) condition.ErrorNotOfApplication
+    raise_length : {given length : ℤ} {message : List ℕ} → ¬ IsFrom (pos 0) (pos LONGEST_REPORT) length
+        → HasCondition (request.Health (HealthOperation.RaiseError given length message)) condition.LengthOutOfRange
+    -- GET_ERROR_STATUS: a caller that is not the error handler; no error in the list
+    status_not_handler : ¬ IsByHandler partition who.proc → HasCondition (request.Health HealthOperation.GetErrorStatus) condition.NotHandler
+    status_none : partition.errors ≡ [] → HasCondition (request.Health HealthOperation.GetErrorStatus) condition.NoErrorListed
     -- LOCK_PREEMPTION: a mode other than NORMAL; the initialising process; the owner of the lock at level 16; the owner of a mutex
     lock_before_normal : ¬ (partition.mode ≡ mode.Normal) → HasCondition (request.Preemption LockOperation.Lock) condition.NotNormal
     lock_initialising : who.proc ≡ 0 → HasCondition (request.Preemption LockOperation.Lock) condition.NotForInitialising

@@ -50,7 +50,3 @@ pub record HasMissed (core now : ℕ) (process : Process) : Type 0 where
   pub deadline : ℕ
   pub set : process.deadline ≡ Some deadline
   pub reached : deadline ≤ now
-
--- the report of a missed deadline takes the deadline away
-abbrev pub IsReported : Process → Process → Type 0
-IsReported old new = new ≡ record old { deadline = None }

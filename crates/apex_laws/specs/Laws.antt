@@ -8,10 +8,11 @@ use Rattle.apex_machine.specs.declared.state.Direction.{Direction}
 use Rattle.apex_machine.specs.declared.state.Direction.TheVariants as direction
 use Rattle.apex_machine.specs.declared.state.Entry.{Entry}
 use Rattle.apex_machine.specs.declared.state.Process.{Process}
+use Rattle.apex_machine.specs.declared.state.Wait.TheVariants as wait
 use Rattle.apex_machine.specs.declared.state.WaitingSet.{WaitingSet}
 pub use Rattle.apex_machine.specs.Channels.{EndsAreApart}
 use Rattle.apex_machine.specs.Channels.{is_receiver, is_sender, queuing_of}
-use Rattle.apex_machine.specs.Choice.{IsChosen, IsChosenUnder, IsReady, choice_under, foremost, ready_entries}
+use Rattle.apex_machine.specs.Choice.{IsChosen, IsChosenIn, IsChosenUnder, IsReady, choice_under, foremost, partition_choice, ready_entries}
 use Rattle.apex_machine.specs.Configuration.{Configuration}
 pub use Rattle.apex_machine.specs.Configuration.{WindowsAreConfigured}
 use Rattle.apex_machine.specs.Demands.{LocalStep, has_entry_in}
@@ -33,6 +34,10 @@ are_distinct (entry ∷ entries) = not (is_some (item_at entries entry.0)) && ar
 -- the numbers of every table are distinct
 abbrev pub AreDistinct : State → Type 0
 AreDistinct state = (number : ℕ) → IsTrue (are_distinct (state.partitions number).table)
+
+-- each dormant process of a table waits for nothing
+abbrev pub DormantWaitNot : Table → Type 0
+DormantWaitNot table = (number : ℕ) (process : Process) → item_at table number ≡ Some process → IsFalse process.alive → process.wait ≡ wait.Nothing
 
 -- a fact about each entry of a waiting set
 abbrev pub AllEntries : (Entry → Type 0) → List Entry → Type 0
@@ -69,7 +74,7 @@ IsTiedToLock number partitions entry = (entry.who.part ≡ number) × IsTrue (wa
 
 -- the tie: numbers are distinct; a process with an entry in a waiting set of a partition is of that partition, a process with an entry in a
 -- channel's set is of the partition at that end, and each of them waits in the set; a process with an entry in the set of a lock is of the
--- lock's partition, and waits for the lock; each queuing port is at its end of its channel
+-- lock's partition, and waits for the lock; each queuing port is at its end of its channel; no dormant process waits
 pub record AreTied (configuration : Configuration) (state : State) : Type 0 where
   pub distinct : AreDistinct state
   pub objects : (number : ℕ) (wanted : WaitingSet) → AllEntries (IsTied (λ home. home ≡ number) wanted state.partitions) (entries_at (state.partitions number) wanted)
@@ -77,6 +82,7 @@ pub record AreTied (configuration : Configuration) (state : State) : Type 0 wher
   pub senders : (number : ℕ) → AllEntries (IsTied (λ home. IsTrue (is_sender configuration number home)) (channel_set number Senders) state.partitions) (state.channels number).senders
   pub receivers : (number : ℕ) → AllEntries (IsTied (λ home. IsTrue (is_receiver configuration number home)) (channel_set number Receivers) state.partitions) (state.channels number).receivers
   pub ports : (number : ℕ) → AllPorts (λ port. IsAtEnd configuration number port.direction port.channel) (state.partitions number).queuing_ports
+  pub dormant : (number : ℕ) → DormantWaitNot (state.partitions number).table
 
 -- the cold state is tied, a step keeps a state tied, and so does a run
 abbrev pub StaysTied : Type 0
@@ -230,7 +236,8 @@ ViewIsOfTheRun =
 -- the choice
 
 -- the choice among all is the ready process that no other goes before, or none if no process is ready; with an owner of the lock, it is the
--- owner if that one is ready, else the choice among all
+-- owner if that one is ready, else the choice among all; in a partition, it is the handler where that is ready, none where the cores stand
+-- still, else the choice under the lock
 abbrev pub ChoiceIsTheSentence : Type 0
 ChoiceIsTheSentence =
     (core : ℕ) (table : Table) → IsTrue (are_distinct table)
@@ -239,3 +246,5 @@ ChoiceIsTheSentence =
     × ((number : ℕ) (owner : Option ℕ) (entry : ℕ × Process) → Contains table entry
     → (choice_under number core owner table ≡ Some (record { part = number; proc = entry.0 })) ↔ IsChosenUnder core owner table entry)
     × ((number : ℕ) (owner : Option ℕ) → (choice_under number core owner table ≡ None) ↔ ((entry : ℕ × Process) → Contains table entry → ¬ IsReady core entry.1))
+    × ((number : ℕ) (partition : Partition) (entry : ℕ × Process) → IsTrue (are_distinct partition.table) → Contains partition.table entry
+    → (partition_choice number core partition ≡ Some (record { part = number; proc = entry.0 })) ↔ IsChosenIn core partition entry)

@@ -8,6 +8,7 @@ pub mod ObjectSentences
 pub mod CallSentences
 pub mod ObjectLaws
 pub mod DeadlineSentences
+pub mod ErrorSentences
 pub mod ProcessSentences
 pub mod ProcessLaws
 pub mod Worked

@@ -119,4 +119,4 @@ abbrev pub ObjectCallIsTheSentence : Type 0
 ObjectCallIsTheSentence =
     (configuration : Configuration) (cores : List CoreState) (core now : ℕ) (who : Who) (claimed : Option ℤ) (asked : Request) (partition : Partition)
     → ((wanted : WaitingSet) → AreApart (entries_at partition wanted)) → conditions_of configuration now who partition asked ≡ []
-    → IsObjectCall configuration who claimed asked partition (answer_of cores core who partition asked) (objects_by configuration who claimed asked partition)
+    → IsObjectCall configuration who claimed asked partition (answer_of configuration cores core who partition asked) (objects_by configuration who claimed asked partition)

@@ -16,7 +16,7 @@ use Rattle.apex_types.specs.declared.request.Request.TheVariants as request
 use Rattle.apex_types.specs.Shapes.{kind_used}
 use Rattle.apex_machine.specs.declared.state.CoreState.{CoreState}
 use Rattle.apex_machine.specs.declared.state.WaitingSet.{WaitingSet}
-use Rattle.apex_machine.specs.After.{is_done, lock_called, partition_after, partition_by}
+use Rattle.apex_machine.specs.After.{is_done, lock_called, partition_after, partition_by, restart_told}
 use Rattle.apex_machine.specs.Arguments.{natural_of}
 use Rattle.apex_machine.specs.Configuration.{Configuration}
 use Rattle.apex_machine.specs.Demands.{AllHold, IsRunning, own_call_demands, partition_demands, has_entry_in}
@@ -26,8 +26,8 @@ use Rattle.apex_machine.specs.Pieces.{stops_some}
 use Rattle.apex_machine.specs.Ports.{channel_of}
 use Rattle.apex_machine.specs.Services.{answer_of}
 use Rattle.apex_machine.specs.State.{Partition, cold_partition, is_named, is_of_channel, is_of_object, item_at, objects_of}
-use Rattle.apex_machine.specs.Waiting.{enters, entry_of, is_no_error, restart_of, set_after, stop_of, waits_at, without}
-use Rattle.apex_laws.specs.Laws.{AllEntries, IsInOrder, are_distinct, entries_at}
+use Rattle.apex_machine.specs.Waiting.{enters, entry_of, is_no_error, is_restart, set_after, stop_of, waits_at, without}
+use Rattle.apex_laws.specs.Laws.{AllEntries, DormantWaitNot, IsInOrder, are_distinct, entries_at}
 
 -- a sound partition
 
@@ -45,7 +45,7 @@ pub record IsSoundLock (number place : ℕ) (partition : Partition) : Type 0 whe
 
 -- a partition's waiting sets are sound before this place: numbers are distinct; each process with an entry in one of the sets is of this
 -- partition and waits in the set; every set is in order; each process that waits in a set of one of the partition's objects has an entry in
--- it; and the set of the lock is sound
+-- it; no dormant process waits; and the set of the lock is sound
 pub record IsSoundPart (number place : ℕ) (partition : Partition) : Type 0 where
   pub distinct : IsTrue (are_distinct partition.table)
   pub objects : HasDistinctObjects partition
@@ -54,6 +54,7 @@ pub record IsSoundPart (number place : ℕ) (partition : Partition) : Type 0 whe
   pub order : (wanted : WaitingSet) → IsInOrder place (entries_at partition wanted)
   pub waiters : (wanted : WaitingSet) (process : ℕ) → IsFalse (is_of_channel wanted) → IsTrue (waits_at wanted (item_at partition.table process))
       → IsTrue (has_entry_in (record { part = number; proc = process }) (entries_at partition wanted))
+  pub dormant : DormantWaitNot partition.table
   pub lock : IsSoundLock number place partition
 
 -- the cold partition is sound; a record whose demands hold keeps a partition sound; and a sound partition is sound before every
@@ -110,7 +111,7 @@ OtherSetsStay =
 abbrev pub OnlyDoneLetsGo : Type 0
 OnlyDoneLetsGo =
     (configuration : Configuration) (number place core : ℕ) (cores : List CoreState) (partition : Partition) (call : CallRecord)
-    → IsOwnCall configuration number place core cores partition call → IsFalse (is_no_error call.claim.out) → restart_of call ≡ None
+    → IsOwnCall configuration number place core cores partition call → IsFalse (is_no_error call.claim.out) → IsFalse (is_restart call)
     → (wanted : WaitingSet) → set_after place (Call call) wanted (entries_at partition wanted)
     ≡ (if enters call wanted then entries_at partition wanted ++ entry_of place call ∷ [] else entries_at partition wanted)
 
@@ -122,7 +123,7 @@ LetsGoAsAnswered =
     → IsOwnCall configuration number place core cores partition call → IsTrue (is_no_error call.claim.out) → stop_of call.request ≡ None
     → channel_of partition call.request ≡ None
     → (wanted : WaitingSet) → set_after place (Call call) wanted (entries_at partition wanted)
-    ≡ without (λ who. is_named who (answer_of cores core call.who partition call.request).woken) (entries_at partition wanted)
+    ≡ without (λ who. is_named who (answer_of configuration cores core call.who partition call.request).woken) (entries_at partition wanted)
 
 -- the lock
 
@@ -130,7 +131,7 @@ LetsGoAsAnswered =
 abbrev pub OtherCallsLeaveLock : Type 0
 OtherCallsLeaveLock =
     (configuration : Configuration) (number place core : ℕ) (cores : List CoreState) (partition : Partition) (call : CallRecord)
-    → IsOwnCall configuration number place core cores partition call → IsFalse (is_of_lock call.request) → IsFalse (stops_one call.request) → restart_of call ≡ None
+    → IsOwnCall configuration number place core cores partition call → IsFalse (is_of_lock call.request) → IsFalse (stops_one call.request) → IsFalse (is_restart call)
     → lock_called place call partition.lock ≡ partition.lock
 
 -- an own call that is not done leaves the lock unchanged
@@ -156,8 +157,12 @@ DueLeave =
 abbrev pub OnlyProcessesChange : Partition → Partition → Type 0
 OnlyProcessesChange before after = after ≡ record before { table = after.table }
 
--- calls of other partitions, arrivals, departures, returns, dispatches and errors leave a partition's objects, waiting sets and ports
--- unchanged; a dispatch leaves everything unchanged
+-- a partition is as before except for its processes and its listed errors
+abbrev pub OnlyErrorsChange : Partition → Partition → Type 0
+OnlyErrorsChange before after = after ≡ record before { table = after.table; errors = after.errors }
+
+-- calls of other partitions, arrivals, departures, returns, dispatches and errors that restart no partition leave a partition's objects,
+-- waiting sets and ports unchanged; a dispatch leaves everything unchanged
 abbrev pub ForeignCallsLeaveSets : Type 0
 ForeignCallsLeaveSets =
     (configuration : Configuration) (cores : List CoreState) (place core number : ℕ) (partition : Partition)
@@ -166,4 +171,4 @@ ForeignCallsLeaveSets =
     × ((crossing : Crossing) → OnlyProcessesChange partition (partition_by configuration cores place core number (Depart crossing) partition))
     × ((ret : Return) → OnlyProcessesChange partition (partition_by configuration cores place core number (Ret ret) partition))
     × ((who : Option Who) → partition_by configuration cores place core number (Disp who) partition ≡ partition)
-    × ((report : ErrorReport) → OnlyProcessesChange partition (partition_by configuration cores place core number (Error report) partition))
+    × ((report : ErrorReport) → restart_told configuration report ≡ None → OnlyErrorsChange partition (partition_by configuration cores place core number (Error report) partition))

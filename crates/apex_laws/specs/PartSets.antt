@@ -9,7 +9,7 @@ use Rattle.apex_machine.specs.declared.state.Process.{Process}
 use Rattle.apex_machine.specs.declared.state.WaitingSet.{WaitingSet}
 use Rattle.apex_machine.specs.After.{each_set, sets_left}
 use Rattle.apex_machine.specs.State.{Partition, Table, is_named, item_at}
-use Rattle.apex_machine.specs.Waiting.{enters, entry_of, restart_of, set_after, stop_of, without}
+use Rattle.apex_machine.specs.Waiting.{enters, entry_of, is_restart, set_after, stop_of, without}
 use Rattle.apex_laws.specs.Laws.{entries_at}
 use Rattle.apex_laws.specs.PartLaws.{IsSoundPart}
 use Rattle.apex_laws.specs.PartObjects.{left_by, without_one}
@@ -20,7 +20,7 @@ use Rattle.apex_laws.specs.PartObjects.{left_by, without_one}
 -- end, if it waits in that set
 abbrev pub NamedLeave : Type 0
 NamedLeave =
-    (place : ℕ) (call : CallRecord) (wanted : WaitingSet) (entries : List Entry) → stop_of call.request ≡ None → restart_of call ≡ None
+    (place : ℕ) (call : CallRecord) (wanted : WaitingSet) (entries : List Entry) → stop_of call.request ≡ None → IsFalse (is_restart call)
     → (IsTrue (enters call wanted)
     → set_after place (Call call) wanted entries ≡ without (λ who. is_named who call.claim.woken) entries ++ entry_of place call ∷ [])
     × (IsFalse (enters call wanted) → set_after place (Call call) wanted entries ≡ without (λ who. is_named who call.claim.woken) entries)

@@ -9,6 +9,8 @@ use Rattle.apex_machine.specs.Processes.{caller_after, new_process, released, se
 use Rattle.apex_types.specs.declared.record.Who.{Who}
 use Rattle.apex_machine.specs.Answer.{Answer}
 use Rattle.apex_machine.specs.Arguments.{capacity_given, natural_of, period_given}
+use Rattle.apex_machine.specs.Configuration.{Configuration}
+use Rattle.apex_machine.specs.Errors.{handles_more}
 use Rattle.apex_machine.specs.Services.{answer_of}
 use Rattle.apex_machine.specs.Deadlines.{deadline_from, is_missed, some_missed}
 use Rattle.apex_machine.specs.State.{Partition, Table}
@@ -43,9 +45,9 @@ StoppingIsTheSentence = (old new : Process) → (new ≡ stopped old) ↔ IsStop
 -- a caller, if a call that waits has something to wait for
 abbrev pub CallerIsTheSentence : Type 0
 CallerIsTheSentence =
-    (place now : ℕ) (call : CallRecord) (old new : Process)
+    (place now : ℕ) (partition : Partition) (call : CallRecord) (old new : Process)
     → (IsTrue (is_waiting call.claim.out) → IsBegun now call.request call.claim.chan old (wait_of call.request call.claim.chan now old))
-    → (new ≡ caller_after place now call old) ↔ IsCaller place now call old new
+    → (new ≡ caller_after place now (handles_more partition call.who.proc call.request) call old) ↔ IsCaller place now partition call old new
 
 -- a created process
 abbrev pub CreationIsTheSentence : Type 0
@@ -56,8 +58,8 @@ CreationIsTheSentence =
 -- what the services of process management and time give
 abbrev pub AnswerIsTheSentence : Type 0
 AnswerIsTheSentence =
-    (cores : List CoreState) (core : ℕ) (who : Who) (partition : Partition) (asked : Request) (answer : Answer)
-    → (answer ≡ answer_of cores core who partition asked) ↔ IsAnswer cores core who partition asked answer
+    (configuration : Configuration) (cores : List CoreState) (core : ℕ) (who : Who) (partition : Partition) (asked : Request) (answer : Answer)
+    → (answer ≡ answer_of configuration cores core who partition asked) ↔ IsAnswer configuration cores core who partition asked answer
 
 -- the deadline that a time capacity or a budget sets, if it counts from a time
 abbrev pub DeadlineIsTheSentence : Type 0

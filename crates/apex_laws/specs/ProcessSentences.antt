@@ -5,7 +5,7 @@ use Rattle.apex_types.specs.declared.code.Code.TheVariants as code
 use Rattle.apex_types.specs.declared.record.Call.{Call as CallRecord}
 use Rattle.apex_types.specs.declared.record.Out.TheVariants as out
 use Rattle.apex_types.specs.declared.record.Who.{Who}
-use Rattle.apex_types.specs.declared.operation.{CallerOperation.CallerOperation, LockOperation.LockOperation, MutexOperation.MutexOperation, ProcessOperation.ProcessOperation}
+use Rattle.apex_types.specs.declared.operation.{CallerOperation.CallerOperation, HealthOperation.HealthOperation, LockOperation.LockOperation, MutexOperation.MutexOperation, ProcessOperation.ProcessOperation}
 use Rattle.apex_types.specs.declared.request.Request.{Request}
 use Rattle.apex_types.specs.declared.operation.ObjectOperation.TheVariants as on
 use Rattle.apex_types.specs.declared.request.Request.TheVariants as request
@@ -23,6 +23,7 @@ use Rattle.apex_machine.specs.declared.state.WaitingSet.{WaitingSet}
 use Rattle.apex_machine.specs.DueTimes.{due_of_call, due_time, next_release, time_out_of}
 use Rattle.apex_machine.specs.Arguments.{natural_of}
 use Rattle.apex_machine.specs.Choice.{IsReady}
+use Rattle.apex_machine.specs.Configuration.{Configuration}
 use Rattle.apex_machine.specs.Objects.{acquired, handed_on, mutex_released}
 use Rattle.apex_machine.specs.Processes.{outcome_of, owed}
 use Rattle.apex_machine.specs.Answer.{Answer, NewNumber, Number, done, done_with, never, never_waking, waiting, waking}
@@ -35,6 +36,7 @@ use Rattle.apex_machine.specs.State.{Lock, Mutex, Partition, created, given_obje
 use Rattle.apex_machine.specs.Waiting.{first_waiter, service_at, set_of}
 pub use Rattle.apex_laws.specs.DeadlineSentences.{IsFirstRelease}
 use Rattle.apex_laws.specs.DeadlineSentences.{IsDeadlineAfter, IsEntryDeadline}
+use Rattle.apex_laws.specs.ErrorSentences.{HasMoreErrors, IsAfterError, IsHealthAnswer, IsSetByStop}
 
 -- releases and entry into NORMAL
 
@@ -108,6 +110,11 @@ IsSetBy place period cores partition caller (request.Object mutex (on.Mutex Mute
     IsMutexChange (given_object partition.mutexes mutex) (λ found. (mutex_released (first_waiter found.discipline found.waiters) found).next) number old new
 IsSetBy place period cores partition caller (request.Object mutex (on.Mutex (MutexOperation.Reset process))) number old new =
     IsMutexChange (given_object partition.mutexes mutex) (λ found. (handed_on (first_waiter found.discipline found.waiters) found).next) number old new
+-- RAISE_APPLICATION_ERROR is an error of its caller
+IsSetBy place period cores partition caller (request.Health (HealthOperation.RaiseError error length message)) number old new =
+    IsAfterError place partition caller number old new
+-- STOP_SELF of the error handler ends its work on the errors that are no longer listed
+IsSetBy place period cores partition caller (request.Caller CallerOperation.StopSelf) number old new = IsSetByStop place partition caller number old new
 -- any other service sets nothing
 IsSetBy place period cores partition caller _ number old new = new ≡ old
 
@@ -165,9 +172,9 @@ WaitsForOther (wait.At set due) = Unit {0}
 WaitsForOther wait.ForLock = Unit {0}
 WaitsForOther _ = ⊥
 
--- STOP, STOP_SELF: the process is dormant, not suspended, waits for nothing, has no deadline, and nothing is due to it
+-- STOP, STOP_SELF: the process is dormant, neither faulted nor suspended, waits for nothing, has no deadline, and nothing is due to it
 abbrev pub IsStopped : Process → Process → Type 0
-IsStopped old new = new ≡ record old { alive = false; suspended = false; wait = wait.Nothing; deadline = None; due = None }
+IsStopped old new = new ≡ record old { alive = false; faulted = false; suspended = false; wait = wait.Nothing; deadline = None; due = None }
 
 -- the caller
 
@@ -193,22 +200,27 @@ taking _ process = process
 
 -- the caller after its call: it waits; it is stopped; or its outcome is due, and if NO_ERROR answers a call that renews, its ready position
 -- is this place. If it waits or NO_ERROR answers, it has the deadline after the call. The time of its core is noted
-pub data IsCaller (place now : ℕ) (call : CallRecord) (old new : Process) : Type 0 where
+pub data HasCalled (place now : ℕ) (call : CallRecord) (old new : Process) : Type 0 where
   waits : (begun : Wait) (deadline : Option ℕ) → call.claim.out ≡ out.Waits → IsBegun now call.request call.claim.chan old begun
-      → IsDeadlineAfter call.request now old deadline → new ≡ record old { wait = begun; deadline = deadline; called_at = now } → IsCaller place now call old new
-  ends : (stopped : Process) → call.claim.out ≡ out.Never → IsStopped old stopped → new ≡ record stopped { called_at = now } → IsCaller place now call old new
+      → IsDeadlineAfter call.request now old deadline → new ≡ record old { wait = begun; deadline = deadline; called_at = now } → HasCalled place now call old new
+  ends : (stopped : Process) → call.claim.out ≡ out.Never → IsStopped old stopped → new ≡ record stopped { called_at = now } → HasCalled place now call old new
   is_renewed : (deadline : Option ℕ) → call.claim.out ≡ out.Answer code.NoError → Renews call.request → IsDeadlineAfter call.request now old deadline
       → new ≡ record (taking call.request old) { ready_position = place; deadline = deadline; due = Some (outcome_of call code.NoError); called_at = now }
-      → IsCaller place now call old new
+      → HasCalled place now call old new
   is_answered : (deadline : Option ℕ) → call.claim.out ≡ out.Answer code.NoError → ¬ Renews call.request → IsDeadlineAfter call.request now old deadline
-      → new ≡ record old { deadline = deadline; due = Some (outcome_of call code.NoError); called_at = now } → IsCaller place now call old new
+      → new ≡ record old { deadline = deadline; due = Some (outcome_of call code.NoError); called_at = now } → HasCalled place now call old new
   is_refused : (other : Code) → call.claim.out ≡ out.Answer other → ¬ (other ≡ code.NoError)
-      → new ≡ record old { due = Some (outcome_of call other); called_at = now } → IsCaller place now call old new
+      → new ≡ record old { due = Some (outcome_of call other); called_at = now } → HasCalled place now call old new
+
+-- the caller after its call in this partition; a handler that has more errors to take stays ready, and only the time of its core is noted
+pub data IsCaller (place now : ℕ) (partition : Partition) (call : CallRecord) (old new : Process) : Type 0 where
+  has_more : HasMoreErrors partition call.who.proc call.request → new ≡ record old { called_at = now } → IsCaller place now partition call old new
+  has_called : ¬ HasMoreErrors partition call.who.proc call.request → HasCalled place now call old new → IsCaller place now partition call old new
 
 -- creation
 
 -- CREATE_PROCESS: a dormant process of this name, priority, period and time capacity, on the partition's first core; it waits for nothing, it
--- is not suspended, it has no deadline, nothing is due to it, and no release, ready position or call is noted
+-- is neither faulted nor suspended, it has no deadline, nothing is due to it, and no release, ready position or call is noted
 pub record IsCreated (core : ℕ) (called : List ℕ) (priority : ℕ) (given_period given_capacity : Option ℕ) (new : Process) : Type 0 where
   pub name : new.name ≡ called
   pub base_priority : new.base_priority ≡ priority
@@ -219,6 +231,7 @@ pub record IsCreated (core : ℕ) (called : List ℕ) (priority : ℕ) (given_pe
   pub time_capacity : new.time_capacity ≡ given_capacity
   pub deadline : new.deadline ≡ None
   pub alive : IsFalse new.alive
+  pub faulted : IsFalse new.faulted
   pub suspended : IsFalse new.suspended
   pub wait : new.wait ≡ wait.Nothing
   pub due : new.due ≡ None
@@ -251,10 +264,11 @@ IsModeNumber mode.ColdStart number = number ≡ 1
 IsModeNumber mode.WarmStart number = number ≡ 2
 IsModeNumber mode.Normal number = number ≡ 3
 
--- a start condition has a number: a normal start is 0, a restart of the partition 1
+-- a start condition has a number: a normal start is 0, a restart of the partition 1, one after an error 3
 abbrev pub IsStartNumber : StartCondition → ℕ → Type 0
 IsStartNumber start.NormalStart number = number ≡ 0
 IsStartNumber start.PartitionRestart number = number ≡ 1
+IsStartNumber start.ErrorRestart number = number ≡ 3
 
 -- GET_PARTITION_STATUS: the mode, the level of the lock, and the start condition
 pub record IsPartitionStatus (partition : Partition) (answer : Answer) : Type 0 where
@@ -265,12 +279,13 @@ pub record IsPartitionStatus (partition : Partition) (answer : Answer) : Type 0 
   pub reports : answer ≡ reporting (pos mode) (Some (pos partition.lock.level)) (Some (pos start))
 
 -- the state of a process has a number: 0 if the process is dormant; 1 if it is ready and not the occupant of its core; 2 if it is ready and
--- the occupant of its core; 3 if it waits, or is suspended
+-- the occupant of its core; 3 if it waits, or is suspended; 4 if it is faulted
 pub data IsStateNumber (cores : List CoreState) (who : Who) (process : Process) (number : ℕ) : Type 0 where
   dormant : IsFalse process.alive → number ≡ 0 → IsStateNumber cores who process number
   ready : IsReady process.affinity process → ¬ (occupant_of cores process.affinity ≡ Some who) → number ≡ 1 → IsStateNumber cores who process number
   running : IsReady process.affinity process → occupant_of cores process.affinity ≡ Some who → number ≡ 2 → IsStateNumber cores who process number
-  waits : IsTrue process.alive → ¬ IsReady process.affinity process → number ≡ 3 → IsStateNumber cores who process number
+  waits : IsTrue process.alive → IsFalse process.faulted → ¬ IsReady process.affinity process → number ≡ 3 → IsStateNumber cores who process number
+  faulted : IsTrue process.alive → IsTrue process.faulted → number ≡ 4 → IsStateNumber cores who process number
 
 -- a deadline is reported as it is, and none as -1
 abbrev pub IsDeadlineNumber : Option ℕ → ℤ → Type 0
@@ -297,30 +312,29 @@ pub data IsStop (process : ℕ) (lock : Lock) (Answers : List Who → Answer) (a
 
 -- what the caller of a service of process management or time gets, if no error condition holds; for the other services the rules of their
 -- objects say it
-abbrev pub IsAnswer : List CoreState → ℕ → Who → Partition → Request → Answer → Type 0
-IsAnswer cores core who partition (request.Caller CallerOperation.StopSelf) answer = IsStop who.proc partition.lock never_waking answer
-IsAnswer cores core who partition (request.Caller (CallerOperation.SuspendSelf time_out)) answer = IsOverOrWaits (time_out ≡ pos 0) answer
-IsAnswer cores core who partition (request.Process process ProcessOperation.Resume) answer = IsResuming (peer who process) (created partition.table process) answer
-IsAnswer cores core who partition (request.Caller CallerOperation.GetMyId) answer = answer ≡ done_with (Number (pos who.proc))
-IsAnswer cores core who partition (request.Caller (CallerOperation.TimedWait ticks)) answer = IsOverOrWaits (ticks ≡ pos 0) answer
-IsAnswer cores core who partition (request.Caller CallerOperation.PeriodicWait) answer = IsOverOrWaits (IsAtRelease (time_of cores core) (item_at partition.table who.proc)) answer
-IsAnswer cores core who partition (request.Caller CallerOperation.GetTime) answer = answer ≡ done_with (Number (pos (time_of cores core)))
-IsAnswer cores core who partition (request.Caller CallerOperation.GetPartitionStatus) answer = IsPartitionStatus partition answer
-IsAnswer cores core who partition (request.Caller (CallerOperation.Replenish budget)) answer = answer ≡ done
-IsAnswer cores core who partition (request.SetPartitionMode next) answer = answer ≡ never
-IsAnswer cores core who partition (request.CreateProcess name priority period time_capacity) answer = answer ≡ done_with (NewNumber (is_free partition.table))
-IsAnswer cores core who partition (request.Process process (ProcessOperation.InitializeCoreAffinity affinity)) answer = answer ≡ done
-IsAnswer cores core who partition (request.Process process ProcessOperation.Start) answer = answer ≡ done
-IsAnswer cores core who partition (request.Process process (ProcessOperation.DelayedStart ticks)) answer = answer ≡ done
-IsAnswer cores core who partition (request.Process process ProcessOperation.GetStatus) answer =
+abbrev pub IsAnswer : Configuration → List CoreState → ℕ → Who → Partition → Request → Answer → Type 0
+IsAnswer configuration cores core who partition (request.Caller CallerOperation.StopSelf) answer = IsStop who.proc partition.lock never_waking answer
+IsAnswer configuration cores core who partition (request.Caller (CallerOperation.SuspendSelf time_out)) answer = IsOverOrWaits (time_out ≡ pos 0) answer
+IsAnswer configuration cores core who partition (request.Process process ProcessOperation.Resume) answer = IsResuming (peer who process) (created partition.table process) answer
+IsAnswer configuration cores core who partition (request.Caller CallerOperation.GetMyId) answer = answer ≡ done_with (Number (pos who.proc))
+IsAnswer configuration cores core who partition (request.Caller (CallerOperation.TimedWait ticks)) answer = IsOverOrWaits (ticks ≡ pos 0) answer
+IsAnswer configuration cores core who partition (request.Caller CallerOperation.PeriodicWait) answer = IsOverOrWaits (IsAtRelease (time_of cores core) (item_at partition.table who.proc)) answer
+IsAnswer configuration cores core who partition (request.Caller CallerOperation.GetTime) answer = answer ≡ done_with (Number (pos (time_of cores core)))
+IsAnswer configuration cores core who partition (request.Caller CallerOperation.GetPartitionStatus) answer = IsPartitionStatus partition answer
+IsAnswer configuration cores core who partition (request.Caller (CallerOperation.Replenish budget)) answer = answer ≡ done
+IsAnswer configuration cores core who partition (request.SetPartitionMode next) answer = answer ≡ never
+IsAnswer configuration cores core who partition (request.CreateProcess name priority period time_capacity) answer = answer ≡ done_with (NewNumber (is_free partition.table))
+IsAnswer configuration cores core who partition (request.Process process (ProcessOperation.InitializeCoreAffinity affinity)) answer = answer ≡ done
+IsAnswer configuration cores core who partition (request.Process process ProcessOperation.Start) answer = answer ≡ done
+IsAnswer configuration cores core who partition (request.Process process (ProcessOperation.DelayedStart ticks)) answer = answer ≡ done
+IsAnswer configuration cores core who partition (request.Process process ProcessOperation.GetStatus) answer =
     IsProcessStatus cores (peer who process) (created partition.table process) answer
-IsAnswer cores core who partition (request.Process process ProcessOperation.GetMutexState) answer =
+IsAnswer configuration cores core who partition (request.Process process ProcessOperation.GetMutexState) answer =
     IsMutexState partition (natural_of process) answer
-IsAnswer cores core who partition (request.Process process ProcessOperation.Stop) answer = IsStop (natural_of process) partition.lock waking answer
-IsAnswer cores core who partition (request.Process process ProcessOperation.Suspend) answer = answer ≡ done
-IsAnswer cores core who partition (request.Process process (ProcessOperation.SetPriority priority)) answer = answer ≡ done
-IsAnswer cores core who partition (request.GetId of name) answer = answer ≡ done_with (number_found (number_of partition of name))
-IsAnswer cores core who partition (request.GetStatus of number) answer = answer ≡ telling (status_of partition of number)
-IsAnswer cores core who partition (request.ReportMessage length message) answer = answer ≡ done
-IsAnswer cores core who partition request.CreateErrorHandler answer = answer ≡ done
-IsAnswer cores core who partition asked answer = answer ≡ answer_of cores core who partition asked
+IsAnswer configuration cores core who partition (request.Process process ProcessOperation.Stop) answer = IsStop (natural_of process) partition.lock waking answer
+IsAnswer configuration cores core who partition (request.Process process ProcessOperation.Suspend) answer = answer ≡ done
+IsAnswer configuration cores core who partition (request.Process process (ProcessOperation.SetPriority priority)) answer = answer ≡ done
+IsAnswer configuration cores core who partition (request.GetId of name) answer = answer ≡ done_with (number_found (number_of partition of name))
+IsAnswer configuration cores core who partition (request.GetStatus of number) answer = answer ≡ telling (status_of partition of number)
+IsAnswer configuration cores core who partition (request.Health operation) answer = IsHealthAnswer configuration who.part partition who.proc operation answer
+IsAnswer configuration cores core who partition asked answer = answer ≡ answer_of configuration cores core who partition asked

@@ -5,6 +5,7 @@ use Rattle.apex_types.specs.declared.record.Who.{Who}
 use Rattle.apex_types.specs.declared.operation.{CallerOperation.CallerOperation, ProcessOperation.ProcessOperation}
 use Rattle.apex_types.specs.declared.request.Request.{Request}
 use Rattle.apex_types.specs.declared.request.Request.TheVariants as request
+use Rattle.apex_machine.specs.declared.state.Mode.TheVariants as mode
 use Rattle.apex_machine.specs.declared.state.Process.{Process}
 use Rattle.apex_machine.specs.declared.state.Wait.TheVariants as wait
 use Rattle.apex_machine.specs.Arguments.{natural_of}
@@ -31,8 +32,8 @@ module _ (who : Who) (partition : Partition) where
   pub data IsOutsideProfile : Request → Type 0 where
     -- the stop of the owner of a mutex
     owner_is_stopped : {process : ℤ} → IsOwner partition (natural_of process) → IsOutsideProfile (request.Process process ProcessOperation.Stop)
-    -- the initialising process, or the owner of a mutex, stops itself
-    initialising_stops : who.proc ≡ 0 → IsOutsideProfile (request.Caller CallerOperation.StopSelf)
+    -- process 0 stops itself before NORMAL, as the initialising process, or the owner of a mutex stops itself
+    initialising_stops : ¬ (partition.mode ≡ mode.Normal) → who.proc ≡ 0 → IsOutsideProfile (request.Caller CallerOperation.StopSelf)
     owner_stops : IsOwner partition who.proc → IsOutsideProfile (request.Caller CallerOperation.StopSelf)
     -- the owner of a mutex, or a process that waits for one, is suspended
     owner_is_suspended : {process : ℤ} → IsOwner partition (natural_of process) → IsOutsideProfile (request.Process process ProcessOperation.Suspend)

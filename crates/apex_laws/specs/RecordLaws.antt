@@ -1,5 +1,5 @@
 -- What every lawful record does is what the sentences say.
-use Rattle.std.specs.Prelude.{◌≡◌, ◌↔◌, ℕ, ◌<◌, List, [], Option, Some, None, length}
+use Rattle.std.specs.Prelude.{◌≡◌, ◌↔◌, ℕ, ◌⊎◌, ◌<◌, List, [], Option, Some, None, IsTrue, IsFalse, length}
 use Rattle.apex_types.specs.declared.record.Body.TheVariants.{Arrive, Call, Depart, Disp, Error, Ret, Tick}
 use Rattle.apex_types.specs.declared.record.Call.{Call as CallRecord}
 use Rattle.apex_types.specs.declared.record.Crossing.{Crossing}
@@ -10,12 +10,16 @@ use Rattle.apex_types.specs.declared.record.Who.{Who}
 use Rattle.apex_types.specs.Requested.{service_of}
 use Rattle.apex_machine.specs.declared.state.Entry.{Entry}
 use Rattle.apex_machine.specs.declared.state.Mode.{Mode}
+use Rattle.apex_machine.specs.declared.state.Restart.{Restart}
+use Rattle.apex_machine.specs.declared.state.StartCondition.TheVariants.{ErrorRestart}
 use Rattle.apex_machine.specs.declared.state.WaitingSet.{WaitingSet}
+use Rattle.apex_machine.specs.After.{restart_of}
 use Rattle.apex_machine.specs.Configuration.{Configuration, period_of}
 use Rattle.apex_machine.specs.ServiceConditions.{conditions_of}
 use Rattle.apex_machine.specs.State.{State, time_of}
 use Rattle.apex_machine.specs.Step.{Step}
-use Rattle.apex_machine.specs.Waiting.{restart_of, set_after}
+use Rattle.apex_machine.specs.Waiting.{is_restart, set_after}
+use Rattle.apex_laws.specs.ErrorSentences.{ErrorRestartsIn}
 use Rattle.apex_laws.specs.Laws.{SetsAreInOrder, AreTied, HoldTheirKind}
 use Rattle.apex_laws.specs.ObjectSentences.{IsArriving, IsDeparting}
 use Rattle.apex_laws.specs.RecordSentences.{HasReturned, IsCallOf, IsCrossingOf, IsDispatchOf, IsErrorOf, IsRefusedCallOf, IsRestartOf, IsSetAfterCall, IsTickOf, OnlyChanges, Restarts}
@@ -61,7 +65,7 @@ abbrev pub CallIsTheSentence : Type 0
 CallIsTheSentence =
     (configuration : Configuration) (state : State) (ordered : Ordered) (call : CallRecord) (next : State)
     → ((number : ℕ) → 0 < period_of configuration number) → AreTied configuration state → SetsAreInOrder state
-    → Step configuration state ordered next → ordered.rec.body ≡ Call call → restart_of call ≡ None
+    → Step configuration state ordered next → ordered.rec.body ≡ Call call → IsFalse (is_restart call)
     → IsCallOf configuration ordered.pos (time_of state.cores ordered.core) call state next
 
 -- an arrival in such a state: each process that it wakes gets the message
@@ -79,17 +83,23 @@ DepartureIsTheSentence =
     → AreTied configuration state → SetsAreInOrder state → HoldTheirKind configuration state → Step configuration state ordered next → ordered.rec.body ≡ Depart crossing
     → IsCrossingOf ordered.pos crossing [] (IsDeparting configuration crossing.chan crossing.message) state next
 
--- a call that restarts its partition: SET_PARTITION_MODE that does not return, to IDLE, COLD_START or WARM_START, which are 0 to 2; and
--- no other call restarts one
+-- a call that restarts its partition: SET_PARTITION_MODE that does not return, to IDLE, COLD_START or WARM_START, which are 0 to 2, or
+-- RAISE_APPLICATION_ERROR that does not return; no other call restarts one, and each lawful call that is a restart has a mode
 abbrev pub RestartIsTheSentence : Type 0
 RestartIsTheSentence =
-    ((configuration : Configuration) (state : State) (ordered : Ordered) (call : CallRecord) (mode : Mode) (next : State)
-    → Step configuration state ordered next → ordered.rec.body ≡ Call call → restart_of call ≡ Some mode
-    → IsRestartOf configuration ordered.pos mode call.who.part state next)
-    × ((call : CallRecord) (mode : Mode) → (restart_of call ≡ Some mode) ↔ Restarts call mode)
+    ((configuration : Configuration) (state : State) (ordered : Ordered) (call : CallRecord) (restart : Restart) (next : State)
+    → Step configuration state ordered next → ordered.rec.body ≡ Call call → restart_of configuration call ≡ Some restart
+    → IsRestartOf configuration ordered.pos restart call.who.part state next)
+    × ((configuration : Configuration) (call : CallRecord) (restart : Restart) → (restart_of configuration call ≡ Some restart) ↔ Restarts configuration call restart)
+    × ((configuration : Configuration) (state : State) (ordered : Ordered) (call : CallRecord) (next : State)
+    → Step configuration state ordered next → ordered.rec.body ≡ Call call → IsTrue (is_restart call) → (restart : Restart) × (restart_of configuration call ≡ Some restart))
 
--- the report of a missed deadline
+-- the report of an error: it restarts the partition if no handler takes it and the configuration says so
 abbrev pub ErrorIsTheSentence : Type 0
 ErrorIsTheSentence =
     (configuration : Configuration) (state : State) (ordered : Ordered) (report : ErrorReport) (next : State)
-    → Step configuration state ordered next → ordered.rec.body ≡ Error report → IsErrorOf ordered.core report.who state next
+    → Step configuration state ordered next → ordered.rec.body ≡ Error report
+    → (IsFalse report.restarts × IsErrorOf configuration ordered.core ordered.pos report state next)
+    ⊎ (IsTrue report.restarts
+    × ((entered : Mode) × ErrorRestartsIn configuration report.who.part entered
+    × IsRestartOf configuration ordered.pos (record { start = ErrorRestart; mode = entered }) report.who.part state next))

@@ -2,10 +2,13 @@
 use Rattle.std.specs.Prelude.{◌≡◌, ◌⊎◌, ℕ, ℤ, pos, ◌+◌, List, [], ◌∷◌, ◌++◌, length, Option, Some, None, IsTrue, IsFalse, if◌then◌else◌}
 use Rattle.apex_types.specs.declared.code.Code.{Code}
 use Rattle.apex_types.specs.declared.record.Call.{Call as CallRecord}
+use Rattle.apex_types.specs.declared.error.ErrorCode.{ErrorCode}
+use Rattle.apex_types.specs.declared.error.ErrorCode.TheVariants as error
 use Rattle.apex_types.specs.declared.record.Crossing.{Crossing}
+use Rattle.apex_types.specs.declared.record.ErrorReport.{ErrorReport}
 use Rattle.apex_types.specs.declared.record.Out.TheVariants as out
 use Rattle.apex_types.specs.declared.record.Who.{Who}
-use Rattle.apex_types.specs.declared.operation.{CallerOperation.CallerOperation, LockOperation.LockOperation, ProcessOperation.ProcessOperation}
+use Rattle.apex_types.specs.declared.operation.{CallerOperation.CallerOperation, HealthOperation.HealthOperation, LockOperation.LockOperation, ProcessOperation.ProcessOperation}
 use Rattle.apex_types.specs.declared.request.Request.{Request}
 use Rattle.apex_types.specs.declared.request.Request.TheVariants as request
 use Rattle.apex_types.specs.declared.service.Service.{Service}
@@ -16,9 +19,10 @@ use Rattle.apex_machine.specs.declared.state.Entry.{Entry}
 use Rattle.apex_machine.specs.declared.state.Mode.{Mode}
 use Rattle.apex_machine.specs.declared.state.Mode.TheVariants as mode
 use Rattle.apex_machine.specs.declared.state.Process.{Process}
-use Rattle.apex_machine.specs.declared.state.StartCondition.TheVariants.{PartitionRestart}
+use Rattle.apex_machine.specs.declared.state.StartCondition.TheVariants.{ErrorRestart, PartitionRestart}
+use Rattle.apex_machine.specs.declared.state.Restart.{Restart}
 use Rattle.apex_machine.specs.declared.state.WaitingSet.{WaitingSet}
-use Rattle.apex_machine.specs.After.{each_set, has_handler_by, is_done, mode_by, objects_by}
+use Rattle.apex_machine.specs.After.{each_set, is_done, mode_by, objects_by}
 use Rattle.apex_machine.specs.Answer.{Effect, HasValues, NamesExactly}
 use Rattle.apex_machine.specs.Arguments.{capacity_given, natural_of, period_given}
 use Rattle.apex_machine.specs.Choice.{IsReady}
@@ -30,8 +34,9 @@ use Rattle.apex_machine.specs.Step.{IsCodeOf}
 use Rattle.apex_machine.specs.Waiting.{ends_wait, enters, entry_of, stops, message_of}
 use Rattle.apex_laws.specs.Laws.{entries_at}
 use Rattle.apex_laws.specs.ObjectSentences.{IsLocking, IsStoppedOwner, IsUnlocking, IsUse}
-use Rattle.apex_laws.specs.PartLaws.{OnlyProcessesChange}
-use Rattle.apex_laws.specs.DeadlineSentences.{HasMissed, IsReported}
+use Rattle.apex_laws.specs.ErrorSentences.{ErrorRestartsIn, IsAfterError, IsHandlerAfter, IsListAfter, IsListAfterError, IsRestartingError}
+use Rattle.apex_laws.specs.PartLaws.{OnlyErrorsChange, OnlyProcessesChange}
+use Rattle.apex_laws.specs.DeadlineSentences.{HasMissed}
 use Rattle.apex_laws.specs.ProcessSentences.{IsCaller, IsCreated, IsDue, IsReleased, IsSetBy, IsStopped, IsWoken}
 
 -- processes of a state
@@ -62,13 +67,13 @@ RestStays state next number = OnlyProcessesChange (state.partitions number) (nex
 abbrev pub emptied : Partition → Partition
 emptied partition = each_set (λ wanted entries. []) (record partition { table = []; lock = record partition.lock { waiters = [] } })
 
--- a partition's mode, lock, objects and ports are as before, except for its processes and for those that wait
+-- a partition's mode, lock, error handler, objects and ports are as before, except for its processes and for those that wait
 abbrev pub ObjectsStay : State → State → ℕ → Type 0
 ObjectsStay state next number = emptied (next.partitions number) ≡ emptied (state.partitions number)
 
 -- two partitions have the same objects, ports and start condition, except for the processes that wait
 abbrev pub ObjectsAre : Partition → Partition → Type 0
-ObjectsAre one other = emptied (record one { mode = other.mode; has_handler = other.has_handler; lock = other.lock }) ≡ emptied other
+ObjectsAre one other = emptied (record one { mode = other.mode; handler = other.handler; errors = other.errors; lock = other.lock }) ≡ emptied other
 
 -- every channel is as before
 abbrev pub ChannelsStay : State → State → Type 0
@@ -166,13 +171,42 @@ pub record OnlyChanges (Change : Process → Process → Type 0) (who : Who) (st
 abbrev pub HasReturned : Process → Process → Type 0
 HasReturned old new = new ≡ record old { due = None }
 
--- the report of a missed deadline: the process has missed its deadline on the core of the record, and has none afterwards; nothing else
--- changes
-pub record IsErrorOf (core : ℕ) (who : Who) (state next : State) : Type 0 where
+-- errors
+
+-- the process of an error after its report: a missed deadline is taken away, and no other error changes it by itself
+abbrev pub IsReported : ErrorCode → Process → Process → Type 0
+IsReported error.DeadlineMissed old new = new ≡ record old { deadline = None }
+IsReported _ old new = new ≡ old
+
+-- a process of a partition after the report of an error of a process: what the report makes of that process, and then what an error of it
+-- makes of each
+pub record IsTold (place : ℕ) (partition : Partition) (report : ErrorReport) (number : ℕ) (old new : Process) : Type 0 where
+  pub told : Process
+  pub first : ((number ≡ report.who.proc) × IsReported report.error old told) ⊎ ((¬ (number ≡ report.who.proc)) × (told ≡ old))
+  pub second : IsAfterError place partition report.who.proc number told new
+
+-- the process that an error can have: with DEADLINE_MISSED one that has missed its deadline on the core of the record, else the occupant of
+-- the core
+abbrev pub IsInError : ErrorCode → ℕ → State → Who → Process → Type 0
+IsInError error.DeadlineMissed core state who process = HasMissed core (time_of state.cores core) process
+IsInError _ core state who process = occupant_of state.cores core ≡ Some who
+
+-- the report of an error that restarts no partition: the process's partition is told of it, and if its handler takes it, the error is listed;
+-- nothing else changes
+pub record IsErrorOf (configuration : Configuration) (core place : ℕ) (report : ErrorReport) (state next : State) : Type 0 where
   pub process : Process
-  pub found : process_in state who ≡ Some process
-  pub missed : HasMissed core (time_of state.cores core) process
-  pub reported : OnlyChanges IsReported who state next
+  pub found : process_in state report.who ≡ Some process
+  pub in_error : IsInError report.error core state report.who process
+  pub goes_on : ¬ IsRestartingError configuration report.who.part (state.partitions report.who.part) report.who.proc
+  pub peers : (who : Who) (old : Process) → who.part ≡ report.who.part → process_in state who ≡ Some old
+      → Turns (IsTold place (state.partitions report.who.part) report who.proc) state next who
+  pub no_others : (number : ℕ) → item_at (state.partitions report.who.part).table number ≡ None → item_at (next.partitions report.who.part).table number ≡ None
+  pub errors : IsListAfterError (state.partitions report.who.part) (record { error = report.error; process = report.who.proc; message = [] })
+      (next.partitions report.who.part).errors
+  pub rest : OnlyErrorsChange (state.partitions report.who.part) (next.partitions report.who.part)
+  pub elsewhere : (number : ℕ) → ¬ (number ≡ report.who.part) → next.partitions number ≡ state.partitions number
+  pub channels : ChannelsStay state next
+  pub cores : next.cores ≡ state.cores
 
 -- a refused call: the code is due to the caller, with no value and no message, and the time of its core is noted
 abbrev pub HasRefusal : Service → Code → ℕ → Process → Process → Type 0
@@ -229,9 +263,10 @@ IsSame set new = new ≡ set
 -- stopped; another that it names is woken; any other has what the call sets in it, if anything. In every other partition, a process that
 -- the call names is woken, and any other stays. Only CREATE_PROCESS adds a process. The lock, objects and ports of the caller's partition are
 -- as their rules leave them, and those of the others stay. Processes whose waits end leave their waiting sets, and a caller that waits enters
--- its set. The channel through which the call goes gives its outcome; the contents of the others stay, and so do the cores
+-- its set. The error handler and the listed errors are as the request leaves them. The channel through which the call goes gives its outcome;
+-- the contents of the others stay, and so do the cores
 pub record IsCallOf (configuration : Configuration) (place now : ℕ) (call : CallRecord) (state next : State) : Type 0 where
-  pub caller : Turns (SetAnd configuration state place call call.who.proc (IsCaller place now call)) state next call.who
+  pub caller : Turns (SetAnd configuration state place call call.who.proc (IsCaller place now (state.partitions call.who.part) call)) state next call.who
   pub stopped : (who : Who) (old : Process) → who.part ≡ call.who.part → ¬ (who ≡ call.who) → process_in state who ≡ Some old → IsTrue (stops call who)
       → Turns (SetAnd configuration state place call who.proc IsStopped) state next who
   pub woken : (who : Who) (old : Process) → who.part ≡ call.who.part → ¬ (who ≡ call.who) → process_in state who ≡ Some old → IsFalse (stops call who)
@@ -244,8 +279,12 @@ pub record IsCallOf (configuration : Configuration) (place now : ℕ) (call : Ca
   pub elsewhere : (who : Who) → ¬ (who.part ≡ call.who.part) → IsFalse (is_named who call.claim.woken) → Stays state next who
   pub mode : (next.partitions call.who.part).mode
       ≡ (if is_done call.claim.out then mode_by call.request (state.partitions call.who.part).mode else (state.partitions call.who.part).mode)
-  pub handler : (next.partitions call.who.part).has_handler
-      ≡ (if is_done call.claim.out then has_handler_by call.request (state.partitions call.who.part).has_handler else (state.partitions call.who.part).has_handler)
+  pub handler : (IsTrue (is_done call.claim.out)
+      → IsHandlerAfter configuration call.who.part call.request (state.partitions call.who.part).handler (next.partitions call.who.part).handler)
+      × (IsFalse (is_done call.claim.out) → (next.partitions call.who.part).handler ≡ (state.partitions call.who.part).handler)
+  pub errors : (IsTrue (is_done call.claim.out)
+      → IsListAfter call.who.proc call.request (state.partitions call.who.part) (next.partitions call.who.part).errors)
+      × (IsFalse (is_done call.claim.out) → (next.partitions call.who.part).errors ≡ (state.partitions call.who.part).errors)
   pub lock : IsLockAfterCall place call (state.partitions call.who.part).lock (next.partitions call.who.part).lock
   pub objects : (IsTrue (is_done call.claim.out)
       → ObjectsAre (next.partitions call.who.part) (objects_by configuration call.who call.claim.val call.request (state.partitions call.who.part)))
@@ -275,11 +314,16 @@ pub record IsCrossingOf (place : ℕ) (crossing : Crossing) (handed_over : List 
 
 -- restarts
 
--- a call restarts its caller's partition in a mode: it is a SET_PARTITION_MODE to IDLE, COLD_START or WARM_START that does not return
-pub data Restarts (call : CallRecord) : Mode → Type 0 where
-  to_idle : call.request ≡ request.SetPartitionMode (pos 0) → call.claim.out ≡ out.Never → Restarts call mode.Idle
-  to_cold_start : call.request ≡ request.SetPartitionMode (pos 1) → call.claim.out ≡ out.Never → Restarts call mode.ColdStart
-  to_warm_start : call.request ≡ request.SetPartitionMode (pos 2) → call.claim.out ≡ out.Never → Restarts call mode.WarmStart
+-- a call restarts its caller's partition: it is a SET_PARTITION_MODE to IDLE, COLD_START or WARM_START that does not return, or a
+-- RAISE_APPLICATION_ERROR that does not return because the configuration restarts the partition
+pub data Restarts (configuration : Configuration) (call : CallRecord) : Restart → Type 0 where
+  to_idle : call.request ≡ request.SetPartitionMode (pos 0) → call.claim.out ≡ out.Never → Restarts configuration call (record { start = PartitionRestart; mode = mode.Idle })
+  to_cold_start : call.request ≡ request.SetPartitionMode (pos 1) → call.claim.out ≡ out.Never
+      → Restarts configuration call (record { start = PartitionRestart; mode = mode.ColdStart })
+  to_warm_start : call.request ≡ request.SetPartitionMode (pos 2) → call.claim.out ≡ out.Never
+      → Restarts configuration call (record { start = PartitionRestart; mode = mode.WarmStart })
+  by_error : (given length : ℤ) (message : List ℕ) (entered : Mode) → call.request ≡ request.Health (HealthOperation.RaiseError given length message)
+      → call.claim.out ≡ out.Never → ErrorRestartsIn configuration call.who.part entered → Restarts configuration call (record { start = ErrorRestart; mode = entered })
 
 -- the initialising process of a partition that starts at this place: ready from then on, on this core, without a deadline and with nothing
 -- due to it
@@ -298,14 +342,15 @@ IsStart _ core place table =
     ((process : Process) × (item_at table 0 ≡ Some process) × IsInitialising core place process)
     × ((number : ℕ) → ¬ (number ≡ 0) → item_at table number ≡ None)
 
--- a restart of a partition in a mode: it starts anew, with a free lock, without objects, ports and error handler; its processes leave the
--- waiting sets of all channels; the contents of channels, the other partitions and the cores are as before
-pub record IsRestartOf (configuration : Configuration) (place : ℕ) (entered : Mode) (part : ℕ) (state next : State) : Type 0 where
-  pub mode : (next.partitions part).mode ≡ entered
-  pub start : (next.partitions part).start ≡ PartitionRestart
-  pub handler : IsFalse (next.partitions part).has_handler
+-- a restart of a partition in a mode: it starts anew with a start condition, with a free lock, without objects, ports, error handler and
+-- errors; its processes leave the waiting sets of all channels; the contents of channels, the other partitions and the cores are as before
+pub record IsRestartOf (configuration : Configuration) (place : ℕ) (restart : Restart) (part : ℕ) (state next : State) : Type 0 where
+  pub mode : (next.partitions part).mode ≡ restart.mode
+  pub start : (next.partitions part).start ≡ restart.start
+  pub handler : (next.partitions part).handler ≡ None
+  pub errors : (next.partitions part).errors ≡ []
   pub lock : (next.partitions part).lock ≡ free_lock
-  pub processes : IsStart entered (first_core configuration part) place (next.partitions part).table
+  pub processes : IsStart restart.mode (first_core configuration part) place (next.partitions part).table
   pub buffers : (next.partitions part).buffers ≡ []
   pub blackboards : (next.partitions part).blackboards ≡ []
   pub semaphores : (next.partitions part).semaphores ≡ []

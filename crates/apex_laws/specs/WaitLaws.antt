@@ -54,6 +54,6 @@ abbrev pub TimeOutIsTheSentence : Type 0
 TimeOutIsTheSentence =
     (place now : ℕ) (call : CallRecord) (wanted : WaitingSet) (old : Process) → call.claim.out ≡ out.Waits → WaitsIn call.request call.claim.chan wanted
     → ((ticks core time : ℕ) → HasTimeOut call.request (pos ticks)
-    → (falls_due core time (Some (caller_after place now call old)) ≡ true) ↔ ((old.affinity ≡ core) × (now + ticks ≤ time)))
-    × (HasTimeOut call.request (negsuc 0) → (core time : ℕ) → falls_due core time (Some (caller_after place now call old)) ≡ false)
-    × ((later : ℕ) → (released later (caller_after place now call old)).due ≡ Some (record { service = service_of call.request; code = code.TimedOut; val = None; val2 = None; val3 = None; bytes = [] }))
+    → (falls_due core time (Some (caller_after place now false call old)) ≡ true) ↔ ((old.affinity ≡ core) × (now + ticks ≤ time)))
+    × (HasTimeOut call.request (negsuc 0) → (core time : ℕ) → falls_due core time (Some (caller_after place now false call old)) ≡ false)
+    × ((later : ℕ) → (released later (caller_after place now false call old)).due ≡ Some (record { service = service_of call.request; code = code.TimedOut; val = None; val2 = None; val3 = None; bytes = [] }))

@@ -177,9 +177,9 @@ owes state who = due_of (at state who)
 abbrev pub outcome : Service → Code → List ℕ → Option Outcome
 outcome service given message = Some (record { service = service; code = given; val = None; val2 = None; val3 = None; bytes = message })
 
--- what a service gives to a caller of its own partition, on the core of the partition's number
+-- what a service gives to a caller of its own partition, on the core of the partition's number, in the module of one partition
 abbrev pub gets : State → Who → Request → Answer
-gets state who asked = answer_of state.cores who.part who (state.partitions who.part) asked
+gets state who asked = answer_of one_partition state.cores who.part who (state.partitions who.part) asked
 
 -- what a service gives through a channel
 abbrev pub gets_through : Configuration → State → Who → Request → ℕ → Answer

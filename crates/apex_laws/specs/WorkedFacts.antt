@@ -1,5 +1,5 @@
 -- Worked facts: what the definitions make of small recordings. Process k of partition 0 is `one`, `two`, `three`.
-use Rattle.std.specs.Prelude.{◌≡◌, ℕ, List, [], ◌∷◌, ◌++◌, Option, Some, None, true, false, ℤ, pos, negsuc, codes, option_map}
+use Rattle.std.specs.Prelude.{◌≡◌, ℕ, List, [], ◌∷◌, ◌++◌, Option, Some, None, Bool, true, false, ℤ, pos, negsuc, codes, option_map}
 use Rattle.apex_types.specs.declared.code.Code.TheVariants as code
 use Rattle.apex_types.specs.declared.discipline.Discipline.TheVariants as discipline
 use Rattle.apex_types.specs.declared.object_kind.NamedKind.TheVariants as named
@@ -8,23 +8,26 @@ use Rattle.apex_types.specs.declared.error.ErrorCode.TheVariants as error
 use Rattle.apex_types.specs.declared.record.Crossing.{Crossing}
 use Rattle.apex_types.specs.declared.record.Out.TheVariants as out
 use Rattle.apex_types.specs.declared.record.Who.{Who}
-use Rattle.apex_types.specs.declared.operation.{BlackboardOperation.BlackboardOperation, BufferOperation.BufferOperation, CallerOperation.CallerOperation, EventOperation.EventOperation, MutexOperation.MutexOperation, NewObject.NewObject, ProcessOperation.ProcessOperation, QueuingOperation.QueuingOperation, SamplingOperation.SamplingOperation, SemaphoreOperation.SemaphoreOperation}
+use Rattle.apex_types.specs.declared.operation.{BlackboardOperation.BlackboardOperation, BufferOperation.BufferOperation, CallerOperation.CallerOperation, EventOperation.EventOperation, HealthOperation.HealthOperation, MutexOperation.MutexOperation, NewObject.NewObject, ProcessOperation.ProcessOperation, QueuingOperation.QueuingOperation, SamplingOperation.SamplingOperation, SemaphoreOperation.SemaphoreOperation}
 use Rattle.apex_types.specs.declared.operation.ObjectOperation.TheVariants as on
 use Rattle.apex_types.specs.declared.request.Request.TheVariants as request
 use Rattle.apex_types.specs.declared.service.Service.TheVariants as service
 use Rattle.apex_machine.specs.declared.condition.Condition.TheVariants as condition
-use Rattle.apex_machine.specs.Answer.{Answer, Number, answering, done, done_with, giving, waiting, waking}
+use Rattle.apex_machine.specs.declared.state.ErrorPolicy.TheVariants as policy
+use Rattle.apex_machine.specs.declared.state.Mode.TheVariants as mode
+use Rattle.apex_machine.specs.declared.state.StartCondition.TheVariants as start_condition
+use Rattle.apex_machine.specs.Answer.{Answer, Number, answering, done, done_with, giving, never, waiting, waking}
 use Rattle.apex_machine.specs.Choice.{choice}
 use Rattle.apex_machine.specs.Configuration.{Configuration}
 use Rattle.apex_machine.specs.Ports.{arrived, departed}
-use Rattle.apex_machine.specs.Services.{in_profile}
+use Rattle.apex_machine.specs.Services.{answer_of, in_profile}
 use Rattle.apex_machine.specs.Statuses.{reporting}
 use Rattle.apex_machine.specs.State.{Mutex, Queued, State, item_at}
 use Rattle.apex_machine.specs.declared.state.Process.{Process}
 use Rattle.apex_machine.specs.Deadlines.{is_missed}
 use Rattle.apex_machine.specs.DueTimes.{falls_due}
 use Rattle.apex_machine.specs.Step.{IsLawful}
-use Rattle.apex_laws.specs.Worked.{Happening, aperiodic, at, claims, conditions_met, creates, does, gets, gets_through, idle_ticks, normal, one_partition, outcome, owes, placed, play, played, priority_in, process_of, queuing_by, returns, runs, start, ticks, two_partitions, waits, wakes}
+use Rattle.apex_laws.specs.Worked.{Happening, aperiodic, at, claims, conditions_met, creates, does, gets, gets_through, idle_ticks, limits_on, normal, one_partition, outcome, owes, placed, play, played, priority_in, process_of, queuing_by, returns, runs, start, ticks, two_partitions, waits, wakes}
 
 -- process 1, with priority 10
 abbrev pub one : Who
@@ -160,6 +163,51 @@ deadline_of (Some process) = process.deadline
 abbrev pub reports_deadline : Happening
 reports_deadline = record { core = 0; body = Error (record { who = one; error = error.DeadlineMissed; restarts = false }) }
 
+-- the error handler of the partition, which is process 0 in NORMAL
+abbrev pub handler : Who
+handler = process_of 0 0
+
+-- processes 1 (10), 2 (20) and 3 (5) in a partition that has an error handler
+abbrev pub with_handler : State
+with_handler = three_processes (does handler (request.Health HealthOperation.CreateHandler) ∷ [])
+
+-- process 2 raises an error with a message of one byte
+abbrev pub raises : Happening
+raises = does two (request.Health (HealthOperation.RaiseError (pos 1) (pos 1) (7 ∷ [])))
+
+-- the report of a numeric error of process 1
+abbrev pub reports_numeric : Bool → Happening
+reports_numeric restarts = record { core = 0; body = Error (record { who = one; error = error.NumericError; restarts = restarts }) }
+
+-- process 2 has raised an error, and a numeric error of process 1 has been reported
+abbrev pub two_errors : State
+two_errors = play one_partition with_handler (raises ∷ reports_numeric false ∷ [])
+
+-- the handler takes the oldest error, and the handler ends
+abbrev pub takes_oldest : Happening
+takes_oldest = does handler (request.Health HealthOperation.GetErrorStatus)
+
+abbrev pub handler_ends : Happening
+handler_ends = claims 0 handler 0 (request.Caller CallerOperation.StopSelf) out.Never None [] None []
+
+-- the handler ends with one error left, and with none
+abbrev pub one_left : State
+one_left = play one_partition two_errors (takes_oldest ∷ handler_ends ∷ [])
+
+abbrev pub none_left : State
+none_left = play one_partition one_left (takes_oldest ∷ handler_ends ∷ [])
+
+-- whether a process is faulted, and whether it is alive, if it exists
+abbrev pub faulted_now : Option Process → Option Bool
+faulted_now found = option_map (λ process. process.faulted) found
+
+abbrev pub alive_now : Option Process → Option Bool
+alive_now found = option_map (λ process. process.alive) found
+
+-- a module whose partition an error restarts in COLD_START, if no handler takes it
+abbrev pub restarting : Configuration
+restarting = record one_partition { partitions = record (limits_on 0 0) { on_error = policy.ColdStart } ∷ [] }
+
 -- the channel's messages come from outside, or leave to the outside
 abbrev pub from_outside : Configuration
 from_outside = record two_partitions { queuing = record (queuing_by discipline.Fifo) { source = None } ∷ [] }
@@ -255,6 +303,25 @@ pub record WorkedFacts : Type 0 where
   pub deadline_of_release : deadline_of (at (timed (pos 20) (pos 5)) one) ≡ Some 18
   pub deadline_is_ahead : is_missed 0 7 (at (timed (negsuc 0) (pos 5)) one) ≡ false
   pub deadline_is_missed : is_missed 0 8 (at (timed (negsuc 0) (pos 5)) one) ≡ true
+  -- errors: the handler is called, and its partition's processes go on when it has taken their errors, the oldest first
+  pub handler_is_called : choice one_partition (play one_partition with_handler (raises ∷ [])) 0 ≡ Some handler
+  pub who_fails_is_faulted : faulted_now (at (play one_partition with_handler (raises ∷ [])) two) ≡ Some true
+  pub others_are_sound : faulted_now (at (play one_partition with_handler (raises ∷ [])) one) ≡ Some false
+  pub oldest_is_taken : gets two_errors handler (request.Health HealthOperation.GetErrorStatus)
+      ≡ record { out = out.Answer code.NoError; val = Number (pos 1); val2 = Some (pos 2); val3 = None; bytes = 7 ∷ []; woken = [] }
+  pub second_is_listed : gets one_left handler (request.Health HealthOperation.GetErrorStatus)
+      ≡ record { out = out.Answer code.NoError; val = Number (pos 2); val2 = Some (pos 1); val3 = None; bytes = []; woken = [] }
+  pub handler_stays : choice one_partition one_left 0 ≡ Some handler
+  pub taken_is_healed : faulted_now (at one_left two) ≡ Some false
+  pub left_is_faulted : faulted_now (at one_left one) ≡ Some true
+  pub handler_is_over : alive_now (at none_left handler) ≡ Some false
+  pub both_are_healed : faulted_now (at none_left one) ≡ Some false
+  pub first_goes_on : choice one_partition none_left 0 ≡ Some two
+  pub no_handler_no_fault : faulted_now (at (play one_partition (three_processes []) (raises ∷ [])) two) ≡ Some false
+  pub error_restarts : answer_of restarting (played restarting []).cores 0 two ((three_processes []).partitions 0) (request.Health (HealthOperation.RaiseError (pos 1) (pos 1) (7 ∷ []))) ≡ never
+  pub restarted_mode : ((play restarting (three_processes []) (reports_numeric true ∷ [])).partitions 0).mode ≡ mode.ColdStart
+  pub restarted_start : ((play restarting (three_processes []) (reports_numeric true ∷ [])).partitions 0).start ≡ start_condition.ErrorRestart
+  pub restarted_processes : at (play restarting (three_processes []) (reports_numeric true ∷ [])) one ≡ None
   pub deadline_is_reported : deadline_of (at (play one_partition (timed (negsuc 0) (pos 5)) (reports_deadline ∷ [])) one) ≡ None
   pub deadline_is_stopped : deadline_of (at (play one_partition (timed (negsuc 0) (pos 5)) (claims 0 one 10 (request.Caller CallerOperation.StopSelf) out.Never None [] None [] ∷ [])) one) ≡ None
   -- PERIODIC_WAIT sets the deadline of the next release, REPLENISH that of a budget

@@ -162,8 +162,8 @@ pub fn each_named_leaves()
     ensures { EachNamedLeaves }
 {}
 
-/// Calls of other partitions, arrivals, departures, returns, dispatches and errors leave a partition's objects, waiting sets and ports
-/// unchanged.
+/// Calls of other partitions, arrivals, departures, returns, dispatches and errors that do not restart it leave a partition's objects,
+/// waiting sets and ports unchanged.
 pub fn foreign_calls_leave_sets()
     ensures { ForeignCallsLeaveSets }
 {}
@@ -224,7 +224,8 @@ pub fn view_numbers_tell()
     ensures { NumbersTell }
 {}
 
-/// The choice is the ready process that no other goes before, or none if no process is ready.
+/// The choice is the error handler if it is ready; else no process if the cores stand still for it; else the owner of the lock if it is
+/// ready; else the ready process that no other goes before, or none if no process is ready.
 pub fn choice_is_the_sentence()
     ensures { ChoiceIsTheSentence }
 {}
@@ -287,7 +288,7 @@ pub fn object_call_is_the_sentence()
 {}
 
 /// What a service sets in the processes of its partition is what the sentences say: affinity, start, suspension, resumption,
-/// priority, the entry into NORMAL, and the priorities of the owners of mutexes.
+/// priority, the entry into NORMAL, the priorities of the owners of mutexes, and who is faulted.
 pub fn setting_is_the_sentence()
     ensures { SettingIsTheSentence }
 {}
@@ -312,7 +313,7 @@ pub fn stopping_is_the_sentence()
     ensures { StoppingIsTheSentence }
 {}
 
-/// A caller waits, is stopped, or has its outcome due, as the sentences say.
+/// A caller waits, is stopped, or has its outcome due, as the sentences say; an error handler that has more errors to take stays ready.
 pub fn caller_is_the_sentence()
     ensures { CallerIsTheSentence }
 {}
@@ -333,7 +334,7 @@ pub fn creation_is_the_sentence()
     ensures { CreationIsTheSentence }
 {}
 
-/// What the services of process management and time give their callers is what the sentences say.
+/// What the services of process management, time and health monitoring give their callers is what the sentences say.
 pub fn answer_is_the_sentence()
     ensures { AnswerIsTheSentence }
 {}
@@ -354,8 +355,8 @@ pub fn return_is_the_sentence()
     ensures { ReturnIsTheSentence }
 {}
 
-/// The report of a missed deadline is of a process that has missed its deadline on its core, takes the deadline away, and changes nothing
-/// else.
+/// The report of an error is of a process that can have it. If no handler takes the error and the configuration says so, it restarts the
+/// partition. Otherwise it changes that process and lists the error as the sentences say, and it changes nothing else.
 pub fn error_is_the_sentence()
     ensures { ErrorIsTheSentence }
 {}
@@ -390,8 +391,8 @@ pub fn departure_is_the_sentence()
 {}
 
 /// A call that restarts its partition starts the partition anew in the given mode, takes its processes out of the waiting sets of all
-/// channels, and changes nothing else. SET_PARTITION_MODE to IDLE, COLD_START or WARM_START that does not return is such a call, and no
-/// other is.
+/// channels, and changes nothing else. SET_PARTITION_MODE to IDLE, COLD_START or WARM_START that does not return is such a call, and so is
+/// RAISE_APPLICATION_ERROR that does not return; no other is.
 pub fn restart_is_the_sentence()
     ensures { RestartIsTheSentence }
 {}

@@ -8,6 +8,7 @@ use Rattle.apex_types.specs.declared.object_kind.ObjectKind.TheVariants as kind
 use Rattle.apex_types.specs.declared.record.Body.{Body}
 use Rattle.apex_types.specs.declared.record.Body.TheVariants.{Arrive, Call, Depart, Ret, Disp, Tick, Error}
 use Rattle.apex_types.specs.declared.record.Call.{Call as CallRecord}
+use Rattle.apex_types.specs.declared.record.ErrorReport.{ErrorReport}
 use Rattle.apex_types.specs.declared.record.Ordered.{Ordered}
 use Rattle.apex_types.specs.declared.record.Out.{Out}
 use Rattle.apex_types.specs.declared.record.Out.TheVariants as out
@@ -23,18 +24,20 @@ use Rattle.apex_machine.specs.declared.state.Entry.{Entry}
 use Rattle.apex_machine.specs.declared.state.Mode.{Mode}
 use Rattle.apex_machine.specs.declared.state.Mode.TheVariants as mode
 use Rattle.apex_machine.specs.declared.state.Process.{Process}
-use Rattle.apex_machine.specs.declared.state.StartCondition.TheVariants.{PartitionRestart}
+use Rattle.apex_machine.specs.declared.state.Restart.{Restart}
+use Rattle.apex_machine.specs.declared.state.StartCondition.TheVariants.{ErrorRestart, PartitionRestart}
 use Rattle.apex_machine.specs.declared.state.WaitingSet.{WaitingSet}
-use Rattle.apex_machine.specs.Arguments.{discipline_given, natural_of}
+use Rattle.apex_machine.specs.Arguments.{discipline_given, natural_of, restart_given}
 use Rattle.apex_machine.specs.Channels.{QueuingPort, SamplingPort, queuing_port, sampling_port}
 use Rattle.apex_machine.specs.Configuration.{Configuration, first_core, period_of}
 use Rattle.apex_machine.specs.Locks.{lock_by, lock_left}
 use Rattle.apex_machine.specs.Objects.{object_effect}
 use Rattle.apex_machine.specs.Ports.{arrived, channel_effect, departed, use_of}
 pub use Rattle.apex_machine.specs.Processes.{caller_after, caller_with, outcome_of, released}
-use Rattle.apex_machine.specs.Processes.{new_process, reported, set_by, stopped, woken_by}
+use Rattle.apex_machine.specs.Errors.{error_mode, errors_after, errors_by, handler_by, handles_more, reported}
+use Rattle.apex_machine.specs.Processes.{new_process, set_by, stopped, woken_by}
 use Rattle.apex_machine.specs.State.{Blackboard, Buffer, Channel, Content, Event, Lock, Mutex, ObjectOf, Partition, Port, Semaphore, State, Table, at_core, change_at, channel_set, each_item, is_named, objects_of, set_at, started_partition, time_of, with_ends, with_objects}
-use Rattle.apex_machine.specs.Waiting.{message_of, restart_of, set_after, stops}
+use Rattle.apex_machine.specs.Waiting.{is_restart, message_of, set_after, stops}
 
 -- whether a call was carried out: it waits, it does not return, or it answered NO_ERROR
 abbrev pub is_done : Out → Bool
@@ -64,7 +67,7 @@ abbrev pub called : ℕ → ℕ → ℕ → List CoreState → Partition → Cal
 called place now period cores partition call number process =
     let changed = adjusted place period cores partition call number process in
     let who : Who = record { part = call.who.part; proc = number } in
-    if nat_eq number call.who.proc then caller_after place now call changed
+    if nat_eq number call.who.proc then caller_after place now (handles_more partition call.who.proc call.request) call changed
     else if stops call who then stopped changed
     else woken_if_named place (message_of call.request) call.claim.woken who changed
 
@@ -178,11 +181,6 @@ objects_called configuration place call partition =
     each_set (set_after place (Call call))
     (if is_done call.claim.out then objects_by configuration call.who call.claim.val call.request partition else partition)
 
--- whether the partition has an error handler after a call that is done
-abbrev pub has_handler_by : Request → Bool → Bool
-has_handler_by request.CreateErrorHandler before = true
-has_handler_by _ before = before
-
 -- the lock after a call, with its waiting set
 abbrev pub lock_called : ℕ → CallRecord → Lock → Lock
 lock_called place call lock =
@@ -192,16 +190,34 @@ lock_called place call lock =
 abbrev pub partition_called : Configuration → List CoreState → ℕ → ℕ → CallRecord → Partition → Partition
 partition_called configuration cores place core call partition = record (objects_called configuration place call partition) {
   mode = if is_done call.claim.out then mode_by call.request partition.mode else partition.mode;
-  has_handler = if is_done call.claim.out then has_handler_by call.request partition.has_handler else partition.has_handler;
+  handler = if is_done call.claim.out then handler_by configuration call.who.part call.request partition.handler else partition.handler;
+  errors = if is_done call.claim.out then errors_by call.who.proc call.request partition else partition.errors;
   lock = lock_called place call partition.lock;
   table = each_item (called place (time_of cores core) (period_of configuration call.who.part) cores partition call) partition.table
       ++ created_by (first_core configuration call.who.part) call call.request;
 }
 
--- the caller's partition after a call at this place and core; if the call restarts the partition, it does so in this mode
-abbrev pub own_partition : Option Mode → Configuration → List CoreState → ℕ → ℕ → CallRecord → Partition → Partition
+-- a restart after an error of a partition, if its errors restart it
+abbrev pub restart_by_error : Configuration → ℕ → Option Restart
+restart_by_error configuration number = option_map (λ mode. record { start = ErrorRestart; mode = mode }) (error_mode configuration number)
+
+-- the restart of a call that restarts its caller's partition: SET_PARTITION_MODE gives the mode, for RAISE_APPLICATION_ERROR it is configured
+abbrev pub restart_for : Configuration → ℕ → Request → Option Restart
+restart_for configuration number (request.SetPartitionMode next) = option_map (λ mode. record { start = PartitionRestart; mode = mode }) (restart_given next)
+restart_for configuration number _ = restart_by_error configuration number
+
+-- the restart that a call makes, if it makes one
+abbrev pub restart_of : Configuration → CallRecord → Option Restart
+restart_of configuration call = if is_restart call then restart_for configuration call.who.part call.request else None
+
+-- a partition restarted at this place
+abbrev pub restarted : Restart → Configuration → ℕ → ℕ → Partition
+restarted restart configuration number place = started_partition restart.start restart.mode configuration number place
+
+-- the caller's partition after a call at this place and core, by the restart that it makes, if it makes one
+abbrev pub own_partition : Option Restart → Configuration → List CoreState → ℕ → ℕ → CallRecord → Partition → Partition
 own_partition None configuration cores place core call partition = partition_called configuration cores place core call partition
-own_partition (Some mode) configuration cores place core call partition = started_partition PartitionRestart mode configuration call.who.part place
+own_partition (Some restart) configuration cores place core call partition = restarted restart configuration call.who.part place
 
 -- a process after a tick that may wake it
 abbrev pub ticked : ℕ → ℕ → List Who → ℕ → Process → Process
@@ -212,9 +228,21 @@ ticked place partition woken number process =
 abbrev pub returned : ℕ → ℕ → Process → Process
 returned returner number process = if nat_eq number returner then record process { due = None } else process
 
--- a process after the report of a missed deadline, which takes away the deadline of the process that missed it
-abbrev pub deadline_taken : ℕ → ℕ → Process → Process
-deadline_taken missed number process = if nat_eq number missed then reported process else process
+-- a partition after the report of an error of one of its processes that does not restart it
+abbrev pub partition_told : ℕ → ErrorReport → Partition → Partition
+partition_told place report partition = record partition {
+  errors = errors_after partition report;
+  table = each_item (reported place partition report) partition.table;
+}
+
+-- the restart that the report of an error makes, if it makes one
+abbrev pub restart_told : Configuration → ErrorReport → Option Restart
+restart_told configuration report = if report.restarts then restart_by_error configuration report.who.part else None
+
+-- a partition after the report of an error of one of its processes, by the restart that it makes, if it makes one
+abbrev pub partition_errored : Option Restart → Configuration → ℕ → ErrorReport → Partition → Partition
+partition_errored None configuration place report partition = partition_told place report partition
+partition_errored (Some restart) configuration place report partition = restarted restart configuration report.who.part place
 
 -- a partition after a record of others, which hands over this message and can only end waits of the partition's processes
 abbrev pub partition_woken : ℕ → ℕ → List ℕ → List Who → Partition → Partition
@@ -231,12 +259,12 @@ partition_by configuration cores place core number (Ret ret) partition =
     if nat_eq ret.who.part number then record partition { table = each_item (returned ret.who.proc) partition.table } else partition
 partition_by configuration cores place core number (Call call) partition =
     if nat_eq call.who.part number
-    then own_partition (restart_of call) configuration cores place core call partition
+    then own_partition (restart_of configuration call) configuration cores place core call partition
     else partition_woken place number (message_of call.request) call.claim.woken partition
 partition_by configuration cores place core number (Arrive crossing) partition = partition_woken place number crossing.message crossing.woken partition
 partition_by configuration cores place core number (Depart crossing) partition = partition_woken place number [] crossing.woken partition
 partition_by configuration cores place core number (Error report) partition =
-    if nat_eq report.who.part number then record partition { table = each_item (deadline_taken report.who.proc) partition.table } else partition
+    if nat_eq report.who.part number then partition_errored (restart_told configuration report) configuration place report partition else partition
 
 -- a partition after an ordered record
 abbrev pub partition_after : Configuration → List CoreState → ℕ → Ordered → Partition → Partition

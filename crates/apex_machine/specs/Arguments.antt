@@ -100,6 +100,7 @@ mode_number mode.Normal = 3
 abbrev pub start_number : StartCondition → ℕ
 start_number start.NormalStart = 0
 start_number start.PartitionRestart = 1
+start_number start.ErrorRestart = 3
 
 -- a time-out is -1, which never falls due, or not below 0
 abbrev pub is_time_out : ℤ → Bool

@@ -5,7 +5,9 @@ use Rattle.apex_machine.specs.declared.state.Process.{Process}
 use Rattle.apex_machine.specs.declared.state.Wait.{Wait}
 use Rattle.apex_machine.specs.declared.state.Wait.TheVariants as wait
 use Rattle.apex_machine.specs.Configuration.{Configuration, window_at}
-use Rattle.apex_machine.specs.State.{Partition, State, Table, item_at, time_of}
+use Rattle.apex_machine.specs.declared.state.ErrorHandler.{ErrorHandler}
+use Rattle.apex_machine.specs.declared.state.Mode.TheVariants.{Normal}
+use Rattle.apex_machine.specs.State.{Partition, State, Table, is_normal, item_at, time_of}
 
 -- whether a wait is for nothing
 abbrev pub waits_for_nothing : Wait → Bool
@@ -14,7 +16,8 @@ waits_for_nothing _ = false
 
 -- the test whether a process is ready on a core
 abbrev pub is_ready : ℕ → Process → Bool
-is_ready core process = process.alive && (not process.suspended && (waits_for_nothing process.wait && nat_eq process.affinity core))
+is_ready core process =
+    process.alive && (not process.faulted && (not process.suspended && (waits_for_nothing process.wait && nat_eq process.affinity core)))
 
 -- the test whether one ready process goes before another
 abbrev pub goes_before : ℕ × Process → ℕ × Process → Bool
@@ -53,9 +56,31 @@ choice_under partition core None table = choice_in partition core table
 choice_under partition core (Some owner) table =
     if is_one_ready core (item_at table owner) then Some (record { part = partition; proc = owner }) else choice_in partition core table
 
--- the choice of a core in a window of this partition
+-- whether the error handler of a partition, process 0 in NORMAL, is ready on a core
+abbrev pub is_handling_on : ℕ → Partition → Bool
+is_handling_on core partition = is_normal partition.mode && is_one_ready core (item_at partition.table 0)
+
+-- whether a process is alive, if it exists
+abbrev pub is_one_alive : Option Process → Bool
+is_one_alive None = false
+is_one_alive (Some process) = process.alive
+
+-- whether there is a handler that lets the other cores of its partition stand still
+abbrev pub pauses_others : Option ErrorHandler → Bool
+pauses_others None = false
+pauses_others (Some handler) = handler.pauses
+
+-- whether the error handler of a partition lets the other cores stand still: it is ready, and the other cores pause for it
+abbrev pub is_paused : Partition → Bool
+is_paused partition = is_normal partition.mode && (is_one_alive (item_at partition.table 0) && pauses_others partition.handler)
+
+-- the choice of a core in a window of this partition: the error handler on its own core; none on a core that the handler lets stand still;
+-- else the choice under the lock
 abbrev pub partition_choice : ℕ → ℕ → Partition → Option Who
-partition_choice number core partition = choice_under number core partition.lock.owner partition.table
+partition_choice number core partition =
+    if is_handling_on core partition then Some (record { part = number; proc = 0 })
+    else if is_paused partition then None
+    else choice_under number core partition.lock.owner partition.table
 
 -- the choice of a core in a window of the partition of this number; idle if the core is in no window
 abbrev pub choice_of : Option ℕ → (ℕ → Partition) → ℕ → Option Who
@@ -68,10 +93,11 @@ choice configuration state core = choice_of (window_at configuration core (time_
 
 -- the rule of the choice, in sentences that share nothing with the tests above
 
--- a process is ready on a core if it is not dormant, is not suspended, waits for nothing, and has this core as its own   (process states,
--- section 2)
+-- a process is ready on a core if it is not dormant, not faulted and not suspended, waits for nothing, and has this core as its own   (process
+-- states, section 2)
 pub record IsReady (core : ℕ) (process : Process) : Type 0 where
   pub alive : IsTrue process.alive
+  pub sound : IsFalse process.faulted
   pub goes_on : IsFalse process.suspended
   pub waits : process.wait ≡ wait.Nothing
   pub affinity : process.affinity ≡ core
@@ -99,3 +125,24 @@ IsReadyOwner core owner table = (process : Process) × Contains table (owner, pr
 pub data IsChosenUnder (core : ℕ) (owner : Option ℕ) (table : Table) (entry : ℕ × Process) : Type 0 where
   owner_runs : owner ≡ Some entry.0 → Contains table entry → IsReady core entry.1 → IsChosenUnder core owner table entry
   first_runs : ((number : ℕ) → owner ≡ Some number → ¬ IsReadyOwner core number table) → IsChosen core table entry → IsChosenUnder core owner table entry
+
+-- process 0 of a partition is its error handler: the mode is NORMAL, and process 0 is in the table
+pub record IsTheHandler (partition : Partition) (process : Process) : Type 0 where
+  pub normal : partition.mode ≡ Normal
+  pub is_member : Contains partition.table (0, process)
+
+-- the error handler of a partition is ready on this core
+abbrev pub HandlerIsReady : ℕ → Partition → Type 0
+HandlerIsReady core partition = (process : Process) × IsTheHandler partition process × IsReady core process
+
+-- the cores of a partition stand still but for the handler's: the handler is not dormant, and the others pause for it
+abbrev pub OthersPause : Partition → Type 0
+OthersPause partition =
+    ((process : Process) × IsTheHandler partition process × IsTrue process.alive)
+    × ((handler : ErrorHandler) × (partition.handler ≡ Some handler) × IsTrue handler.pauses)
+
+-- the choice of a core in a window of a partition: the error handler where it is ready; where it is not, no process if the cores stand still
+-- for it, else the one that the lock allows   (error handler, section 2)
+pub data IsChosenIn (core : ℕ) (partition : Partition) (entry : ℕ × Process) : Type 0 where
+  handler_runs : entry.0 ≡ 0 → IsTheHandler partition entry.1 → IsReady core entry.1 → IsChosenIn core partition entry
+  other_runs : ¬ HandlerIsReady core partition → ¬ OthersPause partition → IsChosenUnder core partition.lock.owner partition.table entry → IsChosenIn core partition entry

@@ -12,6 +12,7 @@ use Rattle.apex_machine.specs.declared.state.Process.{Process}
 use Rattle.apex_machine.specs.Arguments.{is_over, is_time_out}
 use Rattle.apex_machine.specs.Locks.{owns_lock}
 use Rattle.apex_machine.specs.Objects.{is_owner}
+pub use Rattle.apex_machine.specs.State.{is_normal}
 use Rattle.apex_machine.specs.State.{Mutex, Partition}
 
 -- the return code of a condition   (section 3)
@@ -71,6 +72,12 @@ code_of condition.OwnsLock = code.InvalidMode
 code_of condition.ProcessOwnsLock = code.InvalidMode
 code_of condition.BudgetOutOfRange = code.InvalidParam
 code_of condition.BudgetAboveRelease = code.InvalidMode
+code_of condition.ErrorNotOfApplication = code.InvalidParam
+code_of condition.NotHandler = code.InvalidConfig
+code_of condition.NoErrorListed = code.NoAction
+code_of condition.NoHandler = code.InvalidConfig
+code_of condition.ConcurrencyOutOfRange = code.InvalidParam
+code_of condition.HandlerCoreNotOfPartition = code.InvalidParam
 
 -- this condition, if it holds
 abbrev pub when : Bool → Condition → List Condition
@@ -85,11 +92,6 @@ conditions_for (Some object) conditions = conditions object
 abbrev pub conditions_if : {Object : Type 0} → Option Object → (Object → List Condition) → List Condition
 conditions_if None conditions = []
 conditions_if (Some object) conditions = conditions object
-
--- whether a mode is NORMAL
-abbrev pub is_normal : Mode → Bool
-is_normal mode.Normal = true
-is_normal _ = false
 
 -- whether a mode is COLD_START
 abbrev pub is_cold_start : Mode → Bool

@@ -29,7 +29,10 @@ use Rattle.apex_machine.specs.Configuration.{Configuration, has_partition, windo
 use Rattle.apex_machine.specs.Pieces.{ChannelPart, ModulePart, Part, PartitionPart, part_after, time_at}
 use Rattle.apex_machine.specs.Channels.{has_channel, is_from_outside, is_to_outside, size_of}
 use Rattle.apex_machine.specs.Ports.{arrived, channel_effect, channel_of, departed, suits_use, use_of}
+use Rattle.apex_types.specs.declared.error.ErrorCode.{ErrorCode}
+use Rattle.apex_types.specs.declared.error.ErrorCode.TheVariants as error
 use Rattle.apex_machine.specs.Deadlines.{is_missed}
+use Rattle.apex_machine.specs.Errors.{restarts_by_error}
 use Rattle.apex_machine.specs.DueTimes.{NamesThoseDue, time_out_of}
 use Rattle.apex_machine.specs.ServiceConditions.{conditions_of}
 use Rattle.apex_machine.specs.Services.{Answer, HasNoValues, HasValues, NamesExactly, answer_of}
@@ -164,7 +167,7 @@ abbrev pub own_call_demands : Configuration → ℕ → List CoreState → Parti
 own_call_demands configuration number cores partition core call =
     caller_demands configuration number cores partition core call
     ++ outcome_demands (conditions_of configuration (time_of cores core) call.who partition call.request) (channel_of partition call.request) number call.request
-    (answer_of cores core call.who partition call.request) call.claim
+    (answer_of configuration cores core call.who partition call.request) call.claim
 
 -- partitions: the calls of others, the returns and the ticks
 
@@ -207,13 +210,19 @@ pub record ReturnsValues (outcome : Outcome) (ret : Return) : Type 0 where
   pub val2 : outcome.val2 ≡ ret.val2
   pub val3 : outcome.val3 ≡ ret.val3
 
--- the report of a missed deadline: it comes in a window of the partition and on the core of the process, the deadline is missed, and the
--- partition is not restarted
+-- the process of an error: it has missed its deadline and runs on the core; with another error it is the occupant and the choice
+abbrev pub process_demand : ErrorCode → ℕ → List CoreState → Partition → ℕ → Who → Demand
+process_demand error.DeadlineMissed number cores partition core who =
+    record { cause = cause.Deadline; holds = IsTrue (is_missed core (time_of cores core) (item_at partition.table who.proc)) }
+process_demand _ number cores partition core who = record { cause = cause.Choice; holds = IsRunning number cores partition core who }
+
+-- the report of an error: it comes in a window of the partition, is of a process that can have it, and restarts the partition exactly if no
+-- handler takes it and the configuration says so
 abbrev pub error_demands : Configuration → ℕ → List CoreState → Partition → ℕ → ErrorReport → List {1} Demand
 error_demands configuration number cores partition core report =
     record { cause = cause.Window; holds = window_now configuration cores core ≡ Some number }
-    ∷ record { cause = cause.Deadline; holds = IsTrue (is_missed core (time_of cores core) (item_at partition.table report.who.proc)) }
-    ∷ record { cause = cause.Out; holds = IsFalse report.restarts } ∷ []
+    ∷ process_demand report.error number cores partition core report.who
+    ∷ record { cause = cause.Out; holds = restarts_by_error configuration number partition report.who.proc ≡ report.restarts } ∷ []
 
 -- a partition: its windows, its deadlines, its choices, and the claims of its own calls and returns; of an arrival, that its processes that
 -- are named wait to receive on that channel, and of a departure, that they wait to send

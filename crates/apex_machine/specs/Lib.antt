@@ -12,6 +12,7 @@ pub mod Objects
 pub mod Locks
 pub mod Ports
 pub mod Conditions
+pub mod Errors
 pub mod Names
 pub mod Statuses
 pub mod ProcessConditions

@@ -10,7 +10,7 @@ use Rattle.apex_machine.specs.After.{channel_after, cores_after, is_channel, par
 use Rattle.apex_machine.specs.Channels.{channel_numbers, has_channel, is_at_end}
 use Rattle.apex_machine.specs.Configuration.{Configuration, has_partition}
 use Rattle.apex_machine.specs.State.{Channel, Partition, State, names_one_of}
-use Rattle.apex_machine.specs.Waiting.{is_no_error, restart_of, stop_of}
+use Rattle.apex_machine.specs.Waiting.{is_no_error, is_restart, stop_of}
 
 -- a piece: the module, the partition of a number, or the channel of a number
 pub data Piece : Type 0 where
@@ -48,7 +48,7 @@ is_configured configuration (OfChannel number) = has_channel configuration numbe
 
 -- whether a call stops processes of its caller's partition: a restart stops all of them, a STOP that is done stops one
 abbrev pub stops_some : CallRecord → Bool
-stops_some call = is_some (restart_of call) || (is_some (stop_of call.request) && is_no_error call.claim.out)
+stops_some call = is_restart call || (is_some (stop_of call.request) && is_no_error call.claim.out)
 
 -- whether a call stops processes of a partition at an end of this channel
 abbrev pub stops_at_end : Configuration → ℕ → CallRecord → Bool

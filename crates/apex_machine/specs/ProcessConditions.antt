@@ -2,7 +2,9 @@
 use Rattle.std.specs.Prelude.{ℕ, ◌-◌, List, [], ◌∷◌, ◌++◌, length, Option, Some, None, Bool, false, ℤ, not, is_none, is_some, nat_eq, nat_le, ◌&&◌, ◌||◌}
 use Rattle.std.specs.Option.{option_map_or}
 use Rattle.apex_types.specs.declared.limits.TheConstants.{GREATEST_LOCK_LEVEL}
+use Rattle.apex_types.specs.declared.error.ErrorCode.TheVariants as error
 use Rattle.apex_types.specs.declared.record.Who.{Who}
+use Rattle.apex_types.specs.Numbers.{error_number}
 use Rattle.apex_machine.specs.declared.condition.Condition.{Condition}
 use Rattle.apex_machine.specs.declared.condition.Condition.TheVariants as condition
 use Rattle.apex_machine.specs.declared.state.Mode.{Mode}
@@ -13,7 +15,8 @@ use Rattle.apex_machine.specs.Configuration.{Configuration, is_core, period_of, 
 use Rattle.apex_machine.specs.Deadlines.{ends_after}
 use Rattle.apex_machine.specs.DueTimes.{is_suspension, next_release}
 use Rattle.apex_machine.specs.Locks.{owns_lock}
-use Rattle.apex_machine.specs.State.{Partition, Table, created, item_at}
+use Rattle.apex_machine.specs.Errors.{is_some_listed}
+use Rattle.apex_machine.specs.State.{Partition, Table, created, is_handler, item_at}
 
 -- how many processes are created: all but the initialising one
 abbrev pub created_count : Table → ℕ
@@ -126,7 +129,25 @@ report_conditions length = when (not (is_report_length length)) condition.Length
 
 -- CREATE_ERROR_HANDLER: a mode other than NORMAL, and no handler yet
 abbrev pub create_handler_conditions : Partition → List Condition
-create_handler_conditions partition = when (is_normal partition.mode) condition.InNormal ++ when partition.has_handler condition.HandlerCreated
+create_handler_conditions partition = when (is_normal partition.mode) condition.InNormal ++ when (is_some partition.handler) condition.HandlerCreated
+
+-- CONFIGURE_ERROR_HANDLER: a mode other than NORMAL, and a created handler; a concurrency of 0 or 1, and one of the partition's cores
+abbrev pub configure_handler_conditions : Configuration → ℕ → Partition → ℤ → ℤ → List Condition
+configure_handler_conditions configuration number partition concurrency core =
+    when (is_normal partition.mode) condition.InNormal
+    ++ when (is_none partition.handler) condition.NoHandler
+    ++ when (not (is_number concurrency 0 || is_number concurrency 1)) condition.ConcurrencyOutOfRange
+    ++ when (not (is_core configuration number core)) condition.HandlerCoreNotOfPartition
+
+-- RAISE_APPLICATION_ERROR: the number of APPLICATION_ERROR, and a length in range
+abbrev pub raise_conditions : ℤ → ℤ → List Condition
+raise_conditions given length =
+    when (not (is_number given (error_number error.ApplicationError))) condition.ErrorNotOfApplication ++ report_conditions length
+
+-- GET_ERROR_STATUS: the error handler, and an error that it has still to take
+abbrev pub error_status_conditions : Who → Partition → List Condition
+error_status_conditions who partition =
+    when (not (is_handler partition who.proc)) condition.NotHandler ++ when (not (is_some_listed partition.errors)) condition.NoErrorListed
 
 -- the lock
 

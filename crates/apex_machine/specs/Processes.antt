@@ -22,6 +22,7 @@ use Rattle.apex_machine.specs.Arguments.{capacity_given, is_number, is_over, nat
 use Rattle.apex_machine.specs.Conditions.{is_normal}
 use Rattle.apex_machine.specs.Deadlines.{deadline_by, entry_deadline}
 use Rattle.apex_machine.specs.DueTimes.{delay_kept, entry_wait, next_release, wait_of, waits_for_normal}
+use Rattle.apex_machine.specs.Errors.{error_set}
 use Rattle.apex_machine.specs.Objects.{is_owner, mutex_effect}
 use Rattle.apex_machine.specs.State.{Mutex, Partition, given_object, time_of}
 use Rattle.apex_machine.specs.Waiting.{is_no_error, service_at}
@@ -41,6 +42,7 @@ new_process core name priority period time_capacity = record {
   deadline = None;
   last_release = 0;
   alive = false;
+  faulted = false;
   suspended = false;
   wait = wait.Nothing;
   ready_position = 0;
@@ -70,14 +72,10 @@ after_normal place partition_period now process =
     }
     else process
 
--- a stopped process is dormant: it is not suspended, waits for nothing, has no deadline, and nothing is due to it   (STOP, STOP_SELF,
--- section 3)
+-- a stopped process is dormant: it is neither faulted nor suspended, waits for nothing, has no deadline, and nothing is due to it   (STOP,
+-- STOP_SELF, section 3)
 abbrev pub stopped : Process → Process
-stopped process = record process { alive = false; suspended = false; wait = wait.Nothing; deadline = None; due = None }
-
--- a missed deadline that is reported is taken away
-abbrev pub reported : Process → Process
-reported process = record process { deadline = None }
+stopped process = record process { alive = false; faulted = false; suspended = false; wait = wait.Nothing; deadline = None; due = None }
 
 -- priorities
 
@@ -117,13 +115,18 @@ set_in place period now mode ProcessOperation.GetMutexState process = process
 
 -- what a call sets in the processes of its partition, apart from the waits that it ends and its caller's wait and outcome: a service that
 -- names a process sets something in its target, SET_PARTITION_MODE in those that wait for NORMAL, ACQUIRE_MUTEX, RELEASE_MUTEX and
--- RESET_MUTEX the priority of the owners. Times are those of the processes' own cores
+-- RESET_MUTEX the priority of the owners, RAISE_APPLICATION_ERROR and the handler's STOP_SELF who is faulted. Times are those of the
+-- processes' own cores
 abbrev pub set_by : ℕ → ℕ → List CoreState → Partition → ℕ → Request → ℕ → Process → Process
 set_by place period cores partition caller (request.Process given operation) number process =
     if is_number given number then set_in place period (time_of cores process.affinity) partition.mode operation process else process
 set_by place period cores partition caller (request.SetPartitionMode next) number process = after_normal place period (time_of cores process.affinity) process
 set_by place period cores partition caller (request.Object mutex (on.Mutex operation)) number process =
     by_mutex (given_object partition.mutexes mutex) (λ found. (mutex_effect caller operation found).next) number process
+set_by place period cores partition caller (request.Health operation) number process =
+    error_set place partition caller (request.Health operation) number process
+set_by place period cores partition caller (request.Caller operation) number process =
+    error_set place partition caller (request.Caller operation) number process
 set_by place period cores partition caller _ number process = process
 
 -- the end of a wait
@@ -217,6 +220,7 @@ caller_with place now call (out.Answer code) process = record process {
   due = Some (outcome_of call code);
 }
 
--- the caller, with the time of its core noted
-abbrev pub caller_after : ℕ → ℕ → CallRecord → Process → Process
-caller_after place now call process = record (caller_with place now call call.claim.out process) { called_at = now }
+-- the caller, with the time of its core noted; a handler that has more errors to take stays as it is
+abbrev pub caller_after : ℕ → ℕ → Bool → CallRecord → Process → Process
+caller_after place now handles_more call process =
+    record (if handles_more then process else caller_with place now call call.claim.out process) { called_at = now }

@@ -1,7 +1,7 @@
 -- The error conditions of every service, by the request.
 use Rattle.std.specs.Prelude.{ℕ, List, [], ◌++◌, option_map}
 use Rattle.apex_types.specs.declared.record.Who.{Who}
-use Rattle.apex_types.specs.declared.operation.{BlackboardOperation.BlackboardOperation, BufferOperation.BufferOperation, CallerOperation.CallerOperation, EventOperation.EventOperation, LockOperation.LockOperation, MutexOperation.MutexOperation, ProcessOperation.ProcessOperation, QueuingOperation.QueuingOperation, SamplingOperation.SamplingOperation, SemaphoreOperation.SemaphoreOperation}
+use Rattle.apex_types.specs.declared.operation.{BlackboardOperation.BlackboardOperation, BufferOperation.BufferOperation, CallerOperation.CallerOperation, EventOperation.EventOperation, HealthOperation.HealthOperation, LockOperation.LockOperation, MutexOperation.MutexOperation, ProcessOperation.ProcessOperation, QueuingOperation.QueuingOperation, SamplingOperation.SamplingOperation, SemaphoreOperation.SemaphoreOperation}
 use Rattle.apex_types.specs.declared.request.Request.{Request}
 use Rattle.apex_types.specs.declared.operation.ObjectOperation.TheVariants as on
 use Rattle.apex_types.specs.declared.request.Request.TheVariants as request
@@ -12,7 +12,7 @@ use Rattle.apex_machine.specs.Names.{get_id_conditions, number_of}
 use Rattle.apex_machine.specs.CreationConditions.{create_conditions}
 use Rattle.apex_machine.specs.ObjectConditions.{acquire_conditions, message_conditions, object_conditions, release_conditions, reset_conditions}
 use Rattle.apex_machine.specs.PortConditions.{destination_conditions, source_conditions}
-use Rattle.apex_machine.specs.ProcessConditions.{affinity_conditions, create_handler_conditions, create_process_conditions, delayed_start_conditions, get_my_id_conditions, lock_conditions, named_conditions, periodic_wait_conditions, replenish_conditions, report_conditions, resume_conditions, set_mode_conditions, set_priority_conditions, start_conditions, stop_conditions, suspend_conditions, suspend_self_conditions, timed_wait_conditions, unlock_conditions}
+use Rattle.apex_machine.specs.ProcessConditions.{affinity_conditions, configure_handler_conditions, create_handler_conditions, create_process_conditions, delayed_start_conditions, error_status_conditions, get_my_id_conditions, lock_conditions, named_conditions, periodic_wait_conditions, raise_conditions, replenish_conditions, report_conditions, resume_conditions, set_mode_conditions, set_priority_conditions, start_conditions, stop_conditions, suspend_conditions, suspend_self_conditions, timed_wait_conditions, unlock_conditions}
 use Rattle.apex_machine.specs.Statuses.{get_status_conditions}
 use Rattle.apex_machine.specs.State.{Blackboard, Buffer, Partition, created, given_object}
 
@@ -73,7 +73,11 @@ conditions_of configuration now who partition (request.QueuingPort port (Queuing
 conditions_of configuration now who partition (request.QueuingPort port QueuingOperation.Clear) = destination_conditions (given_object partition.queuing_ports port)
 conditions_of configuration now who partition (request.GetId kind name) = get_id_conditions (number_of partition kind name)
 conditions_of configuration now who partition (request.GetStatus kind object) = get_status_conditions partition kind object
-conditions_of configuration now who partition (request.ReportMessage length message) = report_conditions length
-conditions_of configuration now who partition request.CreateErrorHandler = create_handler_conditions partition
+conditions_of configuration now who partition (request.Health (HealthOperation.ReportMessage length message)) = report_conditions length
+conditions_of configuration now who partition (request.Health HealthOperation.CreateHandler) = create_handler_conditions partition
+conditions_of configuration now who partition (request.Health (HealthOperation.ConfigureHandler concurrency core)) =
+    configure_handler_conditions configuration who.part partition concurrency core
+conditions_of configuration now who partition (request.Health (HealthOperation.RaiseError error length message)) = raise_conditions error length
+conditions_of configuration now who partition (request.Health HealthOperation.GetErrorStatus) = error_status_conditions who partition
 conditions_of configuration now who partition (request.Preemption LockOperation.Lock) = lock_conditions who partition
 conditions_of configuration now who partition (request.Preemption LockOperation.Unlock) = unlock_conditions who partition

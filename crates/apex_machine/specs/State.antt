@@ -11,6 +11,8 @@ use Rattle.apex_types.specs.contracts.shape.EndPartialEq.TheImpl as ends
 use Rattle.apex_machine.specs.declared.state.CoreState.{CoreState}
 use Rattle.apex_machine.specs.declared.state.Direction.{Direction}
 use Rattle.apex_machine.specs.declared.state.Entry.{Entry}
+use Rattle.apex_machine.specs.declared.state.ErrorHandler.{ErrorHandler}
+use Rattle.apex_machine.specs.declared.state.ListedError.{ListedError}
 use Rattle.apex_machine.specs.declared.state.Mode.{Mode}
 use Rattle.apex_machine.specs.declared.state.Mode.TheVariants as mode
 use Rattle.apex_machine.specs.declared.state.Process.{Process}
@@ -81,12 +83,13 @@ pub record Port : Type 0 where
   pub channel : ℕ
   pub valid : Bool
 
--- a partition: its operating mode, its start condition, whether it has created an error handler, its lock, its processes, and its objects
--- and ports of each kind under their numbers   (section 2)
+-- a partition: its operating mode, its start condition, its error handler, if it has created one, the errors that the handler has still to
+-- take, the oldest first, its lock, its processes, and its objects and ports of each kind under their numbers   (section 2)
 pub record Partition : Type 0 where
   pub mode : Mode
   pub start : StartCondition
-  pub has_handler : Bool
+  pub handler : Option ErrorHandler
+  pub errors : List ListedError
   pub lock : Lock
   pub table : Table
   pub buffers : List (ℕ × Buffer)
@@ -119,6 +122,17 @@ pub record State : Type 0 where
   pub cores : List CoreState
   pub partitions : ℕ → Partition
   pub channels : ℕ → Channel
+
+-- modes
+
+-- whether a mode is NORMAL
+abbrev pub is_normal : Mode → Bool
+is_normal mode.Normal = true
+is_normal _ = false
+
+-- whether a process is the error handler of its partition: in NORMAL it is process 0
+abbrev pub is_handler : Partition → ℕ → Bool
+is_handler partition number = is_normal partition.mode && nat_eq number 0
 
 -- names of processes
 
@@ -298,6 +312,7 @@ initialising_process core place = record {
   deadline = None;
   last_release = 0;
   alive = true;
+  faulted = false;
   suspended = false;
   wait = wait.Nothing;
   ready_position = place;
@@ -314,13 +329,14 @@ first_processes _ core place = (0, initialising_process core place) ∷ []
 abbrev pub free_lock : Lock
 free_lock = record { owner = None; level = 0; waiters = [] }
 
--- a partition as it starts in a mode at this place: with its first processes and a free lock, and without an error handler, objects and
--- ports   (partition modes, section 2)
+-- a partition as it starts in a mode at this place: with its first processes and a free lock, and without an error handler, errors, objects
+-- and ports   (partition modes, section 2)
 abbrev pub started_partition : StartCondition → Mode → Configuration → ℕ → ℕ → Partition
 started_partition start mode configuration number place = record {
   mode = mode;
   start = start;
-  has_handler = false;
+  handler = None;
+  errors = [];
   lock = free_lock;
   table = first_processes mode (first_core configuration number) place;
   buffers = [];

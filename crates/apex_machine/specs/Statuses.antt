@@ -57,10 +57,12 @@ sampling_port_status port = record { val = number_reported port.valid; val2 = No
 
 -- processes and partitions
 
--- the state of a process: DORMANT is 0, READY 1, RUNNING 2 and WAITING 3. It runs if it is ready and is the occupant of its core
+-- the state of a process: DORMANT is 0, READY 1, RUNNING 2, WAITING 3 and FAULTED 4. It runs if it is ready and is the occupant of its
+-- core
 abbrev pub state_number : List CoreState → Who → Process → ℕ
 state_number cores who process =
     if not process.alive then 0
+    else if process.faulted then 4
     else if not (is_ready process.affinity process) then 3
     else if is_occupant who (occupant_of cores process.affinity) then 2
     else 1

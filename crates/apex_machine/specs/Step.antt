@@ -2,6 +2,8 @@
 use Rattle.std.specs.Prelude.{◌≡◌, ◌⊎◌, ℕ, ◌+◌, ◌≤◌, List, [], ◌∷◌, length, Option, Some, None, Bool, IsTrue, IsFalse}
 use Rattle.apex_types.specs.declared.code.Code.{Code}
 use Rattle.apex_types.specs.declared.code.Code.TheVariants as code
+use Rattle.apex_types.specs.declared.error.ErrorCode.{ErrorCode}
+use Rattle.apex_types.specs.declared.error.ErrorCode.TheVariants as error
 use Rattle.apex_types.specs.declared.record.Body.{Body}
 use Rattle.apex_types.specs.declared.record.Body.TheVariants.{Arrive, Call, Depart, Ret, Disp, Tick, Error}
 use Rattle.apex_types.specs.declared.record.Call.{Call as CallRecord}
@@ -23,6 +25,7 @@ use Rattle.apex_machine.specs.Choice.{choice}
 use Rattle.apex_machine.specs.Conditions.{code_of}
 use Rattle.apex_machine.specs.Configuration.{Configuration, has_partition, window_at}
 use Rattle.apex_machine.specs.Deadlines.{is_missed, some_missed}
+use Rattle.apex_machine.specs.Errors.{restarts_by_error}
 use Rattle.apex_machine.specs.DueTimes.{NamesThoseDue}
 use Rattle.apex_machine.specs.Ports.{arrived, channel_effect, channel_of, departed, suits_use, use_of}
 use Rattle.apex_machine.specs.ServiceConditions.{conditions_of}
@@ -181,7 +184,7 @@ pub record IsLawfulCall (configuration : Configuration) (state : State) (core : 
   pub prio : HasPriority call.claim.prio (item_at (state.partitions call.who.part).table call.who.proc)
   pub outcome : HasOutcome (conditions_of configuration (time_of state.cores core) call.who (state.partitions call.who.part) call.request)
       (channel_of (state.partitions call.who.part) call.request)
-      (answer_of state.cores core call.who (state.partitions call.who.part) call.request)
+      (answer_of configuration state.cores core call.who (state.partitions call.who.part) call.request)
       (λ number. suits_use configuration number call.who.part (use_of call.request) (state.channels number))
       (channel_answer configuration (time_of state.cores core) call.who.part call.request state.channels) call.claim
 
@@ -208,12 +211,19 @@ pub record IsLawfulDeparture (configuration : Configuration) (state : State) (co
   pub message : IsTaken (departed configuration (time_of state.cores core) crossing.chan (state.channels crossing.chan)).answer crossing.message
   pub woken : NamesExactly (departed configuration (time_of state.cores core) crossing.chan (state.channels crossing.chan)).answer.woken crossing.woken
 
--- a missed deadline is reported in a window of the process's partition, on the core on which the process runs; it restarts no partition
+-- an error is that of a process that has missed its deadline and runs on the core, or else that of the occupant, which is the choice
+abbrev pub CanHaveError : ErrorCode → Configuration → State → ℕ → Who → Type 0
+CanHaveError error.DeadlineMissed configuration state core who =
+    IsTrue (is_missed core (time_of state.cores core) (item_at (state.partitions who.part).table who.proc))
+CanHaveError _ configuration state core who = (occupant_of state.cores core ≡ Some who) × (choice configuration state core ≡ Some who)
+
+-- an error is reported in a window of the process's partition, and restarts the partition where no handler takes it and the configuration
+-- says so
 pub record IsLawfulError (configuration : Configuration) (state : State) (core : ℕ) (report : ErrorReport) : Type 0 where
   pub names : IsTrue (has_partition configuration report.who.part)
   pub window : window_at configuration core (time_of state.cores core) ≡ Some report.who.part
-  pub missed : IsTrue (is_missed core (time_of state.cores core) (item_at (state.partitions report.who.part).table report.who.proc))
-  pub goes_on : IsFalse report.restarts
+  pub process : CanHaveError report.error configuration state core report.who
+  pub restart : restarts_by_error configuration report.who.part (state.partitions report.who.part) report.who.proc ≡ report.restarts
 
 -- what a record of each kind claims is true
 abbrev pub IsLawfulBody : Configuration → State → ℕ → Body → Type 0

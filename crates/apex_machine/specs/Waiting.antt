@@ -12,7 +12,7 @@ use Rattle.apex_types.specs.declared.record.Call.{Call as CallRecord}
 use Rattle.apex_types.specs.declared.record.Out.{Out}
 use Rattle.apex_types.specs.declared.record.Out.TheVariants as out
 use Rattle.apex_types.specs.declared.record.Who.{Who}
-use Rattle.apex_types.specs.declared.operation.{ProcessOperation.ProcessOperation, QueuingOperation.QueuingOperation, SamplingOperation.SamplingOperation}
+use Rattle.apex_types.specs.declared.operation.{HealthOperation.HealthOperation, ProcessOperation.ProcessOperation, QueuingOperation.QueuingOperation, SamplingOperation.SamplingOperation}
 use Rattle.apex_types.specs.declared.request.Request.{Request}
 use Rattle.apex_types.specs.declared.request.Request.TheVariants as request
 use Rattle.apex_types.specs.declared.service.Service.{Service}
@@ -22,7 +22,6 @@ use Rattle.apex_types.specs.declared.shape.End.TheVariants.{Senders, Receivers}
 use Rattle.apex_types.specs.Requested.{services_of}
 use Rattle.apex_types.specs.Shapes.{kind_used, message_on, shape_of_queuing, shape_on}
 use Rattle.apex_machine.specs.declared.state.Entry.{Entry}
-use Rattle.apex_machine.specs.declared.state.Mode.{Mode}
 use Rattle.apex_machine.specs.declared.state.Process.{Process}
 use Rattle.apex_machine.specs.declared.state.Wait.{Wait}
 use Rattle.apex_machine.specs.declared.state.Wait.TheVariants as wait
@@ -163,19 +162,20 @@ is_target (Some (negsuc n)) number = false
 abbrev pub stops : CallRecord → Who → Bool
 stops call who = is_no_error call.claim.out && (nat_eq who.part call.who.part && is_target (stop_of call.request) who.proc)
 
--- the mode in which a call restarts its caller's partition, if it does: SET_PARTITION_MODE to IDLE, COLD_START or WARM_START that is
--- carried out, which does not return   (partition modes, section 2)
-abbrev pub restart_by : Request → Out → Option Mode
-restart_by (request.SetPartitionMode next) out.Never = restart_given next
-restart_by _ claimed = None
+-- whether a call restarts its caller's partition: SET_PARTITION_MODE to IDLE, COLD_START or WARM_START, or RAISE_APPLICATION_ERROR, that
+-- does not return   (partition modes, section 2)
+abbrev pub restarts_by : Request → Out → Bool
+restarts_by (request.SetPartitionMode next) out.Never = is_some (restart_given next)
+restarts_by (request.Health (HealthOperation.RaiseError error length message)) out.Never = true
+restarts_by _ claimed = false
 
--- the mode in which a call restarts its caller's partition, if it does
-abbrev pub restart_of : CallRecord → Option Mode
-restart_of call = restart_by call.request call.claim.out
+-- whether a call restarts its caller's partition
+abbrev pub is_restart : CallRecord → Bool
+is_restart call = restarts_by call.request call.claim.out
 
 -- whether a call restarts this partition
 abbrev pub restarts : CallRecord → ℕ → Bool
-restarts call number = is_some (restart_of call) && nat_eq number call.who.part
+restarts call number = is_restart call && nat_eq number call.who.part
 
 -- whether a call ends the wait of a process: it restarts the process's partition, names the process, or stops it
 abbrev pub ends_wait : CallRecord → Who → Bool

@@ -64,6 +64,12 @@ pub enum Condition {
     ProcessOwnsLock,
     BudgetOutOfRange,
     BudgetAboveRelease,
+    ErrorNotOfApplication,
+    NotHandler,
+    NoErrorListed,
+    NoHandler,
+    ConcurrencyOutOfRange,
+    HandlerCoreNotOfPartition,
 }
 
 // What is known about a condition.
@@ -86,7 +92,7 @@ macro_rules! row {
 }
 
 // The conditions, in the order of the enum.
-const CONDITIONS: [ConditionRow; 55] = [
+const CONDITIONS: [ConditionRow; 61] = [
     row!(NotCreated => InvalidParam, "nothing of this kind has this number"),
     row!(TimeOutOutOfRange => InvalidParam, "the time-out is below -1"),
     row!(MayNotWait => InvalidMode, "the caller is the initialising process or the owner of a mutex or the lock, which may not wait"),
@@ -142,6 +148,12 @@ const CONDITIONS: [ConditionRow; 55] = [
     row!(ProcessOwnsLock => InvalidMode, "the process owns the lock"),
     row!(BudgetOutOfRange => InvalidParam, "the budget is neither -1 nor above 0"),
     row!(BudgetAboveRelease => InvalidMode, "the caller is periodic, and the budget does not end by its next release"),
+    row!(ErrorNotOfApplication => InvalidParam, "the error is not APPLICATION_ERROR, which is 1"),
+    row!(NotHandler => InvalidConfig, "the caller is not the error handler"),
+    row!(NoErrorListed => NoAction, "no error is left to take"),
+    row!(NoHandler => InvalidConfig, "no error handler is created"),
+    row!(ConcurrencyOutOfRange => InvalidParam, "the concurrency is neither 0 nor 1"),
+    row!(HandlerCoreNotOfPartition => InvalidParam, "the handler's core is not one of the partition's"),
 ];
 
 impl Condition {

@@ -1,8 +1,8 @@
 //! The definitions of the configured APEX machine, by which a recording is judged.
 //!
 //! The folder `specs/` holds them, from the configuration to the run; `docs/SPECIFICATION.md` explains them in words. The code here is only
-//! plain data: processes with their waits and outcomes, entries of waiting sets, modes, cores, what statuses report of objects, and the
-//! error conditions of calls.
+//! plain data: processes with their waits and outcomes, entries of waiting sets, modes, cores, errors and their handlers, what statuses
+//! report of objects, and the error conditions of calls.
 //!
 //! Promises: the code of a condition is the one that the definitions give it.
 //!
@@ -16,6 +16,6 @@ mod state;
 
 pub use condition::Condition;
 pub use state::{
-    CoreState, Direction, Entry, ErrorPolicy, Mode, Outcome, Process, StartCondition, Status, Wait,
-    WaitingSet,
+    CoreState, Direction, Entry, ErrorHandler, ErrorPolicy, ListedError, Mode, Outcome, Process,
+    Restart, StartCondition, Status, Wait, WaitingSet,
 };

@@ -4,7 +4,9 @@ ghost use Rattle.std.specs.Prelude.{◌≡◌};
 ghost use Rattle.apex_machine.specs.State.{channel_set};
 ghost use Rattle.apex_machine.specs.Waiting.{service_at};
 
-use apex_types::{ChanId, Code, CoreId, End, Message, Name, ObjectKind, Place, Service, Who};
+use apex_types::{
+    ChanId, Code, CoreId, End, ErrorCode, Message, Name, ObjectKind, Place, ProcId, Service, Who,
+};
 
 /// The operating mode of a partition.
 #[derive(Clone, Copy, Debug, PartialEq, Eq)]
@@ -22,6 +24,8 @@ pub enum StartCondition {
     NormalStart,
     /// SET_PARTITION_MODE restarted the partition.
     PartitionRestart,
+    /// An error restarted the partition (HM_PARTITION_RESTART).
+    ErrorRestart,
 }
 
 /// What is done about an error of a partition that no handler takes.
@@ -35,6 +39,32 @@ pub enum ErrorPolicy {
     ColdStart,
     /// The partition is restarted into the mode WARM_START.
     WarmStart,
+}
+
+/// The error handler of a partition, which runs as process 0 in NORMAL.
+#[derive(Clone, Copy, Debug, PartialEq, Eq)]
+pub struct ErrorHandler {
+    /// The other cores of the partition stand still while the handler is ready.
+    pub pauses: bool,
+    /// The core on which it runs.
+    pub core: CoreId,
+}
+
+/// An error that the handler of its partition has still to take.
+#[derive(Clone, Debug, Drop)]
+pub struct ListedError {
+    pub error: ErrorCode,
+    /// The process that has the error.
+    pub process: ProcId,
+    /// What the process said of it; empty if it said nothing.
+    pub message: Message,
+}
+
+/// How a restart leaves a partition.
+#[derive(Clone, Copy, Debug, PartialEq, Eq)]
+pub struct Restart {
+    pub start: StartCondition,
+    pub mode: Mode,
 }
 
 /// The direction of a port.
@@ -144,6 +174,8 @@ pub struct Process {
     pub last_release: u64,
     /// False if it is dormant.
     pub alive: bool,
+    /// It had an error that the handler has not dealt with yet.
+    pub faulted: bool,
     /// Another process suspended it, and none has resumed it since.
     pub suspended: bool,
     pub wait: Wait,

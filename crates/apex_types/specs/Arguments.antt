@@ -5,7 +5,7 @@ use Rattle.apex_types.specs.declared.service.Service.{Service}
 use Rattle.apex_types.specs.declared.service.Service.TheVariants as service
 use Rattle.apex_types.specs.declared.object_kind.NamedKind.TheVariants as named
 use Rattle.apex_types.specs.declared.object_kind.ObjectKind.TheVariants as kind
-use Rattle.apex_types.specs.declared.operation.{BlackboardOperation.BlackboardOperation, BufferOperation.BufferOperation, CallerOperation.CallerOperation, EventOperation.EventOperation, LockOperation.LockOperation, MutexOperation.MutexOperation, NewObject.NewObject, ProcessOperation.ProcessOperation, QueuingOperation.QueuingOperation, SamplingOperation.SamplingOperation, SemaphoreOperation.SemaphoreOperation}
+use Rattle.apex_types.specs.declared.operation.{BlackboardOperation.BlackboardOperation, BufferOperation.BufferOperation, CallerOperation.CallerOperation, EventOperation.EventOperation, HealthOperation.HealthOperation, LockOperation.LockOperation, MutexOperation.MutexOperation, NewObject.NewObject, ProcessOperation.ProcessOperation, QueuingOperation.QueuingOperation, SamplingOperation.SamplingOperation, SemaphoreOperation.SemaphoreOperation}
 use Rattle.apex_types.specs.declared.request.Request.{Request}
 use Rattle.apex_types.specs.declared.operation.ObjectOperation.TheVariants as on
 use Rattle.apex_types.specs.declared.request.Request.TheVariants as request
@@ -83,8 +83,11 @@ request_of service.DelayedStart n1 n2 n3 name message = request.Process n1 (Proc
 request_of service.ClearQueuingPort n1 n2 n3 name message = request.QueuingPort n1 QueuingOperation.Clear
 request_of service.ResetMutex n1 n2 n3 name message = request.Object n1 (on.Mutex (MutexOperation.Reset n2))
 request_of service.GetProcessMutexState n1 n2 n3 name message = request.Process n1 ProcessOperation.GetMutexState
-request_of service.ReportApplicationMessage n1 n2 n3 name message = request.ReportMessage n2 message
-request_of service.CreateErrorHandler n1 n2 n3 name message = request.CreateErrorHandler
+request_of service.ReportApplicationMessage n1 n2 n3 name message = request.Health (HealthOperation.ReportMessage n2 message)
+request_of service.CreateErrorHandler n1 n2 n3 name message = request.Health HealthOperation.CreateHandler
 request_of service.LockPreemption n1 n2 n3 name message = request.Preemption LockOperation.Lock
 request_of service.UnlockPreemption n1 n2 n3 name message = request.Preemption LockOperation.Unlock
 request_of service.Replenish n1 n2 n3 name message = request.Caller (CallerOperation.Replenish n1)
+request_of service.RaiseApplicationError n1 n2 n3 name message = request.Health (HealthOperation.RaiseError n1 n2 message)
+request_of service.GetErrorStatus n1 n2 n3 name message = request.Health HealthOperation.GetErrorStatus
+request_of service.ConfigureErrorHandler n1 n2 n3 name message = request.Health (HealthOperation.ConfigureHandler n1 n2)

@@ -1,7 +1,9 @@
--- The numbers by which a view gives codes and outcomes.
+-- The numbers by which a view gives codes and outcomes, and a status the errors.
 use Rattle.std.specs.Prelude.{ℕ}
 use Rattle.apex_types.specs.declared.code.Code.{Code}
 use Rattle.apex_types.specs.declared.code.Code.TheVariants as code
+use Rattle.apex_types.specs.declared.error.ErrorCode.{ErrorCode}
+use Rattle.apex_types.specs.declared.error.ErrorCode.TheVariants as error
 use Rattle.apex_types.specs.declared.record.Out.{Out}
 use Rattle.apex_types.specs.declared.record.Out.TheVariants as out
 
@@ -20,3 +22,14 @@ abbrev pub out_number : Out → ℕ
 out_number (out.Answer code) = code_number code
 out_number out.Waits = 7
 out_number out.Never = 8
+
+-- the number of an error   (ERROR_CODE_TYPE, section 3)
+abbrev pub error_number : ErrorCode → ℕ
+error_number error.DeadlineMissed = 0
+error_number error.ApplicationError = 1
+error_number error.NumericError = 2
+error_number error.IllegalRequest = 3
+error_number error.StackOverflow = 4
+error_number error.MemoryViolation = 5
+error_number error.HardwareFault = 6
+error_number error.PowerFail = 7

@@ -5,7 +5,7 @@ use Rattle.apex_types.specs.declared.object_kind.NamedKind.{NamedKind}
 use Rattle.apex_types.specs.declared.object_kind.NamedKind.TheVariants as named
 use Rattle.apex_types.specs.declared.object_kind.ObjectKind.{ObjectKind}
 use Rattle.apex_types.specs.declared.object_kind.ObjectKind.TheVariants as kind
-use Rattle.apex_types.specs.declared.operation.{CallerOperation.CallerOperation, LockOperation.LockOperation, NewObject.NewObject, ProcessOperation.ProcessOperation, SamplingOperation.SamplingOperation}
+use Rattle.apex_types.specs.declared.operation.{CallerOperation.CallerOperation, HealthOperation.HealthOperation, LockOperation.LockOperation, NewObject.NewObject, ProcessOperation.ProcessOperation, SamplingOperation.SamplingOperation}
 use Rattle.apex_types.specs.declared.request.Request.{Request}
 use Rattle.apex_types.specs.declared.request.Request.TheVariants as request
 use Rattle.apex_types.specs.declared.service.Service.{Service}
@@ -113,6 +113,14 @@ abbrev pub lock_service : LockOperation → Service
 lock_service LockOperation.Lock = service.LockPreemption
 lock_service LockOperation.Unlock = service.UnlockPreemption
 
+-- the service that requests this operation of the health monitor or the error handler
+abbrev pub health_service : HealthOperation → Service
+health_service (HealthOperation.ReportMessage length message) = service.ReportApplicationMessage
+health_service HealthOperation.CreateHandler = service.CreateErrorHandler
+health_service (HealthOperation.ConfigureHandler concurrency core) = service.ConfigureErrorHandler
+health_service (HealthOperation.RaiseError error length message) = service.RaiseApplicationError
+health_service HealthOperation.GetErrorStatus = service.GetErrorStatus
+
 -- the service of a request
 abbrev pub service_of : Request → Service
 service_of (request.CreateProcess name priority period time_capacity) = service.CreateProcess
@@ -125,6 +133,5 @@ service_of (request.SamplingPort port operation) = sampling_service operation
 service_of (request.QueuingPort port operation) = (shape_of_queuing operation).service
 service_of (request.GetId kind name) = id_service kind
 service_of (request.GetStatus kind object) = (services_of kind).status
-service_of (request.ReportMessage length message) = service.ReportApplicationMessage
-service_of request.CreateErrorHandler = service.CreateErrorHandler
+service_of (request.Health operation) = health_service operation
 service_of (request.Preemption operation) = lock_service operation

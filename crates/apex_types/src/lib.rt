@@ -35,8 +35,8 @@ pub use laws::direction_and_discipline_are_one_number;
 pub use number::{ChanId, CoreId, PartId, Place, ProcId};
 pub use object_kind::{KindServices, NamedKind, ObjectKind};
 pub use operation::{
-    BlackboardOperation, BufferOperation, CallerOperation, EventOperation, LockOperation,
-    MutexOperation, NewObject, ObjectOperation, ProcessOperation, QueuingOperation,
+    BlackboardOperation, BufferOperation, CallerOperation, EventOperation, HealthOperation,
+    LockOperation, MutexOperation, NewObject, ObjectOperation, ProcessOperation, QueuingOperation,
     SamplingOperation, SemaphoreOperation,
 };
 pub use record::{

@@ -71,6 +71,9 @@ pub const MOST_OBJECTS: u32 = 64;
 /// A partition has at most this many ports of each kind.
 pub const MOST_PORTS: usize = 64;
 
+/// A partition has at most this many errors that its handler has not taken yet.
+pub const MOST_ERRORS: usize = 128;
+
 /// The greatest period, major frame, skew or window length that may be configured, in ticks.
 pub const GREATEST_SPAN: u32 = 4_294_967_295;
 

@@ -132,6 +132,31 @@ pub enum LockOperation {
     Unlock,
 }
 
+/// What a caller requests of the health monitor and the error handler of its partition.
+#[derive(Debug, Drop)]
+pub enum HealthOperation {
+    /// REPORT_APPLICATION_MESSAGE
+    ReportMessage {
+        length: i64,
+        message: Message,
+    },
+    /// CREATE_ERROR_HANDLER
+    CreateHandler,
+    /// CONFIGURE_ERROR_HANDLER, with what the other cores do while the handler runs, and its core.
+    ConfigureHandler {
+        concurrency: i64,
+        core: i64,
+    },
+    /// RAISE_APPLICATION_ERROR, with the number of the error.
+    RaiseError {
+        error: i64,
+        length: i64,
+        message: Message,
+    },
+    /// GET_ERROR_STATUS
+    GetErrorStatus,
+}
+
 /// What a caller requests of an object, by its kind.
 #[derive(Debug, Drop)]
 pub enum ObjectOperation {
@@ -338,6 +363,21 @@ impl LockOperation {
         match self {
             LockOperation::Lock => Service::LockPreemption,
             LockOperation::Unlock => Service::UnlockPreemption,
+        }
+    }
+}
+
+impl HealthOperation {
+    /// The service that this is.
+    pub fn service(&self) -> Service
+        ensures { result ≡ requested.health_service self.now }
+    {
+        match self {
+            HealthOperation::ReportMessage { .. } => Service::ReportApplicationMessage,
+            HealthOperation::CreateHandler => Service::CreateErrorHandler,
+            HealthOperation::ConfigureHandler { .. } => Service::ConfigureErrorHandler,
+            HealthOperation::RaiseError { .. } => Service::RaiseApplicationError,
+            HealthOperation::GetErrorStatus => Service::GetErrorStatus,
         }
     }
 }

@@ -9,8 +9,8 @@ ghost use Rattle.apex_types.specs.declared.request.Request.TheVariants as reques
 
 use crate::object_kind::{NamedKind, ObjectKind};
 use crate::operation::{
-    BlackboardOperation, BufferOperation, CallerOperation, EventOperation, LockOperation,
-    MutexOperation, NewObject, ObjectOperation, ProcessOperation, QueuingOperation,
+    BlackboardOperation, BufferOperation, CallerOperation, EventOperation, HealthOperation,
+    LockOperation, MutexOperation, NewObject, ObjectOperation, ProcessOperation, QueuingOperation,
     SamplingOperation, SemaphoreOperation,
 };
 use crate::service::Service;
@@ -42,12 +42,8 @@ pub enum Request {
     GetId(NamedKind, Name),
     /// GET_BUFFER_STATUS and its counterparts, by kind.
     GetStatus(ObjectKind, i64),
-    /// REPORT_APPLICATION_MESSAGE
-    ReportMessage {
-        length: i64,
-        message: Message,
-    },
-    CreateErrorHandler,
+    /// REPORT_APPLICATION_MESSAGE, RAISE_APPLICATION_ERROR and the services of the error handler.
+    Health(HealthOperation),
     /// LOCK_PREEMPTION and UNLOCK_PREEMPTION.
     Preemption(LockOperation),
 }
@@ -207,14 +203,24 @@ impl Request {
                 ObjectOperation::Mutex(MutexOperation::Reset { process: n2 }),
             ),
             Service::GetProcessMutexState => Request::Process(n1, ProcessOperation::GetMutexState),
-            Service::ReportApplicationMessage => Request::ReportMessage {
+            Service::ReportApplicationMessage => Request::Health(HealthOperation::ReportMessage {
                 length: n2,
                 message,
-            },
-            Service::CreateErrorHandler => Request::CreateErrorHandler,
+            }),
+            Service::CreateErrorHandler => Request::Health(HealthOperation::CreateHandler),
             Service::LockPreemption => Request::Preemption(LockOperation::Lock),
             Service::UnlockPreemption => Request::Preemption(LockOperation::Unlock),
             Service::Replenish => Request::Caller(CallerOperation::Replenish { budget: n1 }),
+            Service::RaiseApplicationError => Request::Health(HealthOperation::RaiseError {
+                error: n1,
+                length: n2,
+                message,
+            }),
+            Service::GetErrorStatus => Request::Health(HealthOperation::GetErrorStatus),
+            Service::ConfigureErrorHandler => Request::Health(HealthOperation::ConfigureHandler {
+                concurrency: n1,
+                core: n2,
+            }),
         }
     }
 
@@ -233,8 +239,7 @@ impl Request {
             Request::QueuingPort(_, operation) => operation.shape().service,
             Request::GetId(kind, _) => kind.id_service(),
             Request::GetStatus(kind, _) => kind.services().status,
-            Request::ReportMessage { .. } => Service::ReportApplicationMessage,
-            Request::CreateErrorHandler => Service::CreateErrorHandler,
+            Request::Health(operation) => operation.service(),
             Request::Preemption(operation) => operation.service(),
         }
     }

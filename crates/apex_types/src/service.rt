@@ -71,6 +71,9 @@ pub enum Service {
     LockPreemption,
     UnlockPreemption,
     Replenish,
+    RaiseApplicationError,
+    GetErrorStatus,
+    ConfigureErrorHandler,
 }
 
 /// Whether a call of a service fills a field.
@@ -177,7 +180,7 @@ macro_rules! row {
 }
 
 /// The services, in the order of the enum. Views and rules identify a service by its place here, counted from 1.
-pub const SERVICES: [ServiceRow<&'static [u8]>; 63] = [
+pub const SERVICES: [ServiceRow<&'static [u8]>; 66] = [
     row!(CreateProcess => b"CREATE_PROCESS", TWO_OR_THREE, NAME, One),
     row!(InitializeProcessCoreAffinity => b"INITIALIZE_PROCESS_CORE_AFFINITY", TWO, NOTHING, One),
     row!(Start => b"START", ONE, NOTHING, One),
@@ -241,6 +244,9 @@ pub const SERVICES: [ServiceRow<&'static [u8]>; 63] = [
     row!(LockPreemption => b"LOCK_PREEMPTION", ZERO, NOTHING, Three),
     row!(UnlockPreemption => b"UNLOCK_PREEMPTION", ZERO, NOTHING, Three),
     row!(Replenish => b"REPLENISH", ONE, NOTHING, Three),
+    row!(RaiseApplicationError => b"RAISE_APPLICATION_ERROR", TWO, MESSAGE, Three),
+    row!(GetErrorStatus => b"GET_ERROR_STATUS", ZERO, NOTHING, Three),
+    row!(ConfigureErrorHandler => b"CONFIGURE_ERROR_HANDLER", TWO, NOTHING, Three),
 ];
 
 impl Service {

@@ -1,9 +1,10 @@
 // Records that do not agree with the choice.
 
+use crate::errors::{tell_faults, tell_handler};
 use crate::module::tell_time;
 use crate::processes::{tell_numbered, tell_ready};
 use crate::refusal::{Refusal, Refusing};
-use apex_types::{Body, CoreId, PartId, Who};
+use apex_types::{Body, CoreId, PartId, ProcId, Who};
 use piece_check::is_ready;
 use wording::{Numbered, Part, Words};
 
@@ -26,11 +27,21 @@ pub fn tell_choice(
 // Where the specification says why this is the choice.
 fn choice_rule(refusing: &Refusing<'_>, choice: &Option<Who>) -> &'static str {
     match choice {
+        Some(choice) if refusing.state.is_handler(choice.proc) => "part 2, the choice (IsChosenIn)",
+        None if is_paused(refusing) => "part 2, the choice (IsChosenIn)",
         Some(choice) if refusing.state.owns_lock(choice.proc) => {
             "part 2, the choice (IsChosenUnder)"
         }
         _ => "part 2, the choice (IsChosen, GoesBefore)",
     }
+}
+
+// Whether the cores of a partition stand still for its error handler, but for the handler's own.
+fn is_paused(refusing: &Refusing<'_>) -> bool {
+    let (state, handler) = (refusing.state, ProcId::new(0));
+    state.is_handler(handler)
+        && state.processes().is_alive(handler)
+        && state.handler().is_some_and(|handler| handler.pauses)
 }
 
 /// Reports that a core is in a window of the partition.
@@ -51,6 +62,13 @@ fn tell_chosen(words: &mut Words, refusing: &Refusing<'_>, core: CoreId, choice:
     match choice {
         Some(choice) => {
             words.say_part(Part::Expected, Numbered(*choice));
+            if refusing.state.is_handler(choice.proc) {
+                words.say(": it is the error handler, which goes before every other process");
+                if let Some(handler) = refusing.state.handler() {
+                    tell_handler(words, refusing, handler);
+                }
+                return;
+            }
             if refusing.state.owns_lock(choice.proc) {
                 words.say(format_args!(
                     ": it owns the lock, with level {}, and runs whatever the priorities are",
@@ -62,6 +80,13 @@ fn tell_chosen(words: &mut Words, refusing: &Refusing<'_>, core: CoreId, choice:
                 );
             }
             tell_ready(words, refusing.state, core, choice);
+        }
+        None if is_paused(refusing) => {
+            words.say_part(Part::Expected, "no process");
+            words.say(": the core stands still while the error handler is ready");
+            if let Some(handler) = refusing.state.handler() {
+                tell_handler(words, refusing, handler);
+            }
         }
         None => {
             words.say_part(Part::Expected, "no process");
@@ -82,7 +107,8 @@ fn tell_named(
 ) {
     match &refusal.ordered.rec.body {
         Body::Disp(Some(who)) => tell_dispatched(words, refusing, refusal.core(), who),
-        Body::Disp(None) | Body::Arrive(_) | Body::Depart(_) | Body::Error(_) => {}
+        Body::Disp(None) | Body::Arrive(_) | Body::Depart(_) => {}
+        Body::Error(report) => tell_actor(words, refusal, refusing, occupant, &report.who),
         Body::Tick(_) => tell_occupant(words, refusal, refusing, occupant),
         Body::Call(call) => tell_actor(words, refusal, refusing, occupant, &call.who),
         Body::Ret(ret) => tell_actor(words, refusal, refusing, occupant, &ret.who),
@@ -138,7 +164,13 @@ fn tell_unready(words: &mut Words, refusing: &Refusing<'_>, core: CoreId, who: &
     }
     match refusing.state.processes().proc(who.proc) {
         Some(process) if is_ready(process, core) => {}
-        _ => tell_numbered(words, refusing.state, *who),
+        Some(process) => {
+            tell_numbered(words, refusing.state, *who);
+            if process.faulted {
+                tell_faults(words, refusing, *who);
+            }
+        }
+        None => tell_numbered(words, refusing.state, *who),
     }
 }
 

@@ -64,7 +64,9 @@ fn tell_deadline(words: &mut Words, body: &Body) {
 
 fn tell_outcome(words: &mut Words, body: &Body) {
     match body {
-        Body::Error(_) => words.say("the error must not restart its partition"),
+        Body::Error(_) => words.say(
+            "an error must restart its partition exactly if no handler takes it and the configuration says so",
+        ),
         Body::Call(_)
         | Body::Ret(_)
         | Body::Disp(_)
@@ -115,7 +117,12 @@ fn tell_choice(words: &mut Words, subject: Subject, body: &Body) {
                 "a process that calls or returns must be the occupant of its core, and the choice",
             );
         }
-        Body::Arrive(_) | Body::Depart(_) | Body::Error(_) => {}
+        Body::Error(_) => {
+            words.say(
+                "a process that has an error must be the occupant of its core, and the choice",
+            );
+        }
+        Body::Arrive(_) | Body::Depart(_) => {}
     }
 }
 

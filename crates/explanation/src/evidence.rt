@@ -5,6 +5,7 @@ use crate::claim::{tell_answer, tell_new_number, tell_refused_outcome, tell_thro
 use crate::crossing::{crossing_of, tell_crossing, tell_inside, tell_size};
 use crate::deadline::{tell_absent, tell_deadline, tell_missed};
 use crate::due::tell_named;
+use crate::errors::tell_restart;
 use crate::module::{tell_left_back, tell_unknown_channel, tell_unknown_partition, tell_window};
 use crate::outside::{tell_initialising, tell_mutex_owner, tell_mutex_waiter};
 use crate::pending::{tell_nothing_pending, tell_pending};
@@ -30,6 +31,7 @@ pub fn tell_evidence(words: &mut Words, refusal: &Refusal<'_>, evidence: &Eviden
         Evidence::Waits => tell_waits(words),
         Evidence::Pending(outcome) => tell_pending(words, refusal, outcome),
         Evidence::NothingPending => tell_nothing_pending(words, refusal),
+        Evidence::Restart(restarts) => tell_restart(words, refusal, *restarts),
         Evidence::Initialising => tell_initialising(words),
         Evidence::OwnsMutex => tell_mutex_owner(words, refusal),
         Evidence::WaitsForMutex => tell_mutex_waiter(words, refusal),

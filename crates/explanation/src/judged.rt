@@ -16,8 +16,7 @@ pub fn tell_basis(words: &mut Words, state: &PartitionState, now: u64, call: &Ca
         Request::CreateProcess { .. }
         | Request::SetPartitionMode(..)
         | Request::Create(..)
-        | Request::ReportMessage { .. }
-        | Request::CreateErrorHandler
+        | Request::Health(_)
         // These go through a channel.
         | Request::SamplingPort(..)
         | Request::QueuingPort(..) => {}
@@ -70,8 +69,7 @@ pub fn tell_holder(words: &mut Words, state: &PartitionState, call: &Call) {
         | Request::QueuingPort(..)
         | Request::GetId(..)
         | Request::GetStatus(..)
-        | Request::ReportMessage { .. }
-        | Request::CreateErrorHandler
+        | Request::Health(_)
         | Request::Preemption(_) => {}
     }
 }
@@ -161,6 +159,7 @@ fn tell_own(
             words.say(match state.start_condition() {
                 StartCondition::NormalStart => ", and has run since the module started",
                 StartCondition::PartitionRestart => ", and was restarted by SET_PARTITION_MODE",
+                StartCondition::ErrorRestart => ", and was restarted after an error",
             });
             tell_lock(words, state.lock());
         }

@@ -27,6 +27,7 @@ mod deadline;
 mod demand;
 mod due;
 mod ended;
+mod errors;
 mod evidence;
 mod explanation;
 mod held;

@@ -66,8 +66,7 @@ fn tell_target(words: &mut Words, refusal: &Refusal<'_>, what: &str) {
         | Request::QueuingPort(..)
         | Request::GetId(..)
         | Request::GetStatus(..)
-        | Request::ReportMessage { .. }
-        | Request::CreateErrorHandler
+        | Request::Health(_)
         | Request::Preemption(_) => {}
     }
 }

@@ -37,7 +37,7 @@ pub fn tell_since(words: &mut Words, place: u64) {
     }
 }
 
-/// Reports the state of a process: dormant, suspended, waiting, or ready.
+/// Reports the state of a process: dormant, faulted, suspended, waiting, or ready.
 pub fn tell_standing(words: &mut Words, proc: ProcId, process: &Process) {
     if !process.alive {
         words.say(if proc.number() == 0 {
@@ -46,6 +46,12 @@ pub fn tell_standing(words: &mut Words, proc: ProcId, process: &Process) {
             " is dormant"
         });
         return;
+    }
+    if process.faulted {
+        words.say(" is faulted");
+        if process.suspended || process.wait != Wait::Nothing {
+            words.say(" and");
+        }
     }
     if process.suspended {
         words.say(" is suspended");
@@ -60,7 +66,7 @@ pub fn tell_standing(words: &mut Words, proc: ProcId, process: &Process) {
 fn tell_wait(words: &mut Words, process: &Process) {
     match process.wait {
         Wait::Nothing => {
-            if !process.suspended {
+            if !process.suspended && !process.faulted {
                 words.say(" has been ready");
                 tell_since(words, process.ready_position);
             }

@@ -78,7 +78,10 @@ fn tell_expected(words: &mut Words, fault: RowFault, column: Column, row: Row<'_
             words,
             "processes as part:proc in strictly ascending order, separated by semicolons, each proc 1 or more",
         ),
-        RowFault::BadError => expect(words, "DEADLINE_MISSED"),
+        RowFault::BadError => expect(
+            words,
+            "DEADLINE_MISSED, NUMERIC_ERROR, ILLEGAL_REQUEST, STACK_OVERFLOW, MEMORY_VIOLATION, HARDWARE_FAULT or POWER_FAIL",
+        ),
         // No field has any of these.
         RowFault::Read
         | RowFault::Memory

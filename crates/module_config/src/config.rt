@@ -6,6 +6,7 @@ ghost use Rattle.toml.specs.View.{table_view};
 ghost use Rattle.apex_types.specs.declared.limits.TheConstants.{GREATEST_PARTITION, GREATEST_SPAN, LONGEST_CONFIGURATION, MOST_CORES, MOST_PARTITIONS, MOST_PROCESSES};
 ghost use Rattle.apex_machine.specs.Channels.{EndsAreApart};
 ghost use Rattle.apex_machine.specs.Configuration.{PartitionLimits, window_at, has_partition, WindowsAreConfigured, first_core, object_limit, process_limit, period_of, is_core, limits_of};
+ghost use Rattle.apex_machine.specs.Errors.{policy_of};
 ghost use Rattle.module_config.specs.declared.fault.ConfigFault.TheVariants.{Memory, NotToml, TooMany};
 ghost use Rattle.module_config.specs.Keys.{Gives, GivesPlaced};
 ghost use Rattle.module_config.specs.Places.{nowhere};
@@ -24,6 +25,7 @@ use crate::partition::Partition;
 use crate::refusal::{ConfigRefusal, ExplainedRefusal};
 use crate::timetable::{begun_near, window_among};
 use crate::whole::{find_misfit, find_partition};
+use apex_machine::ErrorPolicy;
 use apex_types::limits::{LONGEST_CONFIGURATION, MOST_CHANNELS};
 use apex_types::{CoreId, PartId};
 use arrayvec::ArrayVec;
@@ -289,6 +291,14 @@ impl Config {
         ensures { result ≡ object_limit self.now (λ (limits : PartitionLimits). limits.mutexes) part }
     {
         self.partition(part).map_or(0, |limits| limits.mutexes)
+    }
+
+    /// What is done about an error of a partition that no handler takes; nothing if none of this number is configured.
+    pub fn error_policy(&self, part: PartId) -> ErrorPolicy
+        ensures { result ≡ policy_of self.now part }
+    {
+        self.partition(part)
+            .map_or(ErrorPolicy::Ignore, |limits| limits.on_error)
     }
 
     /// The period of a partition in ticks, or 1 if none of this number is configured.

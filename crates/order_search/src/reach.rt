@@ -3,8 +3,8 @@
 use crate::things::Thing;
 use apex_types::{
     BlackboardOperation, Body, Call, CallerOperation, Code, CoreId, Crossing, EventOperation,
-    MutexOperation, NewObject, ObjectKind, ObjectOperation, Out, PartId, ProcessOperation,
-    QueuingOperation, Request, SamplingOperation, Who,
+    HealthOperation, MutexOperation, NewObject, ObjectKind, ObjectOperation, Out, PartId,
+    ProcessOperation, QueuingOperation, Request, SamplingOperation, Who,
 };
 use module_config::{ChannelKind, Config};
 use std::alloc::{AllocError, Global};
@@ -88,8 +88,8 @@ pub fn is_free(reaches: &[Reach], body: &Body) -> bool {
             .as_slice()
             .iter()
             .all(|who| reach_of(reaches, who.part).alone),
-        // A status on another core of the partition can tell which deadline the process has.
-        Body::Error(report) => reach_of(reaches, report.who.part).one_core,
+        // An error may restart the partition, or let its cores stand still, and a status can tell which deadline is left.
+        Body::Error(report) => reach_of(reaches, report.who.part).alone,
         // Whoever uses the channel can tell.
         Body::Arrive(_) | Body::Depart(_) => false,
         Body::Call(call) => is_free_call(reach_of(reaches, call.who.part), call),
@@ -107,7 +107,9 @@ fn is_free_call(reach: Reach, call: &Call) -> bool {
         Request::SamplingPort(_, SamplingOperation::Read) => reach.one_core,
         Request::SamplingPort(_, SamplingOperation::Write { .. }) => false,
         Request::QueuingPort(_, _) => false,
-        Request::GetId(_, _) | Request::GetStatus(_, _) | Request::ReportMessage { .. } => true,
+        Request::GetId(_, _)
+        | Request::GetStatus(_, _)
+        | Request::Health(HealthOperation::ReportMessage { .. }) => true,
         Request::Process(_, ProcessOperation::GetStatus | ProcessOperation::GetMutexState) => true,
         Request::Caller(
             CallerOperation::GetMyId
@@ -140,6 +142,7 @@ pub fn touched(body: &Body, into: &mut Vec<Thing>) -> Result<(), AllocError> {
         Body::Call(call) => touched_by_call(call, into),
         Body::Error(report) => {
             into.push(Thing::from(report.who))?;
+            into.push(Thing::Mode(report.who.part))?;
             Ok(())
         }
         Body::Arrive(crossing) | Body::Depart(crossing) => touched_by_crossing(crossing, into),
@@ -204,11 +207,8 @@ fn requested(call: &Call) -> Option<Thing> {
         }
         Request::Caller(CallerOperation::GetPartitionStatus)
         | Request::SetPartitionMode(_)
-        | Request::CreateErrorHandler => return Some(Thing::Mode(partition)),
-        Request::Caller(_)
-        | Request::GetId(_, _)
-        | Request::ReportMessage { .. }
-        | Request::Preemption(_) => return None,
+        | Request::Health(_) => return Some(Thing::Mode(partition)),
+        Request::Caller(_) | Request::GetId(_, _) | Request::Preemption(_) => return None,
         Request::Create(_, object) => (object.kind(), made),
         Request::Object(number, operation) => (operation.kind(), *number),
         Request::SamplingPort(number, _) => (ObjectKind::SamplingPort, *number),

@@ -118,7 +118,7 @@ port_found configuration number place core cores partition call own = by call.re
     by : (asked : Request) → call.request ≡ asked → ReadsAtPort call asked partition
     by (request.SamplingPort port SamplingOperation.Read) is = λ done.
         let none = demands_none (conditions_of configuration (time_of cores core) call.who partition call.request) (channel_of partition call.request) number call.request
-        (answer_of cores core call.who partition call.request) call.claim
+        (answer_of configuration cores core call.who partition call.request) call.claim
         own.demands.1.1.1.1.1.1 done in
         is_there (given_object partition.sampling_ports port) _ (rw is at none)
     by _ is = tt
@@ -140,17 +140,17 @@ outcome_holds conditions channel number asked answer claim none nowhere apart ho
 
 -- if its claim is what its service gives, all that is demanded of the call holds
 pub all_hold : (configuration : Configuration) (cores : List CoreState) (place core : ℕ) (partition : Partition) (call : CallRecord)
-    → IsClear configuration cores place core partition call → AllHold (served_demands cores core partition call)
+    → IsClear configuration cores place core partition call → AllHold (served_demands configuration cores core partition call)
     → AllHold (own_call_demands configuration call.who.part cores partition core call)
 all_hold configuration cores place core partition call clear served =
     let caller = clear.caller in
     let outcome = outcome_holds (conditions_of configuration (time_of cores core) call.who partition call.request) (channel_of partition call.request) call.who.part call.request
-    (answer_of cores core call.who partition call.request) call.claim clear.conditions clear.through clear.apart served in
+    (answer_of configuration cores core call.who partition call.request) call.claim clear.conditions clear.through clear.apart served in
     (caller.0, (caller.1.0, (caller.1.1.0, (caller.1.1.1.0, (caller.1.1.1.1.0, (caller.1.1.1.1.1.0, outcome))))))
 
 -- so it is a lawful call of one of the partition's own processes
 pub own_call : (configuration : Configuration) (cores : List CoreState) (place core : ℕ) (partition : Partition) (call : CallRecord)
-    → IsClear configuration cores place core partition call → AllHold (served_demands cores core partition call)
+    → IsClear configuration cores place core partition call → AllHold (served_demands configuration cores core partition call)
     → IsOwnCall configuration call.who.part place core cores partition call
 own_call configuration cores place core partition call clear served = record {
   sound = clear.sound;

@@ -19,13 +19,13 @@ use Rattle.partition_state.specs.Calls.{created_demands, creates, served}
 use Rattle.partition_state.proofs.Served.{one_is_served}
 
 -- it is done at once with its value, so a judgement by the value alone judges its claim
-pub creation_judged : (cores : List CoreState) (core : ℕ) (who : Who) (partition : Partition) (asked : Request) (claim : Claim) (has_value : Bool) (judgement : Result (Unit {0}) Cause)
-    → creates asked ≡ true → (creates asked ≡ true → IsTrue has_value ↔ HasValue (answer_of cores core who partition asked).val claim.val)
+pub creation_judged : (configuration : Configuration) (cores : List CoreState) (core : ℕ) (who : Who) (partition : Partition) (asked : Request) (claim : Claim) (has_value : Bool) (judgement : Result (Unit {0}) Cause)
+    → creates asked ≡ true → (creates asked ≡ true → IsTrue has_value ↔ HasValue (answer_of configuration cores core who partition asked).val claim.val)
     → ((value : Value) → (IsTrue has_value ↔ HasValue value claim.val) → Judges (answer_demands (done_with value) claim) judgement)
-    → Judges (answer_demands (answer_of cores core who partition asked) claim) judgement
-creation_judged cores core who partition (request.CreateProcess name priority period time_capacity) claim has_value judgement made is_new judged = judged _ (is_new refl)
-creation_judged cores core who partition (request.Create name object) claim has_value judgement made is_new judged = judged _ (is_new refl)
-creation_judged cores core who partition _ claim has_value judgement made is_new judged = let never : ◌≡◌ {A = Bool} false true = made in cc
+    → Judges (answer_demands (answer_of configuration cores core who partition asked) claim) judgement
+creation_judged configuration cores core who partition (request.CreateProcess name priority period time_capacity) claim has_value judgement made is_new judged = judged _ (is_new refl)
+creation_judged configuration cores core who partition (request.Create name object) claim has_value judgement made is_new judged = judged _ (is_new refl)
+creation_judged configuration cores core who partition _ claim has_value judgement made is_new judged = let never : ◌≡◌ {A = Bool} false true = made in cc
 
 -- so the objects of its kind are those after a call that is done
 pub created_changes : (configuration : Configuration) (place : ℕ) (call : CallRecord) (name : List ℕ) (object : NewObject) (partition new : Partition)

@@ -10,3 +10,4 @@ pub mod Served
 pub mod Sounds
 pub mod Uses
 pub mod Created
+pub mod Takers

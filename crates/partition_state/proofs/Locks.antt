@@ -19,7 +19,7 @@ use Rattle.apex_machine.specs.Locks.{enters_lock, first_for_lock, lock_by, lock_
 use Rattle.apex_machine.specs.Objects.{is_owner}
 use Rattle.apex_machine.specs.ServiceConditions.{conditions_of}
 use Rattle.apex_machine.specs.State.{Lock, Partition, is_named}
-use Rattle.apex_machine.specs.Waiting.{entry_of, is_waiting, restart_of, stop_of}
+use Rattle.apex_machine.specs.Waiting.{entry_of, is_restart, is_waiting, stop_of}
 use Rattle.apex_laws.specs.Laws.{AllEntries}
 use Rattle.apex_laws.proofs.SoundParts.{running_is_in_no_set}
 use Rattle.apex_laws.proofs.Waiters.{all_without}
@@ -92,7 +92,7 @@ abbrev pub AreBelow : ℕ → List Entry → Type 0
 AreBelow place entries = AllEntries (λ entry. entry.place < place) entries
 
 -- a call that enters it not, and neither stops another process nor restarts the partition: those leave that it names
-set_left : (place : ℕ) (call : CallRecord) (entries : List Entry) → stop_of call.request ≡ None → restart_of call ≡ None → enters_lock call ≡ false
+set_left : (place : ℕ) (call : CallRecord) (entries : List Entry) → stop_of call.request ≡ None → is_restart call ≡ false → enters_lock call ≡ false
     → lock_waiters_after place (Call call) entries ≡ left_by call.claim entries
 set_left place call entries none goes_on outside = rw (outside, only_named_leave call none goes_on entries) refl
 

@@ -1,23 +1,33 @@
 -- What a call that was served makes of the objects is what it makes of the partition's.
-use Rattle.std.proofs.Common.{◌≡◌, ℕ, List, Option, Some, None, Result, Ok, Err, Bool, true, false, IfErr, OnOk, refl, sym, ap, ◌∙◌, cond}
+use Rattle.std.proofs.Common.{◌≡◌, ℕ, List, [], ◌∷◌, if◌then◌else◌, ◌&&◌, not, is_some, option_map, Option, Some, None, Result, Ok, Err, Bool, true, false, IfErr, OnOk, refl, sym, ap, ◌∙◌, cond}
 use Rattle.apex_types.specs.declared.object_kind.ObjectKind.TheVariants as kind
 use Rattle.apex_types.specs.declared.cause.Cause.{Cause}
-use Rattle.apex_types.specs.declared.operation.{CallerOperation.CallerOperation, LockOperation.LockOperation, ProcessOperation.ProcessOperation, SamplingOperation.SamplingOperation}
+use Rattle.apex_types.specs.declared.code.Code.TheVariants as code
+use Rattle.apex_types.specs.declared.operation.{CallerOperation.CallerOperation, HealthOperation.HealthOperation, LockOperation.LockOperation, ProcessOperation.ProcessOperation, SamplingOperation.SamplingOperation}
 use Rattle.apex_types.specs.declared.record.Call.{Call as CallRecord}
+use Rattle.apex_types.specs.declared.record.Out.{Out}
+use Rattle.apex_types.specs.declared.record.Out.TheVariants as out
 use Rattle.apex_types.specs.declared.record.Who.{Who}
 use Rattle.apex_types.specs.declared.request.Request.{Request}
 use Rattle.apex_types.specs.declared.request.Request.TheVariants as request
 use Rattle.apex_machine.specs.declared.state.CoreState.{CoreState}
+use Rattle.apex_machine.specs.declared.state.ListedError.{ListedError}
+use Rattle.apex_machine.specs.declared.state.Mode.{Mode}
 use Rattle.apex_machine.specs.declared.state.Process.{Process}
+use Rattle.apex_machine.specs.declared.state.Restart.{Restart}
+use Rattle.apex_machine.specs.declared.state.StartCondition.{StartCondition}
+use Rattle.apex_machine.specs.declared.state.StartCondition.TheVariants.{PartitionRestart}
 use Rattle.apex_machine.specs.declared.state.Wait.{Wait}
 use Rattle.apex_machine.specs.declared.state.Wait.TheVariants as wait
-use Rattle.apex_machine.specs.After.{has_handler_by, is_done, lock_called, objects_called, partition_called}
-use Rattle.apex_machine.specs.Arguments.{natural_of}
+use Rattle.apex_machine.specs.After.{is_done, lock_called, objects_called, partition_called, restart_by_error, restart_for, restart_of}
+use Rattle.apex_machine.specs.Answer.{done, never}
+use Rattle.apex_machine.specs.Arguments.{natural_of, restart_given}
 use Rattle.apex_machine.specs.Configuration.{Configuration}
 use Rattle.apex_machine.specs.Demands.{AllHold, Demand, Judges}
+use Rattle.apex_machine.specs.Errors.{ends_handler, error_mode, errors_by, handler_by, health_answer, is_handled, oldest_reported, restarts_by_error}
 use Rattle.apex_machine.specs.Services.{peer}
 use Rattle.apex_machine.specs.State.{Lock, Partition, created, with_objects, ObjectOf, time_of}
-use Rattle.apex_machine.specs.Waiting.{is_no_error, restart_of}
+use Rattle.apex_machine.specs.Waiting.{is_no_error, is_restart, restarts_by}
 use Rattle.apex_laws.specs.PartLaws.{IsOwnCall}
 use Rattle.apex_laws.specs.PartObjects.{left_by, objects_changed}
 use Rattle.apex_laws.specs.PartSets.{left_if_there}
@@ -45,10 +55,10 @@ reaches_lock (request.Caller CallerOperation.StopSelf) = true
 reaches_lock (request.Preemption operation) = true
 reaches_lock _ = false
 
--- whether a request creates an error handler
-abbrev pub is_handler_creation : Request → Bool
-is_handler_creation request.CreateErrorHandler = true
-is_handler_creation _ = false
+-- whether a request is one of the health monitor or the error handler
+abbrev pub is_health : Request → Bool
+is_health (request.Health operation) = true
+is_health _ = false
 
 -- the objects and the lock after a call
 
@@ -69,7 +79,7 @@ abbrev pub all_called : Configuration → ℕ → CallRecord → Partition → P
 all_called configuration place call partition = record (objects_called configuration place call partition) { lock = lock_called place call partition.lock }
 
 all_are_called : (configuration : Configuration) (cores : List CoreState) (place core : ℕ) (partition : Partition) (call : CallRecord)
-    → IsClear configuration cores place core partition call → AllHold (served_demands cores core partition call) → restart_of call ≡ None
+    → IsClear configuration cores place core partition call → AllHold (served_demands configuration cores core partition call) → is_restart call ≡ false
     → (asked : Request) → call.request ≡ asked
     → all_called configuration place call partition ≡ objects_served configuration place call asked partition
 all_are_called configuration cores place core partition call clear holds goes_on (request.Process process ProcessOperation.Stop) is =
@@ -107,68 +117,112 @@ all_are_called configuration cores place core partition call clear holds goes_on
     (other_calls_leave_lock configuration call.who.part place core cores partition call own (rw is refl) (rw is refl) goes_on
     ∙ sym (changed_leaves_lock configuration place call partition asked))
 
--- the error handler after a call
+-- the error handler and the listed errors after a call
 
--- whether there is one is decided by the request of a call alone: CREATE_ERROR_HANDLER is done
-handler_is_called : (cores : List CoreState) (core : ℕ) (partition : Partition) (call : CallRecord) → AllHold (served_demands cores core partition call)
-    → (asked : Request) → call.request ≡ asked
-    → cond (is_done call.claim.out) (has_handler_by asked partition.has_handler) partition.has_handler ≡ has_handler_by asked partition.has_handler
-handler_is_called cores core partition call holds request.CreateErrorHandler is = let held = rw is at holds in rw held.0 refl
-handler_is_called cores core partition call holds _ is = either_way (is_done call.claim.out) partition.has_handler partition.has_handler refl
+-- a service of the health monitor or the error handler is done
+health_is_done : (configuration : Configuration) (cores : List CoreState) (core : ℕ) (partition : Partition) (call : CallRecord)
+    → AllHold (served_demands configuration cores core partition call) → (operation : HealthOperation) → call.request ≡ request.Health operation → is_done call.claim.out ≡ true
+health_is_done configuration cores core partition call holds operation is = let held = rw is at holds in by operation held.0
+  where
+    raised : (anew : Bool) → call.claim.out ≡ (if anew then never else done).out → is_done call.claim.out ≡ true
+    raised true given = rw given refl
+    raised false given = rw given refl
+
+    reported : (errors : List ListedError) → call.claim.out ≡ (oldest_reported errors).out → is_done call.claim.out ≡ true
+    reported [] given = rw given refl
+    reported (error ∷ errors) given = rw given refl
+
+    by : (operation : HealthOperation) → call.claim.out ≡ (health_answer configuration call.who.part partition call.who.proc operation).out → is_done call.claim.out ≡ true
+    by (HealthOperation.RaiseError error length message) given = raised (restarts_by_error configuration call.who.part partition call.who.proc) given
+    by HealthOperation.GetErrorStatus given = reported partition.errors given
+    by _ given = rw given refl
+
+-- so the request of a call alone decides of both
+handler_is_called : (configuration : Configuration) (cores : List CoreState) (core : ℕ) (partition : Partition) (call : CallRecord)
+    → AllHold (served_demands configuration cores core partition call) → (asked : Request) → call.request ≡ asked
+    → cond (is_done call.claim.out) (handler_by configuration call.who.part asked partition.handler) partition.handler ≡ handler_by configuration call.who.part asked partition.handler
+handler_is_called configuration cores core partition call holds (request.Health operation) is = rw (health_is_done configuration cores core partition call holds operation is) refl
+handler_is_called configuration cores core partition call holds _ is = either_way (is_done call.claim.out) partition.handler partition.handler refl
+
+errors_are_called : (configuration : Configuration) (cores : List CoreState) (core : ℕ) (partition : Partition) (call : CallRecord)
+    → AllHold (served_demands configuration cores core partition call) → (asked : Request) → call.request ≡ asked
+    → cond (is_done call.claim.out) (errors_by call.who.proc asked partition) partition.errors ≡ errors_by call.who.proc asked partition
+errors_are_called configuration cores core partition call holds (request.Health operation) is = rw (health_is_done configuration cores core partition call holds operation is) refl
+errors_are_called configuration cores core partition call holds _ is = either_way (is_done call.claim.out) partition.errors partition.errors refl
 
 -- a partition after a call, except for its mode and its processes
 abbrev pub all_but_processes : Configuration → ℕ → CallRecord → Partition → Partition
 all_but_processes configuration place call partition = record (objects_called configuration place call partition) {
-  has_handler = cond (is_done call.claim.out) (has_handler_by call.request partition.has_handler) partition.has_handler;
+  handler = cond (is_done call.claim.out) (handler_by configuration call.who.part call.request partition.handler) partition.handler;
+  errors = cond (is_done call.claim.out) (errors_by call.who.proc call.request partition) partition.errors;
   lock = lock_called place call partition.lock;
 }
 
 pub served_is_called : (configuration : Configuration) (cores : List CoreState) (place core : ℕ) (partition : Partition) (call : CallRecord)
-    → IsClear configuration cores place core partition call → AllHold (served_demands cores core partition call) → restart_of call ≡ None
+    → IsClear configuration cores place core partition call → AllHold (served_demands configuration cores core partition call) → is_restart call ≡ false
     → all_but_processes configuration place call partition ≡ served configuration place call call.request partition
 served_is_called configuration cores place core partition call clear holds goes_on =
-    ap (λ (one : Partition). record one { has_handler = cond (is_done call.claim.out) (has_handler_by call.request partition.has_handler) partition.has_handler })
-    (all_are_called configuration cores place core partition call clear holds goes_on call.request refl)
-    ∙ ap (λ has_handler. record (objects_served configuration place call call.request partition) { has_handler = has_handler })
-    (handler_is_called cores core partition call holds call.request refl)
+    let handler = handler_is_called configuration cores core partition call holds call.request refl in
+    let errors = errors_are_called configuration cores core partition call holds call.request refl in
+    let objects = all_are_called configuration cores place core partition call clear holds goes_on call.request refl in
+    λ i. record (objects i) { handler = handler i; errors = errors i }
 
--- the objects leave the error handler as it is
+-- the objects leave the error handler and the listed errors as they are
 
-put_leaves_handler : (kind : ObjectKind) (objects : List (ℕ × ObjectOf kind)) (partition : Partition) → (with_objects kind objects partition).has_handler ≡ partition.has_handler
+put_leaves_handler : (kind : ObjectKind) (objects : List (ℕ × ObjectOf kind)) (partition : Partition) → (with_objects kind objects partition).handler ≡ partition.handler
 put_leaves_handler kind.Buffer objects partition = refl
 put_leaves_handler _ objects partition = refl
 
 changed_leaves_handler : (configuration : Configuration) (place : ℕ) (call : CallRecord) (partition : Partition) (asked : Request)
-    → (objects_changed configuration place call asked partition).has_handler ≡ partition.has_handler
+    → (objects_changed configuration place call asked partition).handler ≡ partition.handler
 changed_leaves_handler configuration place call partition (request.Create name object) = put_leaves_handler (kind_of object) _ partition
 changed_leaves_handler configuration place call partition (request.Object number operation) = put_leaves_handler (kind_used operation) _ partition
 changed_leaves_handler configuration place call partition (request.SamplingPort port SamplingOperation.Read) = refl
 changed_leaves_handler configuration place call partition _ = refl
 
--- so a partition is as it was served, if it is so but for a handler that stays
-with_handler : (asked : Request) (before : Bool) (objects new : Partition) → is_handler_creation asked ≡ false → objects.has_handler ≡ before → new ≡ objects
-    → new ≡ record objects { has_handler = has_handler_by asked before }
-with_handler asked before objects new other stays is = is ∙ ap (λ has_handler. record objects { has_handler = has_handler }) (stays ∙ sym (by asked other))
-  where
-    by : (asked : Request) → is_handler_creation asked ≡ false → has_handler_by asked before ≡ before
-    by request.CreateErrorHandler other = let never : ◌≡◌ {A = Bool} true false = other in cc
-    by _ other = refl
+put_leaves_errors : (kind : ObjectKind) (objects : List (ℕ × ObjectOf kind)) (partition : Partition) → (with_objects kind objects partition).errors ≡ partition.errors
+put_leaves_errors kind.Buffer objects partition = refl
+put_leaves_errors _ objects partition = refl
 
--- a service that reaches no lock, other than CREATE_ERROR_HANDLER, changes the one object that it names
+changed_leaves_errors : (configuration : Configuration) (place : ℕ) (call : CallRecord) (partition : Partition) (asked : Request)
+    → (objects_changed configuration place call asked partition).errors ≡ partition.errors
+changed_leaves_errors configuration place call partition (request.Create name object) = put_leaves_errors (kind_of object) _ partition
+changed_leaves_errors configuration place call partition (request.Object number operation) = put_leaves_errors (kind_used operation) _ partition
+changed_leaves_errors configuration place call partition (request.SamplingPort port SamplingOperation.Read) = refl
+changed_leaves_errors configuration place call partition _ = refl
+
+-- so a partition is as it was served, if it is so but for a handler and errors that stay
+with_handler : (configuration : Configuration) (who : Who) (asked : Request) (before objects new : Partition) → is_health asked ≡ false → objects.handler ≡ before.handler
+    → objects.errors ≡ before.errors → new ≡ objects
+    → new ≡ record objects { handler = handler_by configuration who.part asked before.handler; errors = errors_by who.proc asked before }
+with_handler configuration who asked before objects new other stays stay is =
+    let handler = stays ∙ sym (kept asked other) in
+    let errors = stay ∙ sym (left asked other) in
+    is ∙ (λ i. record objects { handler = handler i; errors = errors i })
+  where
+    kept : (asked : Request) → is_health asked ≡ false → handler_by configuration who.part asked before.handler ≡ before.handler
+    kept (request.Health operation) other = let never : ◌≡◌ {A = Bool} true false = other in cc
+    kept _ other = refl
+
+    left : (asked : Request) → is_health asked ≡ false → errors_by who.proc asked before ≡ before.errors
+    left (request.Health operation) other = let never : ◌≡◌ {A = Bool} true false = other in cc
+    left _ other = refl
+
+-- a service that reaches no lock and is none of the health monitor or the error handler changes the one object that it names
 pub one_is_served : (configuration : Configuration) (place : ℕ) (call : CallRecord) (asked : Request) (partition new : Partition) → reaches_lock asked ≡ false
-    → is_handler_creation asked ≡ false → new ≡ objects_changed configuration place call asked partition → new ≡ served configuration place call asked partition
-one_is_served configuration place call (request.Process process ProcessOperation.Stop) partition new other no_handler is =
+    → is_health asked ≡ false → new ≡ objects_changed configuration place call asked partition → new ≡ served configuration place call asked partition
+one_is_served configuration place call (request.Process process ProcessOperation.Stop) partition new other no_health is =
     let never : ◌≡◌ {A = Bool} true false = other in cc
-one_is_served configuration place call (request.Caller CallerOperation.StopSelf) partition new other no_handler is =
+one_is_served configuration place call (request.Caller CallerOperation.StopSelf) partition new other no_health is =
     let never : ◌≡◌ {A = Bool} true false = other in cc
-one_is_served configuration place call (request.Preemption operation) partition new other no_handler is =
+one_is_served configuration place call (request.Preemption operation) partition new other no_health is =
     let never : ◌≡◌ {A = Bool} true false = other in cc
-one_is_served configuration place call asked partition new other no_handler is =
-    with_handler asked partition.has_handler (objects_changed configuration place call asked partition) new no_handler
-    (changed_leaves_handler configuration place call partition asked) is
+one_is_served configuration place call asked partition new other no_health is =
+    with_handler configuration call.who asked partition (objects_changed configuration place call asked partition) new no_health
+    (changed_leaves_handler configuration place call partition asked) (changed_leaves_errors configuration place call partition asked) is
 
 pub changed_is_served : (configuration : Configuration) (place : ℕ) (call : CallRecord) (partition new : Partition) → reaches_lock call.request ≡ false
-    → is_handler_creation call.request ≡ false
+    → is_health call.request ≡ false
     → new ≡ objects_changed configuration place call call.request partition → new ≡ served configuration place call call.request partition
 changed_is_served configuration place call partition new = one_is_served configuration place call call.request partition new
 
@@ -179,6 +233,15 @@ pub lock_is_served : (configuration : Configuration) (place : ℕ) (call : CallR
 lock_is_served configuration place call operation partition old new (Ok transfer) same is =
     ap (λ lock. record partition { lock = lock }) is ∙ ap (λ one. served configuration place call (request.Preemption operation) one) same
 lock_is_served configuration place call operation partition old new (Err fault) same is = tt
+
+-- a service of the health monitor or the error handler changes the handler and the listed errors
+pub health_is_served : (configuration : Configuration) (place : ℕ) (call : CallRecord) (operation : HealthOperation) (partition new : Partition) → call.request ≡ request.Health operation
+    → new ≡ record partition {
+      handler = handler_by configuration call.who.part (request.Health operation) partition.handler;
+      errors = errors_by call.who.proc (request.Health operation) partition;
+    }
+    → new ≡ served configuration place call call.request partition
+health_is_served configuration place call operation partition new is become = rw is become
 
 -- what is accepted or refused as it is judged holds, or its cause is that of the first demand that fails
 
@@ -246,3 +309,47 @@ pub is_called : (configuration : Configuration) (cores : List CoreState) (place 
     → new ≡ all_but_processes configuration place call old → processes ≡ processes_of (partition_called configuration cores place core call old)
     → with_processes processes new ≡ partition_called configuration cores place core call old
 is_called configuration cores place core call old new processes objects become = rw (objects, become) refl
+
+-- restarts
+
+-- a call that is no restart makes none
+pub no_restart : (configuration : Configuration) (call : CallRecord) → is_restart call ≡ false → restart_of configuration call ≡ None
+no_restart configuration call none = rw none refl
+
+given_none : (given : Option Mode) (start : StartCondition) → is_some given ≡ true → option_map {U = Restart} (λ mode. record { start = start; mode = mode }) given ≡ None → ⊥
+given_none None start some none = cc
+given_none (Some mode) start some none = cc
+
+-- a call that is served as it claims and makes no restart is none
+pub no_restart_asked : (configuration : Configuration) (cores : List CoreState) (core : ℕ) (partition : Partition) (call : CallRecord)
+    → AllHold (served_demands configuration cores core partition call) → restart_of configuration call ≡ None → is_restart call ≡ false
+no_restart_asked configuration cores core partition call holds none = by (is_restart call) refl
+  where
+    raised : (policy : Option Mode) (handled : Bool) → error_mode configuration call.who.part ≡ policy → call.claim.out ≡ out.Never
+        → call.claim.out ≡ (if not handled && is_some (error_mode configuration call.who.part) then never else done).out
+        → restart_by_error configuration call.who.part ≡ None → ⊥
+    raised None true is claimed given nothing = let clash : out.Never ≡ out.Answer code.NoError = sym claimed ∙ given in cc
+    raised None false is claimed given nothing = let clash : out.Never ≡ out.Answer code.NoError = sym claimed ∙ (rw is at given) in cc
+    raised (Some mode) handled is claimed given nothing = let nothing_too = rw is at nothing in cc
+
+    apart : (asked : Request) (claimed : Out) → call.request ≡ asked → call.claim.out ≡ claimed → restarts_by asked claimed ≡ true
+        → restart_for configuration call.who.part asked ≡ None → ⊥
+    apart (request.SetPartitionMode next) out.Never is same restarts nothing = given_none (restart_given next) PartitionRestart restarts nothing
+    apart (request.SetPartitionMode next) _ is same restarts nothing = let never : ◌≡◌ {A = Bool} false true = restarts in cc
+    apart (request.Health (HealthOperation.RaiseError error length message)) out.Never is same restarts nothing =
+        let held = rw is at holds in
+        raised (error_mode configuration call.who.part) (is_handled partition call.who.proc) refl same held.0 nothing
+    apart (request.Health (HealthOperation.RaiseError error length message)) _ is same restarts nothing = let never : ◌≡◌ {A = Bool} false true = restarts in cc
+    apart (request.Health operation) _ is same restarts nothing = let never : ◌≡◌ {A = Bool} false true = restarts in cc
+    apart _ _ is same restarts nothing = let never : ◌≡◌ {A = Bool} false true = restarts in cc
+
+    by : (b : Bool) → is_restart call ≡ b → b ≡ false
+    by true is = absurd (apart call.request call.claim.out refl refl is (rw is at none))
+    by false is = refl
+
+-- who is faulted
+
+-- the handler's STOP_SELF takes no listed error
+pub ending_keeps_errors : (caller : ℕ) (asked : Request) (partition : Partition) → ends_handler partition caller asked ≡ true → errors_by caller asked partition ≡ partition.errors
+ending_keeps_errors caller (request.Caller CallerOperation.StopSelf) partition ends = refl
+ending_keeps_errors caller _ partition ends = let never : ◌≡◌ {A = Bool} false true = ends in cc

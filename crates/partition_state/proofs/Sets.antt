@@ -13,7 +13,7 @@ use Rattle.apex_machine.specs.Demands.{has_entry_in}
 use Rattle.apex_machine.specs.Arguments.{natural_of}
 use Rattle.apex_machine.specs.Services.{answer_by}
 use Rattle.apex_machine.specs.State.{Partition, change_at, given_object, item_at}
-use Rattle.apex_machine.specs.Waiting.{enters, is_the_set, is_waiting, message_of, restart_of, set_after, set_of, stop_of}
+use Rattle.apex_machine.specs.Waiting.{enters, is_restart, is_the_set, is_waiting, message_of, set_after, set_of, stop_of}
 use Rattle.apex_laws.specs.Laws.{AllEntries, IsInOrder, are_distinct, entries_at}
 use Rattle.partition_objects.proofs.Tables.{change-absent}
 use Rattle.apex_machine.specs.Answer.{Answer, NamesExactly}
@@ -53,7 +53,7 @@ and_false true = refl
 and_false false = refl
 
 -- a set in which its caller may wait: those leave that it names, and a caller that waits enters it
-pub set_joined : (place : ℕ) (call : CallRecord) (wanted : WaitingSet) (entries : List Entry) → stop_of call.request ≡ None → restart_of call ≡ None → IsInOrder place entries
+pub set_joined : (place : ℕ) (call : CallRecord) (wanted : WaitingSet) (entries : List Entry) → stop_of call.request ≡ None → is_restart call ≡ false → IsInOrder place entries
     → enters call wanted ≡ is_waiting call.claim.out
     → set_after place (Call call) wanted entries
     ≡ joined_by (record { who = call.who; priority = call.claim.prio; place = place }) call.claim (message_of call.request) entries
@@ -65,7 +65,7 @@ all_stay claim nobody [] = refl
 all_stay claim nobody (entry ∷ entries) = rw (nobody entry.who, all_stay claim nobody entries) refl
 
 -- a set in which its caller may wait, and brings no message
-pub set_joined_plainly : (place : ℕ) (call : CallRecord) (wanted : WaitingSet) (entries : List Entry) → stop_of call.request ≡ None → restart_of call ≡ None
+pub set_joined_plainly : (place : ℕ) (call : CallRecord) (wanted : WaitingSet) (entries : List Entry) → stop_of call.request ≡ None → is_restart call ≡ false
     → message_of call.request ≡ [] → is_the_set wanted (set_of call.request call.claim.chan) ≡ true → IsInOrder place entries
     → set_after place (Call call) wanted entries ≡ joined_by (record { who = call.who; priority = call.claim.prio; place = place }) call.claim [] entries
 set_joined_plainly place call wanted entries none goes_on plain here order =
@@ -77,7 +77,7 @@ set_joined_plainly place call wanted entries none goes_on plain here order =
     and_true false = refl
 
 -- a set in which its caller does not wait, by its request
-pub set_left_plainly : (place : ℕ) (call : CallRecord) (wanted : WaitingSet) (entries : List Entry) → stop_of call.request ≡ None → restart_of call ≡ None
+pub set_left_plainly : (place : ℕ) (call : CallRecord) (wanted : WaitingSet) (entries : List Entry) → stop_of call.request ≡ None → is_restart call ≡ false
     → set_of call.request call.claim.chan ≡ None → set_after place (Call call) wanted entries ≡ left_by call.claim entries
 set_left_plainly place call wanted entries none goes_on nowhere = set_left place call wanted entries none goes_on (rw nowhere (and_false (is_waiting call.claim.out)))
 

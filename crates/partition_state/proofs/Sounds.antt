@@ -2,7 +2,7 @@
 use Rattle.std.proofs.Common.{◌≡◌, ◌<◌, ◌≤◌, ℕ, ℤ, pos, negsuc, List, [], ◌∷◌, ◌||◌, Bool, true, false, IsTrue, refl, arith}
 use Rattle.std.proofs.lemmas.Bool.Decides.{nat_tests}
 use Rattle.apex_types.specs.declared.limits.TheConstants.{MOST_CORES, PLACE_COUNT}
-use Rattle.apex_types.specs.declared.operation.{CallerOperation.CallerOperation, ProcessOperation.ProcessOperation}
+use Rattle.apex_types.specs.declared.operation.{CallerOperation.CallerOperation, HealthOperation.HealthOperation, ProcessOperation.ProcessOperation}
 use Rattle.apex_types.specs.declared.record.Call.{Call as CallRecord}
 use Rattle.apex_types.specs.declared.record.Out.{Out}
 use Rattle.apex_types.specs.declared.record.Out.TheVariants as out
@@ -23,7 +23,7 @@ use Rattle.apex_laws.proofs.BoundedParts.{releases_fit}
 use Rattle.module_config.specs.Limits.{CoresAreOfModule}
 use Rattle.partition_objects.proofs.Numbers.{given_fits}
 use Rattle.scheduling.specs.Sound.{IsSound, AsksSoundly, GivesSoundly, ReleasesSoundly, WaitsSoundly, is_core_number}
-use Rattle.partition_state.specs.Calls.{IsClear, NumbersAreKept, served_demands}
+use Rattle.partition_state.specs.Calls.{IsClear, NamesCore, NumbersAreKept, served_demands}
 use Rattle.partition_state.proofs.Clear.{blackboard_found, buffer_found, event_found, mutex_found, nil_left, nil_right, semaphore_found, when_not}
 
 -- what is asked
@@ -53,9 +53,16 @@ gives_soundly configuration now who partition process (ProcessOperation.Initiali
     core_is configuration who.part core few of_module (when_not _ _ (nil_right _ _ none))
 gives_soundly configuration now who partition process _ few of_module none = tt
 
+-- the core of a handler is one
+pub names_core : (configuration : Configuration) (now : ℕ) (who : Who) (partition : Partition) (operation : HealthOperation) → configuration.cores ≤ MOST_CORES
+    → CoresAreOfModule configuration → conditions_of configuration now who partition (request.Health operation) ≡ [] → NamesCore operation
+names_core configuration now who partition (HealthOperation.ConfigureHandler concurrency core) few of_module none =
+    core_is configuration who.part core few of_module (when_not _ _ (nil_right _ _ none))
+names_core configuration now who partition _ few of_module none = tt
+
 asks_soundly : (configuration : Configuration) (cores : List CoreState) (core : ℕ) (partition : Partition) (call : CallRecord) (asked : Request)
     → configuration.cores ≤ MOST_CORES → CoresAreOfModule configuration → conditions_of configuration (time_of cores core) call.who partition asked ≡ [] → call.request ≡ asked
-    → AllHold (served_demands cores core partition call) → AsksSoundly partition.table call asked
+    → AllHold (served_demands configuration cores core partition call) → AsksSoundly partition.table call asked
 asks_soundly configuration cores core partition call (request.CreateProcess name priority period time_capacity) few of_module none is served =
     λ done. let given = rw is at served in
     (given.1.0.val, when_not _ _ (nil_right _ _ (nil_left _ _ (nil_left _ _ (nil_left _ _ (nil_left _ _ none))))), nobody call.claim.woken given.1.1.1.0)
@@ -90,7 +97,7 @@ releases_soundly place partition caller _ bounded below = tt
 -- calls that are served
 
 pub sound_served : (configuration : Configuration) (cores : List CoreState) (place core : ℕ) (partition : Partition) (call : CallRecord)
-    → IsClear configuration cores place core partition call → AllHold (served_demands cores core partition call)
+    → IsClear configuration cores place core partition call → AllHold (served_demands configuration cores core partition call)
     → configuration.cores ≤ MOST_CORES → CoresAreOfModule configuration → NumbersAreKept partition → place < PLACE_COUNT → IsSound partition.table call
 sound_served configuration cores place core partition call clear served few of_module kept below = record {
   asks = asks_soundly configuration cores core partition call call.request few of_module clear.conditions refl served;

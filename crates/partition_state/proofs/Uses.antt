@@ -1,19 +1,21 @@
 -- Calls that use a channel, and calls that leave all objects.
-use Rattle.std.proofs.Common.{◌≡◌, ◌<◌, ℕ, ℤ, List, Bool, true, false, cond, IsFalse, IsTrue, None, is_some, refl, sym, ap, ◌∙◌, inl, inr}
+use Rattle.std.proofs.Common.{◌≡◌, ◌<◌, ℕ, ℤ, List, Bool, true, false, cond, IsFalse, IsTrue, Option, is_some, refl, sym, ap, ◌∙◌, inl, inr}
 use Rattle.apex_types.specs.declared.limits.TheConstants.{PLACE_COUNT}
 use Rattle.apex_types.specs.declared.object_kind.ObjectKind.TheVariants as kind
-use Rattle.apex_types.specs.declared.operation.{QueuingOperation.QueuingOperation, SamplingOperation.SamplingOperation}
+use Rattle.apex_types.specs.declared.operation.{CallerOperation.CallerOperation, QueuingOperation.QueuingOperation, SamplingOperation.SamplingOperation}
 use Rattle.apex_types.specs.declared.record.Call.{Call as CallRecord}
 use Rattle.apex_types.specs.declared.request.Request.{Request}
 use Rattle.apex_types.specs.declared.request.Request.TheVariants as request
 use Rattle.apex_machine.specs.declared.state.CoreState.{CoreState}
-use Rattle.apex_machine.specs.After.{has_handler_by, is_done, lock_called, objects_called}
+use Rattle.apex_machine.specs.declared.state.ErrorHandler.{ErrorHandler}
+use Rattle.apex_machine.specs.After.{is_done, lock_called, objects_called}
 use Rattle.apex_machine.specs.Arguments.{natural_of}
 use Rattle.apex_machine.specs.Configuration.{Configuration}
+use Rattle.apex_machine.specs.Errors.{errors_by, handler_by, handles_more}
 use Rattle.apex_machine.specs.Locks.{is_of_lock}
 use Rattle.apex_machine.specs.Ports.{use_of}
 use Rattle.apex_machine.specs.State.{Partition, change_at}
-use Rattle.apex_machine.specs.Waiting.{restart_by, restart_of}
+use Rattle.apex_machine.specs.Waiting.{is_restart, restarts_by}
 use Rattle.apex_laws.specs.PartBounds.{IsBoundedPart}
 use Rattle.apex_laws.specs.PartLaws.{IsOwnCall, stops_one}
 use Rattle.apex_laws.specs.PartObjects.{objects_changed}
@@ -22,6 +24,8 @@ use Rattle.apex_laws.proofs.LockStays.{other_calls_leave_lock, refused_leaves_lo
 use Rattle.apex_laws.proofs.PartObjects.{one_object_changes}
 use Rattle.apex_laws.proofs.Restarts.{not_done_goes_on}
 use Rattle.scheduling.specs.declared.transfer.Transfer.{Transfer}
+use Rattle.scheduling.specs.declared.fault.FaultChange.TheVariants as change
+use Rattle.scheduling.specs.Faults.{IsFaultChangeOf}
 use Rattle.scheduling.specs.Sound.{AsksSoundly, IsSound, WaitsSoundly}
 use Rattle.scheduling.specs.Transfers.{IsTransferOf}
 use Rattle.partition_state.specs.Calls.{LeavesObjects, objects_noted}
@@ -64,20 +68,35 @@ leaves_objects configuration number place core cores partition call own (inr use
     sampled port (SamplingOperation.Write length message) = refl
     sampled port SamplingOperation.Read = refl
 
--- and it creates no error handler
+-- and it changes no error handler and no listed errors
 
-handler_left : (call : CallRecord) → LeavesObjects call → (before : Bool) → cond (is_done call.claim.out) (has_handler_by call.request before) before ≡ before
-handler_left call (inl not_done) before = rw not_done refl
-handler_left call (inr uses) before =
-    by_use (λ asked. cond (is_done call.claim.out) (has_handler_by asked before) before ≡ before)
+handler_left : (configuration : Configuration) (call : CallRecord) → LeavesObjects call → (before : Option ErrorHandler)
+    → cond (is_done call.claim.out) (handler_by configuration call.who.part call.request before) before ≡ before
+handler_left configuration call (inl not_done) before = rw not_done refl
+handler_left configuration call (inr uses) before =
+    by_use (λ asked. cond (is_done call.claim.out) (handler_by configuration call.who.part asked before) before ≡ before)
     (λ port operation. stays) (λ port operation. stays) (λ port. stays) call.request uses
   where
     stays : cond (is_done call.claim.out) before before ≡ before
     stays = either_way (is_done call.claim.out) before before refl
 
-noted_handler : (call : CallRecord) (asked : Request) (partition : Partition) → (objects_noted call asked partition).has_handler ≡ partition.has_handler
+errors_left : (call : CallRecord) → LeavesObjects call → (partition : Partition)
+    → cond (is_done call.claim.out) (errors_by call.who.proc call.request partition) partition.errors ≡ partition.errors
+errors_left call (inl not_done) partition = rw not_done refl
+errors_left call (inr uses) partition =
+    by_use (λ asked. cond (is_done call.claim.out) (errors_by call.who.proc asked partition) partition.errors ≡ partition.errors)
+    (λ port operation. stays) (λ port operation. stays) (λ port. stays) call.request uses
+  where
+    stays : cond (is_done call.claim.out) partition.errors partition.errors ≡ partition.errors
+    stays = either_way (is_done call.claim.out) partition.errors partition.errors refl
+
+noted_handler : (call : CallRecord) (asked : Request) (partition : Partition) → (objects_noted call asked partition).handler ≡ partition.handler
 noted_handler call (request.SamplingPort port SamplingOperation.Read) partition = refl
 noted_handler call _ partition = refl
+
+noted_errors : (call : CallRecord) (asked : Request) (partition : Partition) → (objects_noted call asked partition).errors ≡ partition.errors
+noted_errors call (request.SamplingPort port SamplingOperation.Read) partition = refl
+noted_errors call _ partition = refl
 
 -- and the lock stays
 
@@ -93,28 +112,24 @@ lock_stays configuration number place core cores partition call own (inr uses) =
     other_calls_leave_lock configuration number place core cores partition call own
     (by_use (λ asked. is_of_lock asked ≡ false) (λ port operation. refl) (λ port operation. refl) (λ port. refl) call.request uses)
     (by_use (λ asked. stops_one asked ≡ false) (λ port operation. refl) (λ port operation. refl) (λ port. refl) call.request uses)
-    (by_use (λ asked. restart_by asked call.claim.out ≡ None) (λ port operation. refl) (λ port operation. refl) (λ port. refl) call.request uses)
+    (by_use (λ asked. restarts_by asked call.claim.out ≡ false) (λ port operation. refl) (λ port operation. refl) (λ port. refl) call.request uses)
 
 -- so of the partition all but its mode and its processes is as noted
 pub leaves_all : (configuration : Configuration) (number place core : ℕ) (cores : List CoreState) (partition : Partition) (call : CallRecord)
     → IsOwnCall configuration number place core cores partition call → LeavesObjects call
     → all_but_processes configuration place call partition ≡ objects_noted call call.request partition
 leaves_all configuration number place core cores partition call own leaves =
-    ap (λ (one : Partition). record one { has_handler = handler; lock = lock_called place call partition.lock })
-    (leaves_objects configuration number place core cores partition call own leaves)
-    ∙ ap (λ has_handler. record (objects_noted call call.request partition) { has_handler = has_handler; lock = lock_called place call partition.lock })
-    (handler_left call leaves partition.has_handler ∙ sym (noted_handler call call.request partition))
-    ∙ ap (λ lock. record (objects_noted call call.request partition) { lock = lock })
-    (lock_stays configuration number place core cores partition call own leaves ∙ sym (noted_lock call call.request partition))
-  where
-    handler : Bool
-    handler = cond (is_done call.claim.out) (has_handler_by call.request partition.has_handler) partition.has_handler
+    let objects = leaves_objects configuration number place core cores partition call own leaves in
+    let handler = handler_left configuration call leaves partition.handler ∙ sym (noted_handler call call.request partition) in
+    let errors = errors_left call leaves partition ∙ sym (noted_errors call call.request partition) in
+    let lock = lock_stays configuration number place core cores partition call own leaves ∙ sym (noted_lock call call.request partition) in
+    λ i. record (objects i) { handler = handler i; errors = errors i; lock = lock i }
 
 -- it restarts no partition
-pub noted_goes_on : (call : CallRecord) → LeavesObjects call → restart_of call ≡ None
+pub noted_goes_on : (call : CallRecord) → LeavesObjects call → is_restart call ≡ false
 noted_goes_on call (inl not_done) = not_done_goes_on call not_done
 noted_goes_on call (inr uses) =
-    by_use (λ asked. restart_by asked call.claim.out ≡ None) (λ port operation. refl) (λ port operation. refl) (λ port. refl)
+    by_use (λ asked. restarts_by asked call.claim.out ≡ false) (λ port operation. refl) (λ port operation. refl) (λ port. refl)
     call.request uses
 
 -- it asks nothing that a table could not hold
@@ -133,3 +148,25 @@ pub noted_transfer : (partition : Partition) (call : CallRecord) (transfer : Tra
 noted_transfer partition call transfer (inl not_done) done = absurd (not_done_and_done (is_done call.claim.out) not_done done)
 noted_transfer partition call transfer (inr uses) done =
     by_use (λ asked. IsTransferOf partition call.who.proc asked transfer) (λ port operation. tt) (λ port operation. tt) (λ port. tt) call.request uses
+
+-- and it makes nobody faulted
+pub noted_faults : (partition : Partition) (call : CallRecord) → LeavesObjects call → IsTrue (is_done call.claim.out)
+    → IsFaultChangeOf partition call.who.proc call.request change.Unchanged
+noted_faults partition call (inl not_done) done = absurd (not_done_and_done (is_done call.claim.out) not_done done)
+noted_faults partition call (inr uses) done =
+    by_use (λ asked. IsFaultChangeOf partition call.who.proc asked change.Unchanged)
+    (λ port operation place number process. refl) (λ port operation place number process. refl) (λ port place number process. refl) call.request uses
+
+-- the handler's STOP_SELF is always done
+pub noted_no_more : (configuration : Configuration) (number place core : ℕ) (cores : List CoreState) (partition : Partition) (call : CallRecord)
+    → IsOwnCall configuration number place core cores partition call → LeavesObjects call → handles_more partition call.who.proc call.request ≡ false
+noted_no_more configuration number place core cores partition call own (inr uses) =
+    by_use (λ asked. handles_more partition call.who.proc asked ≡ false) (λ port operation. refl) (λ port operation. refl) (λ port. refl) call.request uses
+noted_no_more configuration number place core cores partition call own (inl not_done) = by call.request refl
+  where
+    by : (asked : Request) → call.request ≡ asked → handles_more partition call.who.proc asked ≡ false
+    by (request.Caller CallerOperation.StopSelf) is =
+        let held = rw is at own.demands.1.1.1.1.1.1 in
+        let done : is_done call.claim.out ≡ true = rw held.1.0 refl in
+        absurd (not_done_and_done (is_done call.claim.out) not_done done)
+    by _ is = refl

@@ -1,7 +1,7 @@
 -- The calls that a partition may serve, what it answers, and which object a request uses.
 use Rattle.std.specs.Prelude.{◌≡◌, ◌≢◌, ◌⊎◌, ℕ, ℤ, Bool, true, false, List, [], None, IsErrAnd, IsFalse, IsOk, IsTrue, MatchResult, Result, is_some, if◌then◌else◌}
 use Rattle.apex_types.specs.declared.cause.Cause.{Cause}
-use Rattle.apex_types.specs.declared.operation.{CallerOperation.CallerOperation, ProcessOperation.ProcessOperation, SamplingOperation.SamplingOperation}
+use Rattle.apex_types.specs.declared.operation.{CallerOperation.CallerOperation, HealthOperation.HealthOperation, ProcessOperation.ProcessOperation, SamplingOperation.SamplingOperation}
 use Rattle.apex_types.specs.declared.record.Call.{Call as CallRecord}
 use Rattle.apex_types.specs.declared.record.Claim.{Claim}
 use Rattle.apex_types.specs.declared.record.Who.{Who}
@@ -9,11 +9,12 @@ use Rattle.apex_types.specs.declared.request.Request.{Request}
 use Rattle.apex_types.specs.declared.request.Request.TheVariants as request
 use Rattle.apex_machine.specs.declared.state.CoreState.{CoreState}
 use Rattle.apex_machine.specs.declared.state.WaitingSet.{WaitingSet}
-use Rattle.apex_machine.specs.After.{has_handler_by, is_done}
+use Rattle.apex_machine.specs.After.{is_done}
 use Rattle.apex_machine.specs.Answer.{Answer}
 use Rattle.apex_machine.specs.Arguments.{natural_of}
 use Rattle.apex_machine.specs.Configuration.{Configuration}
 use Rattle.apex_machine.specs.Demands.{AllHold, Demand, FirstFails, answer_demands, caller_demands, has_entry_in}
+use Rattle.apex_machine.specs.Errors.{errors_by, handler_by}
 use Rattle.apex_machine.specs.Ports.{channel_of, use_of}
 use Rattle.apex_machine.specs.ServiceConditions.{conditions_of}
 use Rattle.apex_machine.specs.Services.{NewNumber, answer_by, answer_of, done_with, peer}
@@ -27,6 +28,7 @@ use Rattle.partition_objects.specs.Locks.{after as lock_after, after_stop}
 use Rattle.partition_objects.specs.Numbers.{NumbersFit}
 use Rattle.partition_objects.specs.Ports.{read_at}
 use Rattle.scheduling.specs.declared.transfer.Transfer.{Transfer}
+use Rattle.scheduling.specs.Sound.{is_core_number}
 use Rattle.wait_set.specs.declared.object.Actor.{Actor}
 use Rattle.wait_set.specs.declared.object.ObjFault.{ObjFault}
 use Rattle.wait_set.specs.declared.object.ObjFault.TheVariants.{Unlawful, Memory}
@@ -63,8 +65,13 @@ IsReady place partition call = (configuration : Configuration) × (cores : List 
 
 -- what is demanded of the claim of a call on which no error condition holds and that goes through no channel: it is what the service gives
 -- its caller, by the cores and the caller's core
-abbrev pub served_demands : List CoreState → ℕ → Partition → CallRecord → List {1} Demand
-served_demands cores core partition call = answer_demands (answer_of cores core call.who partition call.request) call.claim
+abbrev pub served_demands : Configuration → List CoreState → ℕ → Partition → CallRecord → List {1} Demand
+served_demands configuration cores core partition call = answer_demands (answer_of configuration cores core call.who partition call.request) call.claim
+
+-- a CONFIGURE_ERROR_HANDLER gives the number of a core
+abbrev pub NamesCore : HealthOperation → Type 0
+NamesCore (HealthOperation.ConfigureHandler concurrency core) = IsTrue (is_core_number core)
+NamesCore _ = Unit {0}
 
 -- whether a request creates a process, an object or a port
 abbrev pub creates : Request → Bool
@@ -130,8 +137,11 @@ objects_served configuration place call (request.Preemption operation) partition
     record partition { lock = lock_after (actor_of place call) operation call.claim partition.lock }
 objects_served configuration place call asked partition = objects_changed configuration place call asked partition
 
--- a partition after a call that was served, except for its mode and its processes: its objects and its lock change, and
--- CREATE_ERROR_HANDLER creates the error handler
+-- a partition after a call that was served, except for its mode and its processes: its objects and its lock change, and so do its error
+-- handler and its listed errors
 abbrev pub served : Configuration → ℕ → CallRecord → Request → Partition → Partition
 served configuration place call asked partition =
-    record (objects_served configuration place call asked partition) { has_handler = has_handler_by asked partition.has_handler }
+    record (objects_served configuration place call asked partition) {
+      handler = handler_by configuration call.who.part asked partition.handler;
+      errors = errors_by call.who.proc asked partition;
+    }

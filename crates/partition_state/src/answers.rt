@@ -5,6 +5,7 @@ ghost use Rattle.apex_types.specs.declared.record.Who.{Who as WhoValue};
 ghost use Rattle.apex_types.specs.declared.request.Request.TheVariants as request;
 ghost use Rattle.apex_machine.specs.declared.state.CoreState.{CoreState};
 ghost use Rattle.apex_machine.specs.Answer.{HasValue, is_new};
+ghost use Rattle.apex_machine.specs.Configuration.{Configuration};
 ghost use Rattle.apex_machine.specs.Demands.{Judges};
 ghost use Rattle.apex_machine.specs.DueTimes as due_times;
 ghost use Rattle.apex_machine.specs.Names.{number_found, number_of};
@@ -21,6 +22,7 @@ use apex_types::{
     Call, CallerOperation, Cause, Name, NamedKind, ObjectKind, ObjectOperation, ProcessOperation,
     Request, Who,
 };
+use module_config::Config;
 use partition_objects::ObjectTable;
 use scheduling::Moment;
 use wait_set::{Actor, ApexObject, Given, judge_value};
@@ -28,8 +30,8 @@ use wait_set::{Actor, ApexObject, Given, judge_value};
 impl PartitionState {
     /// What a call that meets no error condition and goes through no channel gives its caller at this moment. None for a creation, which
     /// gives any number that nothing of its kind has. Takes no memory.
-    pub fn answer(&self, moment: &Moment<'_>, call: &Call) -> Option<Given<'_>>
-        ensures given { IfSome result (λ given. answer_given given ≡ services.answer_of moment.now.cores.now moment.now.core call.now.who self.now call.now.request) }
+    pub fn answer(&self, config: &Config, moment: &Moment<'_>, call: &Call) -> Option<Given<'_>>
+        ensures given { IfSome result (λ given. answer_given given ≡ services.answer_of config.now moment.now.cores.now moment.now.core call.now.who self.now call.now.request) }
         ensures none { IfNone result (creates call.now.request ≡ true) }
     {
         let caller = caller_of(moment.place, call);
@@ -44,10 +46,10 @@ impl PartitionState {
                 Some(self.object_answer(*number, &caller, operation))
             }
             Request::Preemption(operation) => Some(self.lock.answer(&caller, operation)),
-            Request::SamplingPort(..)
-            | Request::QueuingPort(..)
-            | Request::ReportMessage { .. }
-            | Request::CreateErrorHandler => Some(Given::done()),
+            Request::SamplingPort(..) | Request::QueuingPort(..) => Some(Given::done()),
+            Request::Health(operation) => {
+                Some(self.health_answer(config, call.who.part, call.who.proc, operation))
+            }
             Request::GetId(kind, name) => Some(self.id_answer(*kind, name)),
             Request::GetStatus(kind, object) => {
                 Some(Given::reporting(self.status_of(*kind, *object)))
@@ -59,10 +61,10 @@ impl PartitionState {
     /// service gives, which for a creation is a new number. Takes no memory.
     ///
     /// Refused with the cause of the first demand that fails.
-    pub fn judge(&self, moment: &Moment<'_>, call: &Call) -> Result<(), Cause>
-        ensures { Judges (served_demands moment.now.cores.now moment.now.core self.now call.now) result }
+    pub fn judge(&self, config: &Config, moment: &Moment<'_>, call: &Call) -> Result<(), Cause>
+        ensures { Judges (served_demands config.now moment.now.cores.now moment.now.core self.now call.now) result }
     {
-        match self.answer(moment, call) {
+        match self.answer(config, moment, call) {
             Some(given) => given.judge(&call.claim),
             None => judge_value(self.is_new(&call.request, call.claim.val), &call.claim),
         }
@@ -70,7 +72,7 @@ impl PartitionState {
 
     // Whether a claimed value is a number that a creation may give. A request that creates nothing has none.
     fn is_new(&self, request: &Request, claimed: Option<i64>) -> bool
-        ensures { (cores : List CoreState) (core : ℕ) (who : WhoValue) → creates request.now ≡ true → IsTrue result ↔ HasValue (services.answer_of cores core who self.now request.now).val claimed }
+        ensures { (configuration : Configuration) (cores : List CoreState) (core : ℕ) (who : WhoValue) → creates request.now ≡ true → IsTrue result ↔ HasValue (services.answer_of configuration cores core who self.now request.now).val claimed }
     {
         match request {
             Request::CreateProcess { .. } => self.processes.is_new_number(claimed),
@@ -83,8 +85,7 @@ impl PartitionState {
             | Request::QueuingPort(..)
             | Request::GetId(..)
             | Request::GetStatus(..)
-            | Request::ReportMessage { .. }
-            | Request::CreateErrorHandler
+            | Request::Health(_)
             | Request::Preemption(..) => false,
         }
     }
@@ -106,7 +107,7 @@ impl PartitionState {
 
     // What an operation on the object of this number gives its caller; done, if there is none.
     fn object_answer(&self, number: i64, caller: &Actor, operation: &ObjectOperation) -> Given<'_>
-        ensures { (cores : List CoreState) (core : ℕ) → answer_given result ≡ services.answer_of cores core caller.now.who self.now (request.Object number operation.now) }
+        ensures { (configuration : Configuration) (cores : List CoreState) (core : ℕ) → answer_given result ≡ services.answer_of configuration cores core caller.now.who self.now (request.Object number operation.now) }
     {
         match operation {
             ObjectOperation::Buffer(operation) => {
@@ -144,7 +145,7 @@ impl PartitionState {
         who: Who,
         operation: &CallerOperation,
     ) -> Given<'a>
-        ensures { answer_given result ≡ services.answer_of moment.now.cores.now moment.now.core who self.now (request.Caller operation.now) }
+        ensures { (configuration : Configuration) → answer_given result ≡ services.answer_of configuration moment.now.cores.now moment.now.core who self.now (request.Caller operation.now) }
     {
         match operation {
             CallerOperation::StopSelf => {
@@ -171,7 +172,7 @@ impl PartitionState {
         process: i64,
         operation: &ProcessOperation,
     ) -> Given<'a>
-        ensures { answer_given result ≡ services.answer_of moment.now.cores.now moment.now.core who self.now (request.Process process operation.now) }
+        ensures { (configuration : Configuration) → answer_given result ≡ services.answer_of configuration moment.now.cores.now moment.now.core who self.now (request.Process process operation.now) }
     {
         match operation {
             ProcessOperation::Resume => self.resuming(who, process),

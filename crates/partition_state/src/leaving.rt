@@ -4,7 +4,7 @@ ghost use Rattle.std.specs.Prelude.{◌≡◌, ◌≢◌, ℕ, List, None, OnErr
 ghost use Rattle.apex_types.specs.declared.record.Body.TheVariants.{Tick};
 ghost use Rattle.apex_machine.specs.declared.state.CoreState.{CoreState};
 ghost use Rattle.apex_machine.specs.declared.state.Wait.TheVariants as wait;
-ghost use Rattle.apex_machine.specs.After.{partition_by, partition_woken, returned, sets_left, deadline_taken};
+ghost use Rattle.apex_machine.specs.After.{partition_by, partition_woken, returned, sets_left};
 ghost use Rattle.apex_machine.specs.Arguments.{natural_of};
 ghost use Rattle.apex_machine.specs.Configuration.{Configuration};
 ghost use Rattle.apex_machine.specs.Services.{peer};
@@ -110,13 +110,6 @@ impl PartitionState {
         ensures { self.new ≡ record self.old { table = each_item (returned number) self.old.table } }
     {
         self.processes.ret(number);
-    }
-
-    /// The report of the missed deadline of this process, which has none then. Takes no memory.
-    pub fn take_deadline(&mut self, missed: ProcId)
-        ensures { self.new ≡ record self.old { table = each_item (deadline_taken missed) self.old.table } }
-    {
-        self.processes.take_deadline(missed);
     }
 
     /// A record of others, at this place, that ends the waits of the processes of this partition that it names: each gets this message.

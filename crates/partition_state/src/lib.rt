@@ -11,7 +11,8 @@
 //!   through a channel. A read marks its port. `channel_of` says which channel a request goes to.
 //! - `number_of` and `status_of` say what is reported of a name and of an object or a port, by its kind (`telling.rt`); `statuses.rt` says
 //!   what is reported of processes and of the partition. They judge a call that only reports, and such a call changes its caller alone.
-//! - A call that restarts the partition (`restart_of`) leaves it as it starts, and takes no memory.
+//! - A call or an error that restarts the partition (`restart_of`, `tell`) leaves it as it starts, and takes no memory. An error that the
+//!   handler takes is listed, and its process is faulted (`errors.rt`).
 //! - `tick` takes each named process out of the one waiting set that its wait names, and ends its wait.
 //!
 //! Nothing that comes before a call's outcome is judged here. The caller must ensure that the calling process runs, and that the partition
@@ -21,6 +22,7 @@
 mod answers;
 mod creating;
 mod creations;
+mod errors;
 mod leaving;
 mod objects;
 mod owners;
@@ -31,5 +33,5 @@ mod state;
 mod statuses;
 mod telling;
 
-pub use restarting::restart_of;
+pub use restarting::{is_restart, restart_of};
 pub use state::PartitionState;

@@ -3,23 +3,79 @@
 ghost use Rattle.std.specs.Prelude.{◌≡◌, ℕ};
 ghost use Rattle.apex_machine.specs.Arguments as arguments;
 ghost use Rattle.apex_machine.specs.Configuration.{Configuration, first_core as first_core_of};
-ghost use Rattle.apex_machine.specs.State.{started_partition};
+ghost use Rattle.apex_machine.specs.After as after;
+ghost use Rattle.apex_machine.specs.Errors as errors;
 ghost use Rattle.apex_machine.specs.Waiting as waiting;
-ghost use Rattle.apex_machine.specs.declared.state.StartCondition.TheVariants.{PartitionRestart};
 
 use crate::state::PartitionState;
-use apex_machine::{Mode, StartCondition};
-use apex_types::{Call, CoreId, Out, Place, Request};
+use apex_machine::{ErrorPolicy, Mode, Restart, StartCondition};
+use apex_types::{Call, CoreId, ErrorReport, HealthOperation, Out, PartId, Place, Request};
+use module_config::Config;
 use partition_objects::{ObjectTable, PortTable, PreemptionLock};
 
-/// The mode in which a call restarts its caller's partition, if it does: SET_PARTITION_MODE to IDLE, COLD_START or WARM_START
-/// that does not return.
-pub fn restart_of(call: &Call) -> Option<Mode>
-    ensures { result ≡ waiting.restart_of call.now }
+/// Whether a call restarts its caller's partition: SET_PARTITION_MODE to IDLE, COLD_START or WARM_START, or RAISE_APPLICATION_ERROR, that does
+/// not return.
+pub fn is_restart(call: &Call) -> bool
+    ensures { result ≡ waiting.is_restart call.now }
 {
     match (&call.request, call.claim.out) {
-        (Request::SetPartitionMode(mode), Out::Never) => restart_given(*mode),
+        (Request::SetPartitionMode(mode), Out::Never) => restart_given(*mode).is_some(),
+        (Request::Health(HealthOperation::RaiseError { .. }), Out::Never) => true,
+        _ => false,
+    }
+}
+
+/// The restart that a call makes of its caller's partition, if it makes one: SET_PARTITION_MODE to IDLE, COLD_START or WARM_START, or
+/// RAISE_APPLICATION_ERROR, that does not return. For the latter the configuration gives the mode.
+pub fn restart_of(config: &Config, call: &Call) -> Option<Restart>
+    ensures { result ≡ after.restart_of config.now call.now }
+{
+    match (&call.request, call.claim.out) {
+        (Request::SetPartitionMode(mode), Out::Never) => {
+            let mode = restart_given(*mode)?;
+            Some(Restart {
+                start: StartCondition::PartitionRestart,
+                mode,
+            })
+        }
+        (Request::Health(HealthOperation::RaiseError { .. }), Out::Never) => {
+            restart_by_error(config, call.who.part)
+        }
         _ => None,
+    }
+}
+
+/// The restart of the partition of this number after an error that no handler takes, if the configuration says so.
+fn restart_by_error(config: &Config, part: PartId) -> Option<Restart>
+    ensures { result ≡ after.restart_by_error config.now part }
+{
+    let mode = error_mode(config, part)?;
+    Some(Restart {
+        start: StartCondition::ErrorRestart,
+        mode,
+    })
+}
+
+/// The mode in which an error that no handler takes restarts the partition of this number, if the configuration says so.
+pub(crate) fn error_mode(config: &Config, part: PartId) -> Option<Mode>
+    ensures { result ≡ errors.error_mode config.now part }
+{
+    match config.error_policy(part) {
+        ErrorPolicy::Ignore => None,
+        ErrorPolicy::Idle => Some(Mode::Idle),
+        ErrorPolicy::ColdStart => Some(Mode::ColdStart),
+        ErrorPolicy::WarmStart => Some(Mode::WarmStart),
+    }
+}
+
+/// The restart that the report of an error makes of the partition of its process, if it makes one.
+pub(crate) fn restart_told(config: &Config, report: &ErrorReport) -> Option<Restart>
+    ensures { result ≡ after.restart_told config.now report.now }
+{
+    if report.restarts {
+        restart_by_error(config, report.who.part)
+    } else {
+        None
     }
 }
 
@@ -36,15 +92,16 @@ fn restart_given(mode: i64) -> Option<Mode>
 }
 
 impl PartitionState {
-    /// The partition as SET_PARTITION_MODE starts it in this mode, at this place: its lock is free, it has no error handler, no object and no
-    /// port, and of its processes only the initialising one, which IDLE does not have. Takes no memory.
-    pub(crate) fn restart(&mut self, mode: Mode, first_core: CoreId, place: Place)
-        ensures { (configuration : Configuration) (number : ℕ) → first_core_of configuration number ≡ first_core → self.new ≡ started_partition PartitionRestart mode configuration number place }
+    /// The partition as a restart leaves it, at this place: its lock is free, it has no error handler, no error, no object and no port, and of
+    /// its processes only the initialising one, which IDLE does not have. Takes no memory.
+    pub(crate) fn restart(&mut self, restart: Restart, first_core: CoreId, place: Place)
+        ensures { (configuration : Configuration) (number : ℕ) → first_core_of configuration number ≡ first_core → self.new ≡ after.restarted restart configuration number place }
     {
-        self.start = StartCondition::PartitionRestart;
-        self.has_handler = false;
+        self.start = restart.start;
+        self.handler = None;
+        self.errors.clear();
         self.lock = PreemptionLock::new(self.alloc);
-        self.processes.restart(mode, first_core, place);
+        self.processes.restart(restart.mode, first_core, place);
         self.buffers = ObjectTable::new(self.alloc);
         self.blackboards = ObjectTable::new(self.alloc);
         self.semaphores = ObjectTable::new(self.alloc);

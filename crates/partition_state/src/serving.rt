@@ -3,10 +3,9 @@
 ghost use Rattle.std.specs.Prelude.{◌≡◌, ◌≢◌, ℕ, List, None, IfErr, IfOk, OnErr, OnOk};
 ghost use Rattle.apex_types.specs.declared.operation.NewObject.{NewObject};
 ghost use Rattle.apex_types.specs.declared.request.Request.TheVariants as request;
-ghost use Rattle.apex_machine.specs.After.{own_partition, partition_called};
+ghost use Rattle.apex_machine.specs.After.{own_partition, partition_called, restart_of as restarted_by};
 ghost use Rattle.apex_machine.specs.Demands.{AllHold, Judges, own_call_demands};
 ghost use Rattle.apex_machine.specs.Configuration.{Configuration};
-ghost use Rattle.apex_machine.specs.Waiting.{restart_of as restarted_by};
 ghost use Rattle.apex_laws.specs.PartBounds.{IsBoundedPart};
 ghost use Rattle.apex_laws.specs.PartLaws.{IsSoundPart};
 ghost use Rattle.apex_laws.specs.PartObjects.{objects_changed};
@@ -15,16 +14,15 @@ ghost use Rattle.scheduling.specs.Transfers.{IsTransferOf};
 ghost use Rattle.wait_set.specs.Actors.{Refuses};
 ghost use Rattle.partition_state.specs.Calls.{IsClear, IsJudged, IsReady, LeavesObjects, RefusesOrWants, object_demands, served, served_demands};
 
+use crate::errors::fault_change;
 use crate::objects::{caller_of, use_lock, use_object};
 use crate::restarting::restart_of;
 use crate::state::PartitionState;
-use apex_types::{
-    Call, CallerOperation, Cause, ObjectOperation, Out, Place, ProcessOperation, Request,
-};
+use apex_types::{Call, CallerOperation, Cause, ObjectOperation, Place, ProcessOperation, Request};
 use module_config::Config;
-use scheduling::{Moment, Transfer};
+use scheduling::{FaultChange, Moment, Transfer};
 use std::alloc::AllocError;
-use wait_set::{ObjFault, judge_outcome};
+use wait_set::ObjFault;
 
 impl PartitionState {
     /// A call of one of the partition's processes on which no error condition holds and that goes through no channel. What it claims is
@@ -39,15 +37,16 @@ impl PartitionState {
     ) -> Result<(), ObjFault>
         requires clear { IsClear config.now moment.now.cores.now moment.now.place moment.now.core self.old call.now }
         requires times { TimesFit moment.now.cores.now }
-        ensures ok { OnOk result (AllHold (served_demands moment.now.cores.now moment.now.core self.old call.now)) }
-        ensures after { OnOk result (self.new ≡ own_partition (restarted_by call.now) config.now moment.now.cores.now moment.now.place moment.now.core call.now self.old) }
-        ensures refused { IfErr result (RefusesOrWants (served_demands moment.now.cores.now moment.now.core self.old call.now)) }
+        ensures ok { OnOk result (AllHold (served_demands config.now moment.now.cores.now moment.now.core self.old call.now)) }
+        ensures after { OnOk result (self.new ≡ own_partition (restarted_by config.now call.now) config.now moment.now.cores.now moment.now.place moment.now.core call.now self.old) }
+        ensures refused { IfErr result (RefusesOrWants (served_demands config.now moment.now.cores.now moment.now.core self.old call.now)) }
         ensures unchanged { OnErr result (self.new ≡ self.old) }
     {
-        match restart_of(call) {
-            Some(mode) => {
-                judge_outcome(Out::Never, &call.claim).map_err(ObjFault::Unlawful)?;
-                self.restart(mode, config.first_core(call.who.part), moment.place);
+        match restart_of(config, call) {
+            Some(restart) => {
+                self.judge(config, moment, call)
+                    .map_err(ObjFault::Unlawful)?;
+                self.restart(restart, config.first_core(call.who.part), moment.place);
                 Ok(())
             }
             None => self.carry_out(config, moment, call),
@@ -62,16 +61,18 @@ impl PartitionState {
         moment: &Moment<'_>,
         call: &Call,
     ) -> Result<(), ObjFault>
-        requires goes_on { restarted_by call.now ≡ None }
+        requires goes_on { restarted_by config.now call.now ≡ None }
         requires clear { IsClear config.now moment.now.cores.now moment.now.place moment.now.core self.old call.now }
         requires times { TimesFit moment.now.cores.now }
-        ensures ok { OnOk result (AllHold (served_demands moment.now.cores.now moment.now.core self.old call.now)) }
+        ensures ok { OnOk result (AllHold (served_demands config.now moment.now.cores.now moment.now.core self.old call.now)) }
         ensures after { OnOk result (self.new ≡ partition_called config.now moment.now.cores.now moment.now.place moment.now.core call.now self.old) }
-        ensures refused { IfErr result (RefusesOrWants (served_demands moment.now.cores.now moment.now.core self.old call.now)) }
+        ensures refused { IfErr result (RefusesOrWants (served_demands config.now moment.now.cores.now moment.now.core self.old call.now)) }
         ensures unchanged { OnErr result (self.new ≡ self.old) }
     {
         config.keeps_limits();
         self.keep_numbers();
+        let taker = self.taker(call.who.proc);
+        let handles = self.is_handler(call.who.proc);
         let _place = moment.place.number();
         let first_core = config.first_core(call.who.part);
         let period = config.period(call.who.part);
@@ -79,10 +80,10 @@ impl PartitionState {
             return Err(ObjFault::Memory);
         };
         let transfer = self.operate(config, moment, call)?;
-        match self
-            .processes
-            .call(first_core, period, moment, transfer, prepared, call)
-        {
+        let faults = fault_change(taker, handles, &self.errors, call);
+        match self.processes.call(
+            first_core, period, moment, transfer, &faults, prepared, call,
+        ) {
             Ok(()) => Ok(()),
             Err(_) => Err(ObjFault::Memory),
         }
@@ -104,7 +105,7 @@ impl PartitionState {
         requires lawful { AllHold (own_call_demands config.now call.now.who.part moment.now.cores.now self.old moment.now.core call.now) }
         requires leaves { LeavesObjects call.now }
         requires times { TimesFit moment.now.cores.now }
-        ensures ok { OnOk result (self.new ≡ own_partition (restarted_by call.now) config.now moment.now.cores.now moment.now.place moment.now.core call.now self.old) }
+        ensures ok { OnOk result (self.new ≡ own_partition (restarted_by config.now call.now) config.now moment.now.cores.now moment.now.place moment.now.core call.now self.old) }
         ensures unchanged { OnErr result (self.new ≡ self.old) }
     {
         config.keeps_limits();
@@ -112,14 +113,22 @@ impl PartitionState {
         let first_core = config.first_core(call.who.part);
         let period = config.period(call.who.part);
         let prepared = self.processes.prepare(call)?;
-        self.processes.call(first_core, period, moment, Transfer::none(), prepared, call)?;
+        self.processes.call(
+            first_core,
+            period,
+            moment,
+            Transfer::none(),
+            &FaultChange::Unchanged,
+            prepared,
+            call,
+        )?;
         self.note_read(call);
         Ok(())
     }
 
     // Judges what a call claims against what its service gives, and changes the objects, the lock and the error handler accordingly. Returns
     // what becomes of the owner of a mutex. A call through a port goes through a channel.
-    #[tactic(auto, using(crate::proofs::Clear::at_work, crate::proofs::Served::accepted_ok, crate::proofs::Served::accepted_refused, crate::proofs::Served::changed_is_served))]
+    #[tactic(auto, using(crate::proofs::Clear::at_work, crate::proofs::Served::accepted_ok, crate::proofs::Served::accepted_refused, crate::proofs::Served::changed_is_served, crate::proofs::Served::health_is_served))]
     fn operate(
         &mut self,
         config: &Config,
@@ -127,20 +136,22 @@ impl PartitionState {
         call: &Call,
     ) -> Result<Transfer, ObjFault>
         requires clear { IsClear config.now moment.now.cores.now moment.now.place moment.now.core self.old call.now }
-        ensures ok { OnOk result (AllHold (served_demands moment.now.cores.now moment.now.core self.old call.now)) }
+        ensures ok { OnOk result (AllHold (served_demands config.now moment.now.cores.now moment.now.core self.old call.now)) }
         ensures after { OnOk result (self.new ≡ served config.now moment.now.place call.now call.now.request self.old) }
         ensures transfer { IfOk result (λ transfer. IsTransferOf self.old call.now.who.proc call.now.request transfer) }
-        ensures refused { IfErr result (Refuses (served_demands moment.now.cores.now moment.now.core self.old call.now)) }
+        ensures refused { IfErr result (Refuses (served_demands config.now moment.now.cores.now moment.now.core self.old call.now)) }
         ensures unchanged { OnErr result (self.new ≡ self.old) }
     {
         match &call.request {
             Request::Process(process, ProcessOperation::Stop) => {
-                self.judge(moment, call).map_err(ObjFault::Unlawful)?;
+                self.judge(config, moment, call)
+                    .map_err(ObjFault::Unlawful)?;
                 self.stop(moment.place, call, *process);
                 Ok(Transfer::none())
             }
             Request::Caller(CallerOperation::StopSelf) => {
-                self.judge(moment, call).map_err(ObjFault::Unlawful)?;
+                self.judge(config, moment, call)
+                    .map_err(ObjFault::Unlawful)?;
                 self.lock.stop(call.who.proc, call.claim.woken.as_slice());
                 Ok(Transfer::none())
             }
@@ -155,9 +166,14 @@ impl PartitionState {
             Request::Object(number, operation) => {
                 self.use_one(moment.place, call, *number, operation)
             }
-            Request::CreateErrorHandler => {
-                self.judge(moment, call).map_err(ObjFault::Unlawful)?;
-                self.has_handler = true;
+            Request::Health(operation) => {
+                config.keeps_limits();
+                self.judge(config, moment, call)
+                    .map_err(ObjFault::Unlawful)?;
+                let Ok(()) = self.change_errors(config, call.who.part, call.who.proc, operation)
+                else {
+                    return Err(ObjFault::Memory);
+                };
                 Ok(Transfer::none())
             }
             Request::SamplingPort(..) | Request::QueuingPort(..) => unreachable!(),
@@ -166,8 +182,7 @@ impl PartitionState {
             | Request::Caller(..)
             | Request::SetPartitionMode(..)
             | Request::GetId(..)
-            | Request::GetStatus(..)
-            | Request::ReportMessage { .. } => accepted(self.judge(moment, call)),
+            | Request::GetStatus(..) => accepted(self.judge(config, moment, call)),
         }
     }
 

@@ -1,15 +1,15 @@
 // A partition, and its parts.
 
-ghost use Rattle.std.specs.Prelude.{◌≡◌, ℕ, [], false, IfOk, OnOk};
+ghost use Rattle.std.specs.Prelude.{◌≡◌, ℕ, [], None, IfOk, OnOk};
 ghost use Rattle.apex_machine.specs.declared.state.StartCondition.TheVariants.{NormalStart};
 ghost use Rattle.apex_machine.specs.Configuration.{Configuration, first_core as first_core_of};
-ghost use Rattle.apex_machine.specs.Choice.{partition_choice};
+ghost use Rattle.apex_machine.specs.Choice.{is_handling_on, is_paused, partition_choice, pauses_others};
 ghost use Rattle.apex_machine.specs.State.{cold_partition, free_lock};
 ghost use Rattle.scheduling.specs.Processes.{processes_of};
 ghost use Rattle.partition_state.specs.Calls.{NumbersAreKept};
 
-use apex_machine::StartCondition;
-use apex_types::{CoreId, PartId, Who};
+use apex_machine::{ErrorHandler, ListedError, Mode, StartCondition};
+use apex_types::{CoreId, PartId, ProcId, Who};
 use partition_objects::{
     Blackboard, Buffer, Event, Mutex653, ObjectTable, PortTable, PreemptionLock, Semaphore,
 };
@@ -17,13 +17,14 @@ use scheduling::ProcTable;
 use std::alloc::{AllocError, Global};
 use std::marker::Model;
 
-/// The state of a partition: its mode and its processes, its start condition, whether it has an error handler, its lock, and its objects and
-/// ports of each kind under their numbers, in the order of their creation.
+/// The state of a partition: its mode and its processes, its start condition, its error handler with the errors that this has still to take,
+/// its lock, and its objects and ports of each kind under their numbers, in the order of their creation.
 #[derive(Drop)]
 pub struct PartitionState {
     pub(crate) alloc: Global,
     pub(crate) start: StartCondition,
-    pub(crate) has_handler: bool,
+    pub(crate) handler: Option<ErrorHandler>,
+    pub(crate) errors: Vec<ListedError>,
     pub(crate) lock: PreemptionLock,
     pub(crate) processes: ProcTable,
     pub(crate) buffers: ObjectTable<Buffer>,
@@ -40,7 +41,7 @@ impl Model for PartitionState {
 
     ghost Value = { Partition };
 
-    ghost view = { λ state. record { mode = state.processes.mode; start = state.start; has_handler = state.has_handler; lock = state.lock; table = state.processes.table; buffers = state.buffers; blackboards = state.blackboards; semaphores = state.semaphores; events = state.events; mutexes = state.mutexes; sampling_ports = state.sampling_ports; queuing_ports = state.queuing_ports } };
+    ghost view = { λ state. record { mode = state.processes.mode; start = state.start; handler = state.handler; errors = state.errors.items; lock = state.lock; table = state.processes.table; buffers = state.buffers; blackboards = state.blackboards; semaphores = state.semaphores; events = state.events; mutexes = state.mutexes; sampling_ports = state.sampling_ports; queuing_ports = state.queuing_ports } };
 }
 
 impl PartitionState {
@@ -57,12 +58,13 @@ impl PartitionState {
     // The partition of this mode and these processes as the module starts it, with a free lock, and without an error handler, an object or
     // a port. Takes no memory.
     fn without_objects(alloc: Global, processes: ProcTable) -> PartitionState
-        ensures { result ≡ record { mode = processes.mode; start = NormalStart; has_handler = false; lock = free_lock; table = processes.table; buffers = []; blackboards = []; semaphores = []; events = []; mutexes = []; sampling_ports = []; queuing_ports = [] } }
+        ensures { result ≡ record { mode = processes.mode; start = NormalStart; handler = None; errors = []; lock = free_lock; table = processes.table; buffers = []; blackboards = []; semaphores = []; events = []; mutexes = []; sampling_ports = []; queuing_ports = [] } }
     {
         PartitionState {
             alloc,
             start: StartCondition::NormalStart,
-            has_handler: false,
+            handler: None,
+            errors: Vec::new(alloc),
             lock: PreemptionLock::new(alloc),
             processes,
             buffers: ObjectTable::new(alloc),
@@ -101,7 +103,8 @@ impl PartitionState {
         ensures { OnOk result (self.new ≡ record other.now { mode = self.old.mode; table = self.old.table }) }
     {
         self.start = other.start;
-        self.has_handler = other.has_handler;
+        self.handler = other.handler;
+        self.errors = other.errors.clone()?;
         self.lock = other.lock.clone()?;
         self.copy_objects(other)?;
         self.copy_ports(other)
@@ -132,13 +135,6 @@ impl PartitionState {
         self.start
     }
 
-    /// Whether it has created an error handler.
-    pub fn has_handler(&self) -> bool
-        ensures { result ≡ self.now.has_handler }
-    {
-        self.has_handler
-    }
-
     /// Its lock on preemption.
     pub fn lock(&self) -> &PreemptionLock
         ensures { result.now ≡ self.now.lock }
@@ -146,12 +142,48 @@ impl PartitionState {
         &self.lock
     }
 
-    /// The process that this core is to run if the window is this partition's, whose number is given: the owner of the lock if it is ready
-    /// on the core, else the ready process that no other goes before, or None if none is ready.
+    /// The process that this core is to run if the window is this partition's, whose number is given: the error handler if it is ready on the
+    /// core; None if the cores stand still for the handler; else the owner of the lock if it is ready on the core; else the ready process that
+    /// no other goes before, or None if none is ready.
     pub fn choice_on(&self, part: PartId, core: CoreId) -> Option<Who>
         ensures { result ≡ partition_choice part core self.now }
     {
+        if self.is_handling_on(core) {
+            return Some(Who {
+                part,
+                proc: ProcId::new(0),
+            });
+        }
+        if self.is_paused() {
+            return None;
+        }
         self.processes.choice_on(part, core, self.lock.owner())
+    }
+
+    // Whether the error handler is ready on this core.
+    fn is_handling_on(&self, core: CoreId) -> bool
+        ensures { result ≡ is_handling_on core self.now }
+    {
+        self.processes.mode() == Mode::Normal && self.processes.is_ready_on(core, ProcId::new(0))
+    }
+
+    // Whether the cores stand still for the error handler, but for its own.
+    fn is_paused(&self) -> bool
+        ensures { result ≡ is_paused self.now }
+    {
+        self.processes.mode() == Mode::Normal
+            && self.processes.is_alive(ProcId::new(0))
+            && self.others_pause()
+    }
+
+    // Whether there is a handler for which the other cores stand still.
+    fn others_pause(&self) -> bool
+        ensures { result ≡ pauses_others self.now.handler }
+    {
+        match self.handler {
+            Some(handler) => handler.pauses,
+            None => false,
+        }
     }
 
     /// The buffers.

@@ -1,6 +1,6 @@
 // What services report of processes and of the partition itself.
 
-ghost use Rattle.std.specs.Prelude.{◌≡◌, true};
+ghost use Rattle.std.specs.Prelude.{◌≡◌, true, false};
 ghost use Rattle.apex_machine.specs.Arguments as arguments;
 ghost use Rattle.apex_machine.specs.Choice.{is_ready};
 ghost use Rattle.apex_machine.specs.Services as services;
@@ -75,6 +75,7 @@ fn start_number(start: StartCondition) -> u64
     match start {
         StartCondition::NormalStart => 0,
         StartCondition::PartitionRestart => 1,
+        StartCondition::ErrorRestart => 3,
     }
 }
 
@@ -88,12 +89,14 @@ fn deadline_value(deadline: Option<u64>) -> GivenValue
     }
 }
 
-// The number of the state of a process, as services report it: 0 DORMANT, 1 READY, 2 RUNNING, 3 WAITING.
+// The number of the state of a process, as services report it: 0 DORMANT, 1 READY, 2 RUNNING, 3 WAITING, 4 FAULTED.
 fn state_number(moment: &Moment<'_>, who: Who, process: &Process) -> u64
     ensures { result ≡ statuses.state_number moment.now.cores.now who process.now }
 {
     if !process.alive {
         0
+    } else if process.faulted {
+        4
     } else if !is_ready(process) {
         3
     } else if moment.occupant_of(process.affinity) == Some(who) {
@@ -103,9 +106,10 @@ fn state_number(moment: &Moment<'_>, who: Who, process: &Process) -> u64
     }
 }
 
-// Whether a process that is not dormant is ready on its core: it is not suspended, and waits for nothing.
+// Whether a process that is neither dormant nor faulted is ready on its core: it is not suspended, and waits for nothing.
 fn is_ready(process: &Process) -> bool
-    requires { process.now.alive ≡ true }
+    requires alive { process.now.alive ≡ true }
+    requires sound { process.now.faulted ≡ false }
     ensures { result ≡ is_ready process.now.affinity process.now }
 {
     !process.suspended && matches!(process.wait, Wait::Nothing)

@@ -59,7 +59,7 @@ refused_mapped (Err why) (Err fault) demands given fails = subst (RefusesOrWants
 pub served_fails : (configuration : Configuration) (number : ℕ) (cores : List CoreState) (partition : Partition) (core : ℕ) (call : CallRecord) (fault : ObjFault)
     → AllHold (caller_demands configuration number cores partition core call)
     → conditions_of configuration (time_of cores core) call.who partition call.request ≡ [] → channel_of partition call.request ≡ None → call.claim.chan ≡ None
-    → RefusesOrWants (served_demands cores core partition call) fault → RefusesOrWants (own_call_demands configuration number cores partition core call) fault
+    → RefusesOrWants (served_demands configuration cores core partition call) fault → RefusesOrWants (own_call_demands configuration number cores partition core call) fault
 served_fails configuration number cores partition core call (Unlawful why) caller none nowhere apart fails =
     fails_later (caller_demands configuration number cores partition core call) _ why caller
     (rw (none, nowhere) (inr (apart, fails)))
@@ -68,7 +68,7 @@ served_fails configuration number cores partition core call Memory caller none n
 pub served_judged : (configuration : Configuration) (number : ℕ) (cores : List CoreState) (partition : Partition) (core : ℕ) (call : CallRecord)
     (judgement : Result (Unit {0}) Cause) → AllHold (caller_demands configuration number cores partition core call)
     → conditions_of configuration (time_of cores core) call.who partition call.request ≡ [] → channel_of partition call.request ≡ None → call.claim.chan ≡ None
-    → Judges (served_demands cores core partition call) judgement → Judges (own_call_demands configuration number cores partition core call) judgement
+    → Judges (served_demands configuration cores core partition call) judgement → Judges (own_call_demands configuration number cores partition core call) judgement
 served_judged configuration number cores partition core call (Ok done) caller none nowhere apart hold =
     AllHold-append (caller_demands configuration number cores partition core call) _ caller (rw (none, nowhere) (apart, hold))
 served_judged configuration number cores partition core call (Err why) caller none nowhere apart fails =
@@ -81,7 +81,7 @@ pub through_holds : (configuration : Configuration) (number : ℕ) (cores : List
     → ((answer : Answer) → AllHold (outcome_demands [] (Some channel) number call.request answer call.claim))
     → AllHold (own_call_demands configuration number cores partition core call)
 through_holds configuration number cores partition core call channel caller none goes holds =
-    AllHold-append (caller_demands configuration number cores partition core call) _ caller (rw (none, goes) (holds (answer_of cores core call.who partition call.request)))
+    AllHold-append (caller_demands configuration number cores partition core call) _ caller (rw (none, goes) (holds (answer_of configuration cores core call.who partition call.request)))
 
 pub through_fails : (configuration : Configuration) (number : ℕ) (cores : List CoreState) (partition : Partition) (core : ℕ) (call : CallRecord) (channel : ℕ) (why : Cause)
     → AllHold (caller_demands configuration number cores partition core call)
@@ -89,7 +89,7 @@ pub through_fails : (configuration : Configuration) (number : ℕ) (cores : List
     → ((answer : Answer) → FirstFails (outcome_demands [] (Some channel) number call.request answer call.claim) why)
     → FirstFails (own_call_demands configuration number cores partition core call) why
 through_fails configuration number cores partition core call channel why caller none goes fails =
-    fails_later (caller_demands configuration number cores partition core call) _ why caller (rw (none, goes) (fails (answer_of cores core call.who partition call.request)))
+    fails_later (caller_demands configuration number cores partition core call) _ why caller (rw (none, goes) (fails (answer_of configuration cores core call.who partition call.request)))
 
 -- if some error condition holds
 
@@ -101,7 +101,7 @@ pub refused_holds : (configuration : Configuration) (number : ℕ) (cores : List
     → AllHold (own_call_demands configuration number cores partition core call)
 refused_holds configuration number cores partition core call conditions caller are holds =
     AllHold-append (caller_demands configuration number cores partition core call) _ caller
-    (rw (← are) (holds (channel_of partition call.request) number call.request (answer_of cores core call.who partition call.request)))
+    (rw (← are) (holds (channel_of partition call.request) number call.request (answer_of configuration cores core call.who partition call.request)))
 
 pub refused_fails : (configuration : Configuration) (number : ℕ) (cores : List CoreState) (partition : Partition) (core : ℕ) (call : CallRecord)
     (conditions : List Condition) (why : Cause) → AllHold (caller_demands configuration number cores partition core call)
@@ -110,7 +110,7 @@ pub refused_fails : (configuration : Configuration) (number : ℕ) (cores : List
     → FirstFails (own_call_demands configuration number cores partition core call) why
 refused_fails configuration number cores partition core call conditions why caller are fails =
     fails_later (caller_demands configuration number cores partition core call) _ why caller
-    (rw (← are) (fails (channel_of partition call.request) number call.request (answer_of cores core call.who partition call.request)))
+    (rw (← are) (fails (channel_of partition call.request) number call.request (answer_of configuration cores core call.who partition call.request)))
 
 -- a call that claims a code of an error condition is not done
 pub refused_not_done : (conditions : List Condition) (number : ℕ) (asked : Request) (answer : Answer) (claim : Claim) → conditions ≢ []

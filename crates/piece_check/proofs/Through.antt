@@ -13,13 +13,12 @@ use Rattle.apex_types.specs.declared.operation.ObjectOperation.TheVariants as on
 use Rattle.apex_types.specs.declared.request.Request.TheVariants as request
 use Rattle.apex_types.specs.declared.shape.End.TheVariants.{Senders, Receivers}
 use Rattle.apex_machine.specs.declared.state.Entry.{Entry}
-use Rattle.apex_machine.specs.declared.state.Mode.{Mode}
 use Rattle.apex_machine.specs.After.{channel_after, is_channel}
 use Rattle.apex_machine.specs.Configuration.{Configuration}
 use Rattle.apex_machine.specs.Demands.{AllHold, Judges, LocalStep, arrival_demands, channel_demands, departure_demands, through_demands}
 use Rattle.apex_machine.specs.Pieces.{ChannelPart, time_at}
 use Rattle.apex_machine.specs.State.{Channel, Content, is_named, channel_set}
-use Rattle.apex_machine.specs.Waiting.{ends_wait, enters, is_the_set, is_waiting, restart_of, set_of, stops, without}
+use Rattle.apex_machine.specs.Waiting.{ends_wait, enters, is_restart, is_the_set, is_waiting, set_of, stops, without}
 use Rattle.apex_laws.specs.Laws.{AllEntries}
 use Rattle.apex_laws.proofs.Booleans.{cannot_hold, is_itself, neither_first, neither_later, not_second}
 use Rattle.apex_laws.proofs.Restarts.{restart_stops_none}
@@ -179,11 +178,11 @@ either_order true false = refl
 either_order false true = refl
 either_order false false = refl
 
-pub left_with_part : (call : CallRecord) (entered : Mode) → restart_of call ≡ Some entered → (entries : List Entry)
+pub left_with_part : (call : CallRecord) → is_restart call ≡ true → (entries : List Entry)
     → without (ends_wait call) entries ≡ without (λ who. nat_eq who.part call.who.part) (without (λ who. is_named who call.claim.woken) entries)
-left_with_part call entered is entries =
+left_with_part call is entries =
     without_same (ends_wait call) (λ who. is_named who call.claim.woken || nat_eq who.part call.who.part)
-    (λ who. rw (is, restart_stops_none call entered is who) (either_order (nat_eq who.part call.who.part) (is_named who call.claim.woken))) entries
+    (λ who. rw (is, restart_stops_none call is who) (either_order (nat_eq who.part call.who.part) (is_named who call.claim.woken))) entries
     ∙ sym (without_without (λ who. is_named who call.claim.woken) (λ who. nat_eq who.part call.who.part) entries)
 
 -- the processes that another call names, and those that it stops
@@ -192,7 +191,7 @@ same_there : (leaves other : Who → Bool) (place : ℕ) (entries : List Entry) 
 same_there leaves other place [] same all = refl
 same_there leaves other place (entry ∷ entries) same all = rw (same entry.who all.0.number, same_there leaves other place entries same all.1) refl
 
-pub left_with_target : (call : CallRecord) (target : Option Who) (place : ℕ) → restart_of call ≡ None
+pub left_with_target : (call : CallRecord) (target : Option Who) (place : ℕ) → is_restart call ≡ false
     → ((who : Who) → who.proc < 4294967296 → stops call who ≡ is_the who target) → (entries : List Entry) → AllEntries (EnteredBefore place) entries
     → without (ends_wait call) entries ≡ without (λ who. is_the who target) (without (λ who. is_named who call.claim.woken) entries)
 left_with_target call target place none stopped entries all =
@@ -203,6 +202,6 @@ nobody_leaves : (entries : List Entry) → without (λ who. false) entries ≡ e
 nobody_leaves [] = refl
 nobody_leaves (entry ∷ entries) = ap (λ others. entry ∷ others) (nobody_leaves entries)
 
-pub left_alone : (call : CallRecord) (place : ℕ) → restart_of call ≡ None → ((who : Who) → who.proc < 4294967296 → stops call who ≡ is_the who None)
+pub left_alone : (call : CallRecord) (place : ℕ) → is_restart call ≡ false → ((who : Who) → who.proc < 4294967296 → stops call who ≡ is_the who None)
     → (entries : List Entry) → AllEntries (EnteredBefore place) entries → without (ends_wait call) entries ≡ without (λ who. is_named who call.claim.woken) entries
 left_alone call place none stopped entries all = left_with_target call None place none stopped entries all ∙ nobody_leaves _

@@ -22,6 +22,7 @@ use Rattle.apex_machine.specs.Configuration.{Configuration, has_partition}
 use Rattle.apex_machine.specs.Demands.{AllWaitAt, WakesHere, has_entry_in, window_now}
 use Rattle.apex_machine.specs.Deadlines.{has_missed}
 use Rattle.apex_machine.specs.DueTimes.{falls_due}
+use Rattle.apex_machine.specs.Errors.{restarts_by_error}
 use Rattle.apex_machine.specs.Objects.{is_owner}
 use Rattle.apex_machine.specs.Pieces.{ChannelPart, ModulePart, Part, PartitionPart, time_at}
 use Rattle.apex_machine.specs.Ports.{Ask, arrived, channel_effect, channel_of, departed, suits_use, use_of}
@@ -140,7 +141,7 @@ ShowsOfCall configuration cores partition core call cause.Prio shown =
     ShowsPriority partition.mutexes call.who.proc call.claim.prio (item_at partition.table call.who.proc) shown
 ShowsOfCall configuration cores partition core call _ shown =
     ShowsClaim (conditions_of configuration (time_of cores core) call.who partition call.request) (channel_of partition call.request) (creates call.request)
-    (answer_of cores core call.who partition call.request) shown
+    (answer_of configuration cores core call.who partition call.request) shown
 
 -- what is shown of a call; of another partition's call, the processes that it names, which `may_wake` and `misnaming` judge
 abbrev pub ShowsOfAnyCall : Bool → Configuration → List CoreState → Partition → ℕ → CallRecord → Cause → Evidence → Type 0
@@ -163,7 +164,8 @@ abbrev pub ShowsOfDeadlines : ℕ → List CoreState → Table → ℕ → Body 
 ShowsOfDeadlines number cores table core (Error report) shown = ShowsDeadline (item_at table report.who.proc) shown
 ShowsOfDeadlines number cores table core body shown = ShowsMissed number (find (λ entry. has_missed core (time_of cores core) entry.1) table) shown
 
--- what is shown of a record: of a return the pending outcome, of a tick, an arrival and a departure the processes that it names
+-- what is shown of a record: of a return the pending outcome, of a tick, an arrival and a departure the processes that it names, of an error
+-- whether it restarts the partition
 abbrev pub ShowsOfBody : Configuration → ℕ → List CoreState → Partition → ℕ → Body → Cause → Evidence → Type 0
 ShowsOfBody configuration number cores partition core (Call call) cause shown =
     ShowsOfAnyCall (nat_eq call.who.part number) configuration cores partition core call cause shown
@@ -172,7 +174,8 @@ ShowsOfBody configuration number cores partition core (Tick woken) cause shown =
 ShowsOfBody configuration number cores partition core (Arrive crossing) cause shown = shown ≡ evidence.Named
 ShowsOfBody configuration number cores partition core (Depart crossing) cause shown = shown ≡ evidence.Named
 ShowsOfBody configuration number cores partition core (Disp who) cause shown = shown ≡ evidence.Nothing
-ShowsOfBody configuration number cores partition core (Error report) cause shown = shown ≡ evidence.Nothing
+ShowsOfBody configuration number cores partition core (Error report) cause shown =
+    shown ≡ evidence.Restart (restarts_by_error configuration number partition report.who.proc)
 
 -- what a partition shows: the window of the core, or its choice, each with the occupant; a deadline; else what the record shows. Names, Skew
 -- and Idle are demands of the module alone

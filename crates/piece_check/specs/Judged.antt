@@ -8,13 +8,12 @@ use Rattle.apex_machine.specs.Configuration.{Configuration}
 pub use Rattle.apex_machine.specs.Demands.{Judges}
 use Rattle.apex_types.specs.declared.record.Call.{Call as CallRecord}
 use Rattle.apex_types.specs.declared.record.Ordered.{Ordered}
-use Rattle.apex_machine.specs.After.{own_partition}
+use Rattle.apex_machine.specs.After.{own_partition, restart_of}
 use Rattle.apex_machine.specs.Demands.{AllHold, AllWaitAt, Demand, caller_demands, module_demands, own_call_demands, partition_demands}
 use Rattle.apex_machine.specs.Pieces.{Part, PartitionPart}
 use Rattle.apex_machine.specs.Ports.{channel_of}
 use Rattle.apex_machine.specs.State.{Partition, channel_set, time_of}
 use Rattle.apex_machine.specs.ServiceConditions.{conditions_of}
-use Rattle.apex_machine.specs.Waiting.{restart_of}
 use Rattle.partition_state.specs.Calls.{LeavesObjects}
 use Rattle.piece_check.specs.declared.module_piece.ModulePiece.{ModulePiece}
 use Rattle.piece_check.specs.declared.partition_piece.Course.{Course}
@@ -58,4 +57,4 @@ GoesOn configuration piece core call Served = IsForService configuration piece c
 -- the part after such a call
 abbrev pub part_called : Configuration → PartitionPiece → Ordered → CallRecord → Part
 part_called configuration piece ordered call =
-    PartitionPart piece.number piece.clock.cores (own_partition (restart_of call) configuration piece.clock.cores ordered.pos ordered.core call piece.state)
+    PartitionPart piece.number piece.clock.cores (own_partition (restart_of configuration call) configuration piece.clock.cores ordered.pos ordered.core call piece.state)

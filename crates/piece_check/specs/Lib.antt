@@ -10,3 +10,4 @@ pub mod Seen
 pub mod Evidence
 pub mod Quiet
 pub mod Found
+pub mod Limits

@@ -95,7 +95,7 @@ abbrev pub CallerFits : Body → Type 0
 CallerFits (Call call) = call.who.proc < 4294967296
 CallerFits _ = Unit {0}
 
--- only calls, arrivals and departures may take memory
+-- only calls, arrivals, departures and errors may take memory
 abbrev pub MayTakeMemory : Body → Type 0
 MayTakeMemory (Call call) = Unit {0}
 MayTakeMemory (Ret ret) = ⊥
@@ -103,7 +103,7 @@ MayTakeMemory (Disp who) = ⊥
 MayTakeMemory (Tick woken) = ⊥
 MayTakeMemory (Arrive crossing) = Unit {0}
 MayTakeMemory (Depart crossing) = Unit {0}
-MayTakeMemory (Error report) = ⊥
+MayTakeMemory (Error report) = Unit {0}
 
 -- only a record that may take memory is refused for a lack of it
 abbrev pub WantsWhereAllowed : Body → ObjFault → Type 0

@@ -1,13 +1,15 @@
 // The numbers that a caller gives, in range or not.
 
-ghost use Rattle.std.specs.Prelude.{◌≡◌, ◌<◌};
+ghost use Rattle.std.specs.Prelude.{◌≡◌, ◌<◌, ◌||◌};
+ghost use Rattle.apex_types.specs.declared.error.ErrorCode.TheVariants as error;
+ghost use Rattle.apex_types.specs.Numbers.{error_number};
 ghost use Rattle.apex_machine.specs.Arguments as numbers;
 
 use apex_machine::Direction;
 use apex_types::limits::{
     GREATEST_MAXIMUM, GREATEST_PRIORITY, LONGEST_MESSAGE, LONGEST_REPORT, MOST_MESSAGES,
 };
-use apex_types::{Discipline, ProcId};
+use apex_types::{Discipline, ErrorCode, ProcId};
 
 /// Whether a number is a priority: 1 to 239.
 pub(crate) fn is_priority(priority: i64) -> bool
@@ -50,6 +52,20 @@ pub(crate) fn is_report_length(length: i64) -> bool
     ensures { result ≡ numbers.is_report_length length }
 {
     0 <= length && length <= LONGEST_REPORT as i64
+}
+
+/// Whether a number is that of APPLICATION_ERROR, the only error that a process raises.
+pub(crate) fn is_application_error(given: i64) -> bool
+    ensures { result ≡ numbers.is_number given (error_number error.ApplicationError) }
+{
+    given == i64::from(ErrorCode::ApplicationError.number())
+}
+
+/// Whether a number says what the other cores do while an error handler is ready: 0 or 1.
+pub(crate) fn is_concurrency(given: i64) -> bool
+    ensures { result ≡ (numbers.is_number given 0 || numbers.is_number given 1) }
+{
+    given == 0 || given == 1
 }
 
 /// Whether a caller's number is at least this one.

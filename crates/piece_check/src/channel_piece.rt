@@ -24,7 +24,7 @@ use apex_types::{
 };
 use channel::{Channel, QueuingSettings, SamplingSettings};
 use module_config::{ChannelKind, Config};
-use partition_state::restart_of;
+use partition_state::is_restart;
 use scheduling::Times;
 use std::alloc::{AllocError, Global};
 use wait_set::ObjFault;
@@ -161,12 +161,10 @@ impl ChannelPiece {
         ensures after { (configuration : Configuration) (now : ℕ) (ordered : OrderedRecord) → ordered.pos ≡ place → ordered.rec.body ≡ body.Call call.now → self.new ≡ record self.old { channel = record self.old.channel { channel = channel_after configuration now self.old.channel.number ordered self.old.channel.channel } } }
     {
         self.channel.release(call.claim.woken.as_slice());
-        match (restart_of(call), stopped_by(call)) {
-            (Some(_), _) => self.channel.leave_all(call.who.part),
-            (None, Some(target)) => {
-                self.channel.leave(target);
-            }
-            (None, None) => {}
+        if is_restart(call) {
+            self.channel.leave_all(call.who.part);
+        } else if let Some(target) = stopped_by(call) {
+            self.channel.leave(target);
         }
     }
 }

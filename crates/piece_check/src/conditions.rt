@@ -18,7 +18,7 @@ use crate::arguments::{is_over, is_time_out};
 use apex_machine::{Condition, Mode};
 use apex_types::{Call, Request, Who};
 use creations::create_conditions;
-use errors::{create_error_handler, report_message};
+use errors::health_conditions;
 use module_config::Config;
 use objects::object_conditions;
 use partition_state::PartitionState;
@@ -65,8 +65,7 @@ pub(crate) fn conditions_of(
         }
         Request::GetId(kind, name) => id_conditions(state, *kind, name),
         Request::GetStatus(kind, object) => status_conditions(state, *kind, *object),
-        Request::ReportMessage { length, .. } => report_message(*length),
-        Request::CreateErrorHandler => create_error_handler(state),
+        Request::Health(operation) => health_conditions(config, state, who, operation),
         Request::Preemption(operation) => preemption_conditions(state, who, operation),
     }
 }

@@ -74,6 +74,8 @@ pub enum Evidence<'a> {
     Pending(&'a Outcome),
     /// Return, and the fields of a return: there is no pending outcome.
     NothingPending,
+    /// Out, of an error: whether it restarts the partition of its process.
+    Restart(bool),
     /// OutsideProfile: the caller is the initialising process, and stops itself.
     Initialising,
     /// OutsideProfile: the process that is stopped, suspended or given a priority owns a mutex.
@@ -222,7 +224,11 @@ impl PartitionPiece {
             }
             Body::Ret(ret) => shown_pending(&self.state, ret.who.proc),
             Body::Tick(_) | Body::Arrive(_) | Body::Depart(_) => Evidence::Named,
-            Body::Disp(_) | Body::Error(_) => Evidence::Nothing,
+            Body::Error(report) => {
+                let process = report.who.proc;
+                Evidence::Restart(self.state.restarts_by_error(config, self.number, process))
+            }
+            Body::Disp(_) => Evidence::Nothing,
         }
     }
 
@@ -257,7 +263,7 @@ impl PartitionPiece {
 
     // What a call can claim.
     fn shown_claim(&self, config: &Config, ordered: &Ordered, call: &Call) -> Evidence<'_>
-        ensures { ShowsClaim (services.conditions_of config.now (time_of self.now.clock.cores ordered.now.core) call.now.who self.now.state call.now.request) (channel_of self.now.state call.now.request) (creates call.now.request) (answer_of self.now.clock.cores ordered.now.core call.now.who self.now.state call.now.request) result }
+        ensures { ShowsClaim (services.conditions_of config.now (time_of self.now.clock.cores ordered.now.core) call.now.who self.now.state call.now.request) (channel_of self.now.state call.now.request) (creates call.now.request) (answer_of config.now self.now.clock.cores ordered.now.core call.now.who self.now.state call.now.request) result }
     {
         let conditions = conditions_of(config, self.clock.now(ordered.core), &self.state, call);
         if !conditions.is_empty() {
@@ -266,7 +272,7 @@ impl PartitionPiece {
         if let Some(channel) = self.state.channel_of(&call.request) {
             return Evidence::Through(channel);
         }
-        match self.state.answer(&self.moment(ordered), call) {
+        match self.state.answer(config, &self.moment(ordered), call) {
             Some(given) => Evidence::Answer(given),
             None => Evidence::NewNumber,
         }
@@ -540,7 +546,7 @@ fn shown_outside<'a>(state: &PartitionState, who: Who, request: &Request) -> Evi
     match request {
         Request::Process(process, operation) => shown_target(state, *process, operation),
         Request::Caller(CallerOperation::StopSelf) => {
-            if who.proc.number() == 0 {
+            if who.proc.number() == 0 && !state.is_handler(who.proc) {
                 Evidence::Initialising
             } else if state.owns_mutex(who.proc) {
                 Evidence::OwnsMutex

@@ -4,7 +4,7 @@
 //!
 //! - A piece starts with its part of the cold state. Its step accepts a record exactly if all its demands on the record hold, and its part
 //!   is then the part after the record. Otherwise the step reports the cause of the first demand that fails, and nothing is changed.
-//! - A step takes memory only at a call, an arrival and a departure. After memory was refused, every later step reports it.
+//! - A step takes memory only at a call, an arrival, a departure and an error. After memory was refused, every later step reports it.
 //! - Before a step, the piece that judges the record gives the view of it that a user's relation sees, and no other piece does.
 //! - After a refusal, the evidence of the demand that fails is what the definitions give there.
 //! - For the records of a round, `Touched` lists for each piece exactly the records that touch it.

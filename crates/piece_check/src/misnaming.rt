@@ -106,6 +106,7 @@ pub fn is_ready(process: &Process, core: CoreId) -> bool
     ensures { result ≡ choice.is_ready core process.now }
 {
     process.alive
+        && !process.faulted
         && !process.suspended
         && matches!(process.wait, Wait::Nothing)
         && process.affinity == core

@@ -20,6 +20,8 @@ ghost use Rattle.piece_check.specs.Moments.{IsMomentOf};
 ghost use Rattle.piece_check.specs.Parts.{HoldsBefore, WantsWhereAllowed};
 ghost use Rattle.piece_check.specs.Found.{IsWindowAt};
 
+mod reports;
+
 use crate::conditions::conditions_of;
 use crate::outcome::{judge_refused, judge_through};
 use crate::profile::is_within;
@@ -28,8 +30,8 @@ use crate::waking::set_woken_by;
 use crate::windows::{WindowAt, window_by};
 use apex_machine::{Outcome, WaitingSet};
 use apex_types::{
-    Body, Call, Cause, CoreId, Crossing, End, ErrorReport, Ordered, PartId, Place, ProcId, Return,
-    Service, View, Who, Woken,
+    Body, Call, Cause, CoreId, Crossing, End, Ordered, PartId, Place, ProcId, Return, Service,
+    View, Who, Woken,
 };
 use module_config::Config;
 use partition_state::PartitionState;
@@ -74,7 +76,7 @@ impl PartitionPiece {
 
     /// Judges a record, and changes the part as the record says. The window of its core may have been found before.
     ///
-    /// Refused, with nothing changed, if a demand fails, with the cause of the first that does; or if memory is refused to a call.
+    /// Refused, with nothing changed, if a demand fails, with the cause of the first that does; or if memory is refused.
     pub(crate) fn step(
         &mut self,
         config: &Config,
@@ -120,15 +122,7 @@ impl PartitionPiece {
                 self.wake_at(End::Receivers, ordered.pos, crossing, message)
             }
             Body::Depart(crossing) => self.wake_at(End::Senders, ordered.pos, crossing, &[]),
-            Body::Error(report) => match self.judge_error(config, core, window, report) {
-                Ok(()) => {
-                    if report.who.part == self.number {
-                        self.state.take_deadline(report.who.proc);
-                    }
-                    Ok(())
-                }
-                Err(cause) => Err(ObjFault::Unlawful(cause)),
-            },
+            Body::Error(report) => self.take_error(config, ordered, window, report),
             Body::Tick(woken) => match self.judge_tick(config, core, window, woken) {
                 Ok(()) => {
                     self.state.tick(self.number, ordered.pos, woken);
@@ -245,7 +239,7 @@ impl PartitionPiece {
     {
         match self.judge_before_service(config, ordered.core, None, call)? {
             Course::Noted => Ok(()),
-            Course::Served => { self.state.judge(&self.moment(ordered), call) }
+            Course::Served => self.state.judge(config, &self.moment(ordered), call),
         }
     }
 
@@ -536,30 +530,6 @@ impl PartitionPiece {
         }
         if due.bytes.as_bytes() != ret.bytes.as_bytes() {
             return Err(Cause::Data);
-        }
-        Ok(())
-    }
-
-    // A missed deadline is reported in a window of the partition and on the core of its process, and restarts no partition.
-    fn judge_error(
-        &self,
-        config: &Config,
-        core: CoreId,
-        window: Option<WindowAt>,
-        report: &ErrorReport,
-    ) -> Result<(), Cause>
-        requires { IfSome window (IsWindowAt config.now) }
-        ensures { Judges (asked_by_partition config.now self.now core (body.Error report.now)) result }
-    {
-        if !self.is_in_window(config, core, window) {
-            return Err(Cause::Window);
-        }
-        let now = self.clock.now(core);
-        if !self.state.processes().is_missed(report.who.proc, core, now) {
-            return Err(Cause::Deadline);
-        }
-        if report.restarts {
-            return Err(Cause::Out);
         }
         Ok(())
     }

@@ -4,6 +4,7 @@ ghost use Rattle.std.specs.Prelude.{◌≡◌, ◌↔◌, IsTrue};
 ghost use Rattle.apex_machine.specs.Services as services;
 ghost use Rattle.apex_machine.specs.Step.{WhereNone};
 
+use apex_machine::Mode;
 use apex_types::{CallerOperation, ProcessOperation, Request, Who};
 use partition_state::PartitionState;
 use wait_set::Conditions;
@@ -20,8 +21,8 @@ pub(crate) fn is_within(
     !conditions.is_empty() || in_profile(state, who, request)
 }
 
-/// Whether the profile allows a request on which no error condition holds: no process stops the owner of a mutex, the initialising process
-/// does not stop itself, and no process suspends the owner of a mutex or a process that waits for a mutex, or sets its priority.
+/// Whether the profile allows a request on which no error condition holds: no process stops the owner of a mutex, process 0 does not stop
+/// itself before NORMAL, and no process suspends the owner of a mutex or a process that waits for a mutex, or sets its priority.
 fn in_profile(state: &PartitionState, who: Who, request: &Request) -> bool
     ensures { result ≡ services.in_profile who state.now request.now }
 {
@@ -34,7 +35,9 @@ fn in_profile(state: &PartitionState, who: Who, request: &Request) -> bool
             _ => true,
         },
         Request::Caller(CallerOperation::StopSelf) => {
-            who.proc.number() != 0 && !state.owns_mutex(who.proc)
+            let is_initialising = who.proc.number() == 0
+                && state.processes().mode() != Mode::Normal;
+            !is_initialising && !state.owns_mutex(who.proc)
         }
         _ => true,
     }

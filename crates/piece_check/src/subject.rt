@@ -11,7 +11,7 @@ ghost use Rattle.piece_check.specs.Touching.{HasList};
 use crate::names::names_one_of;
 use apex_types::{Body, Call, ChanId, Code, Ordered, Out, PartId, ProcessOperation, Request};
 use module_config::Config;
-use partition_state::restart_of;
+use partition_state::is_restart;
 
 /// The subject of a piece: the module, or the partition or channel with a number.
 #[derive(Clone, Copy, Debug, PartialEq, Eq)]
@@ -118,6 +118,6 @@ pub(crate) fn stops_some(call: &Call) -> bool
 {
     match call.request {
         Request::Process(_, ProcessOperation::Stop) => call.claim.out == Out::Answer(Code::NoError),
-        _ => restart_of(call).is_some(),
+        _ => is_restart(call),
     }
 }

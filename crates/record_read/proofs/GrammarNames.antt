@@ -1,5 +1,5 @@
 -- What is given by its name: a step of the reader gives it exactly if the field is its name.
-use Rattle.std.proofs.Common.{◌≡◌, ◌∙◌, ℕ, List, [], ◌∷◌, Bool, true, false, Option, Some, None, Ok, Err, refl, sym, ap, subst, if◌then◌else◌}
+use Rattle.std.proofs.Common.{◌≡◌, ◌∙◌, ℕ, List, [], ◌∷◌, Bool, true, false, Option, Some, None, Result, Ok, Err, refl, sym, ap, subst, if◌then◌else◌}
 use Rattle.std.specs.Prelude.{IsTrue, codes, option_map}
 use Rattle.std.specs.List.{find, list_all}
 use Rattle.std.specs.Str.{bytes_eq}
@@ -15,13 +15,14 @@ use Rattle.apex_types.specs.declared.service.Service.TheVariants as service
 use Rattle.apex_types.specs.declared.service.TheConstants.{SERVICES}
 use Rattle.apex_types.specs.CodeName as CodeName
 use Rattle.apex_types.specs.Services as Services
+use Rattle.record_read.specs.declared.fault.RowFault.{RowFault}
 use Rattle.record_read.specs.declared.fault.RowFault.TheVariants.{BadError, BadKind, BadOut, BadService, FieldNotForKind}
 use Rattle.apex_types.specs.declared.format.Format.{Format}
 use Rattle.record_read.specs.declared.kind.Kind.{Kind}
 use Rattle.record_read.specs.declared.kind.Kind.TheVariants as kind
 use Rattle.apex_types.specs.Services.{is_in}
 use Rattle.record_read.specs.Field.{filled}
-use Rattle.record_read.specs.FirstFault.{HoldsKind}
+use Rattle.record_read.specs.FirstFault.{HoldsError, HoldsKind}
 use Rattle.record_read.specs.Grammar.{HoldsOutcome, HoldsService, HoldsRestart}
 use Rattle.record_read.specs.Named.{all_codes, all_errors, code_named, code_of, has_kind, kind_in, kind_name, kind_named, kind_of, out_named, out_of, service_among, service_in, service_named, service_of, error_named, error_of, restart_of}
 use Rattle.record_read.proofs.GrammarFields.{found_first, no_fault, ok_some, same_ok}
@@ -132,20 +133,36 @@ error_among_is [] text e found = absurd (none-some e found)
 error_among_is (first ∷ others) text e found =
     first_is (ErrorName.name_of first) text first (find (λ other. bytes_eq (ErrorName.name_of other) text) others) e (λ named. text ≡ ErrorName.name_of named) sym (error_among_is others text e) found
 
+-- the name of the error that a call raises is read as no error
+no_raised : error_of (ErrorName.name_of error.ApplicationError) ≡ Err BadError
+unfolding error_of filled
+no_raised = refl
+
+-- an error that is read is none that a call raises
+not_raised : (text : List ℕ) (e : ErrorCode) → text ≡ ErrorName.name_of e → error_of text ≡ Ok e → ¬ (e ≡ error.ApplicationError)
+not_raised text e named read raised =
+    let f : ◌≡◌ {A = Result ErrorCode RowFault} (Err BadError) (Ok e) =
+    sym no_raised ∙ (ap (λ one. error_of (ErrorName.name_of one)) (sym raised) ∙ (sym (ap error_of named) ∙ read)) in cc
+
 -- a field that is read as an error is its name
-pub error_is : (text : List ℕ) (e : ErrorCode) → error_of text ≡ Ok e → text ≡ ErrorName.name_of e
+error_named_is : (text : List ℕ) (e : ErrorCode) → error_of text ≡ Ok e → text ≡ ErrorName.name_of e
 unfolding error_of filled
-error_is [] e read = no_fault FieldNotForKind e read
-error_is (b ∷ bs) e read = error_among_is all_errors (b ∷ bs) e (ok_some (error_named (b ∷ bs)) BadError e read)
+error_named_is [] e read = no_fault FieldNotForKind e read
+error_named_is (b ∷ bs) e read = error_among_is all_errors (b ∷ bs) e (ok_some (error_named (b ∷ bs)) BadError e read)
 
--- the name of an error names it
-of_error_name : (e : ErrorCode) → error_of (ErrorName.name_of e) ≡ Ok e
+-- a field that is read as an error holds it
+pub error_is : (text : List ℕ) (e : ErrorCode) → error_of text ≡ Ok e → HoldsError text e
+error_is text e read = let named = error_named_is text e read in (named, not_raised text e named read)
+
+-- the name of an error that a row can report names it
+of_error_name : (e : ErrorCode) → ¬ (e ≡ error.ApplicationError) → error_of (ErrorName.name_of e) ≡ Ok e
 unfolding error_of filled
-of_error_name error.DeadlineMissed = refl
+of_error_name error.ApplicationError reported = absurd (reported refl)
+of_error_name _ reported = refl
 
--- a field that is the name of an error is read as it
-pub is_error : (text : List ℕ) (e : ErrorCode) → text ≡ ErrorName.name_of e → error_of text ≡ Ok e
-is_error text e same = ap error_of same ∙ of_error_name e
+-- a field that holds an error is read as it
+pub is_error : (text : List ℕ) (e : ErrorCode) → HoldsError text e → error_of text ≡ Ok e
+is_error text e h = ap error_of h.0 ∙ of_error_name e h.1
 
 -- a field that says whether an error restarts its partition holds what is read
 pub restart_is : (text : List ℕ) (restarts : Bool) → restart_of text ≡ Ok restarts → HoldsRestart text restarts

@@ -385,7 +385,8 @@ report_is fields report named e =
       kind = named;
       who = who_is fields who.0 who.1;
       restarts = restart_is (text_at fields column.Outcome) restarts.0 restarts.1;
-      error = error_is (text_at fields column.Error) error.0 error.1;
+      error = (error_is (text_at fields column.Error) error.0 error.1).0;
+      reported = (error_is (text_at fields column.Error) error.0 error.1).1;
       unused = all_are_empty fields _ unused.1;
       unused_too = all_are_empty fields _ unused_too.1;
     })
@@ -399,7 +400,7 @@ is_report fields report h =
       are_empty_between fields column.Service column.Priority h.unused,
       is_restart (text_at fields column.Outcome) report.restarts h.restarts,
       are_empty_between fields column.Value column.ThirdValue h.unused_too,
-      is_error (text_at fields column.Error) report.error h.error,
+      is_error (text_at fields column.Error) report.error (h.error, h.reported),
     ) refl
 
 -- the kind of the row of something recorded

@@ -7,6 +7,7 @@ use Rattle.apex_types.specs.declared.limits.TheConstants.{GREATEST_CHANNEL, GREA
 use Rattle.apex_types.specs.CodeName as CodeName
 use Rattle.apex_types.specs.ErrorName as ErrorName
 use Rattle.apex_types.specs.declared.error.ErrorCode.{ErrorCode}
+use Rattle.apex_types.specs.declared.error.ErrorCode.TheVariants as error_code
 use Rattle.apex_types.specs.declared.code.Code.{Code}
 use Rattle.apex_types.specs.declared.service.Numbers.{Numbers}
 use Rattle.apex_types.specs.declared.service.Presence.{Presence}
@@ -217,9 +218,9 @@ DepartureFault row =
     or_else At column.Data MustBeGiven row
     or_else PassingFault row
 
--- the name of an error
+-- the name of an error that a row can report
 abbrev pub HoldsError : List ℕ → ErrorCode → Type 0
-HoldsError text error = text ≡ ErrorName.name_of error
+HoldsError text error = (text ≡ ErrorName.name_of error) × ¬ (error ≡ error_code.ApplicationError)
 
 -- the fields of an error after its kind
 abbrev pub ErrorFault : Row → Misread → Type 0

@@ -9,6 +9,7 @@ use Rattle.csv_rows.specs.Stream.{Fields}
 use Rattle.apex_types.specs.declared.limits.TheConstants.{GREATEST_CHANNEL, GREATEST_NUMBER, GREATEST_PARTITION, GREATEST_PRIORITY, LONGEST_MESSAGE, LONGEST_NAME, MOST_RECORDS}
 use Rattle.apex_types.specs.CodeName as CodeName
 use Rattle.apex_types.specs.ErrorName as ErrorName
+use Rattle.apex_types.specs.declared.error.ErrorCode.TheVariants as error_code
 use Rattle.apex_types.specs.Rising.{IsRising}
 use Rattle.apex_types.specs.Services as Services
 use Rattle.apex_types.specs.declared.record.Body.{Body}
@@ -230,12 +231,13 @@ abbrev pub HoldsRestart : List ℕ → Bool → Type 0
 HoldsRestart text true = text ≡ codes "none"
 HoldsRestart text false = text ≡ []
 
--- the row of an error
+-- the row of an error, which is not APPLICATION_ERROR: a call raises that one
 pub record IsRowOfError (row : Row) (report : ErrorReport) : Type 0 where
   pub kind : row column.Kind ≡ codes "err"
   pub who : NamesProcess row report.who
   pub restarts : HoldsRestart (row column.Outcome) report.restarts
   pub error : row column.Error ≡ ErrorName.name_of report.error
+  pub reported : ¬ (report.error ≡ error_code.ApplicationError)
   pub unused : AreEmpty (map row (column.Service ∷ column.FirstNumber ∷ column.SecondNumber ∷ column.ThirdNumber ∷ column.Name ∷ column.Message ∷ column.Priority ∷ []))
   pub unused_too : AreEmpty (map row (column.Value ∷ column.Data ∷ column.Channel ∷ column.Woken ∷ column.SecondValue ∷ column.ThirdValue ∷ []))
 

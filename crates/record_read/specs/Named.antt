@@ -64,9 +64,10 @@ all_codes = code.NoError ∷ code.NoAction ∷ code.NotAvailable ∷ code.Invali
 abbrev pub code_named : List ℕ → Option Code
 code_named text = find (λ c. bytes_eq (CodeName.name_of c) text) all_codes
 
--- the errors that a row can report
+-- the errors that a row can report: APPLICATION_ERROR is raised by a call
 abbrev pub all_errors : List ErrorCode
-all_errors = error.DeadlineMissed ∷ []
+all_errors =
+    error.DeadlineMissed ∷ error.NumericError ∷ error.IllegalRequest ∷ error.StackOverflow ∷ error.MemoryViolation ∷ error.HardwareFault ∷ error.PowerFail ∷ []
 
 -- the error of this name
 abbrev pub error_named : List ℕ → Option ErrorCode

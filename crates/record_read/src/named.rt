@@ -26,8 +26,16 @@ const CODES: [Code; 7] = [
     Code::TimedOut,
 ];
 
-// All errors that a row can report.
-const ERRORS: [ErrorCode; 1] = [ErrorCode::DeadlineMissed];
+// All errors that a row can report: APPLICATION_ERROR is raised by a call.
+const ERRORS: [ErrorCode; 7] = [
+    ErrorCode::DeadlineMissed,
+    ErrorCode::NumericError,
+    ErrorCode::IllegalRequest,
+    ErrorCode::StackOverflow,
+    ErrorCode::MemoryViolation,
+    ErrorCode::HardwareFault,
+    ErrorCode::PowerFail,
+];
 
 /// The kind of a row of this format, which must be given.
 #[tactic(auto, unfolding(crate::specs::Named::kind_of))]

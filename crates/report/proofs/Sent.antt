@@ -52,10 +52,10 @@ use Rattle.report.specs.contracts.options.Options.{the_row as options_row}
 -- ---- processes
 
 service_is_sent : IsSend service_field.row
-service_is_sent = search sendable depth 70 fits 5000
+service_is_sent = search sendable depth 90 fits 5000
 
 service_is_shared : IsSync service_field.row
-service_is_shared = search sendable depth 70 fits 5000
+service_is_shared = search sendable depth 90 fits 5000
 
 outcome_is_sent : IsSend outcome_field.row
 outcome_is_sent = search (sendable, crosses, service_is_sent) depth 60 fits 20000

@@ -35,6 +35,7 @@ same_state state.Dormant state.Dormant = (λ _. refl, λ _. refl)
 same_state state.Ready state.Ready = (λ _. refl, λ _. refl)
 same_state (state.Waiting a) (state.Waiting b) = (λ holds. ap state.Waiting ((same_wait a b).0 holds), λ same. (same_wait a b).1 cc)
 same_state (state.Suspended a) (state.Suspended b) = (λ holds. ap state.Suspended ((same_wait a b).0 holds), λ same. (same_wait a b).1 cc)
+same_state (state.Faulted a) (state.Faulted b) = (λ holds. ap state.Faulted ((same_wait a b).0 holds), λ same. (same_wait a b).1 cc)
 same_state a b = (λ holds. cc, λ same. cc)
 
 -- a view of a process with these fields

@@ -5,18 +5,24 @@ use Rattle.apex_machine.specs.declared.state.Wait.{Wait}
 use Rattle.apex_machine.specs.declared.state.Wait.TheVariants as wait
 use Rattle.run_view.specs.declared.process.ProcessView.{ProcessView}
 use Rattle.run_view.specs.declared.process.ProcessState.{ProcessState}
-use Rattle.run_view.specs.declared.process.ProcessState.TheVariants.{Dormant, Ready, Waiting, Suspended}
+use Rattle.run_view.specs.declared.process.ProcessState.TheVariants.{Dormant, Faulted, Ready, Waiting, Suspended}
 use Rattle.run_view.specs.declared.seen_process.SeenProcess.{SeenProcess}
 
--- the state of a process that is neither dormant nor suspended by another one, by what it waits for
+-- the state of a process that is neither dormant nor faulted nor suspended by another one, by what it waits for
 abbrev pub state_by_wait : Wait → ProcessState
 state_by_wait wait.Nothing = Ready
 state_by_wait other = Waiting other
 
--- the state of a process: dormant, suspended by another process, waiting, or ready
+-- the state of a process that is not dormant: faulted, suspended by another process, waiting, or ready
+abbrev pub state_alive : Process → ProcessState
+state_alive process =
+    if process.faulted then Faulted process.wait
+    else if process.suspended then Suspended process.wait
+    else state_by_wait process.wait
+
+-- the state of a process: dormant, or one of the others
 abbrev pub state_of : Process → ProcessState
-state_of process =
-    if process.alive then (if process.suspended then Suspended process.wait else state_by_wait process.wait) else Dormant
+state_of process = if process.alive then state_alive process else Dormant
 
 -- a process: its state, its priorities, its core, its ready position, the service of its pending outcome, and its deadline
 abbrev pub shown_process : Process → ProcessView

@@ -8,7 +8,7 @@ use apex_types::{
     BlackboardOperation, Body, BufferOperation, Call, Code, Crossing, ObjectKind, ObjectOperation,
     Ordered, Out, PartId, Place, QueuingOperation, Request, SamplingOperation, Who,
 };
-use partition_state::restart_of;
+use partition_state::is_restart;
 use piece_check::Piece;
 use std::alloc::{AllocError, Global};
 use std::collections::VecDeque;
@@ -103,7 +103,13 @@ impl MessageLinks {
             Body::Call(call) => self.follow_call(pieces, ordered, call),
             Body::Arrive(crossing) => self.follow_crossing(pieces, crossing, Way::In),
             Body::Depart(crossing) => self.follow_crossing(pieces, crossing, Way::Out),
-            Body::Ret(_) | Body::Disp(_) | Body::Tick(_) | Body::Error(_) => Ok(NOTHING),
+            Body::Error(report) => {
+                if report.restarts {
+                    self.forget(report.who.part);
+                }
+                Ok(NOTHING)
+            }
+            Body::Ret(_) | Body::Disp(_) | Body::Tick(_) => Ok(NOTHING),
         }
     }
 
@@ -139,7 +145,7 @@ impl MessageLinks {
         ordered: &Ordered,
         call: &Call,
     ) -> Result<Followed, AllocError> {
-        if restart_of(call).is_some() {
+        if is_restart(call) {
             self.forget(call.who.part);
             return Ok(NOTHING);
         }

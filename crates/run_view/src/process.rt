@@ -14,6 +14,8 @@ pub enum ProcessState {
     Waiting(Wait),
     /// Another process suspended it, whatever else it waits for.
     Suspended(Wait),
+    /// It has an error that its partition's handler has not dealt with, whatever else it waits for.
+    Faulted(Wait),
 }
 
 /// A process: its state, its priorities, its core, its ready position, the service from which it must return before its next call, and its
@@ -53,6 +55,8 @@ fn state_of(process: &Process) -> ProcessState
 {
     if !process.alive {
         ProcessState::Dormant
+    } else if process.faulted {
+        ProcessState::Faulted(process.wait)
     } else if process.suspended {
         ProcessState::Suspended(process.wait)
     } else {

@@ -15,6 +15,7 @@ use Rattle.apex_machine.specs.declared.state.Process.{Process}
 use Rattle.apex_machine.specs.Configuration.{Configuration, first_core, period_of}
 use Rattle.apex_machine.specs.State.{Partition, Table, each_item, is_free, is_named, item_at, time_of}
 use Rattle.apex_machine.specs.Answer.{is_new}
+use Rattle.apex_machine.specs.Errors.{handles_more}
 use Rattle.apex_machine.specs.Processes.{caller_after, new_process, set_by, stopped, woken_by}
 use Rattle.apex_machine.specs.Waiting.{is_no_error, stop_of, stops, message_of}
 use Rattle.apex_machine.specs.After.{adjusted, called, created_by, is_done, mode_by, numbered, partition_called}
@@ -107,20 +108,22 @@ none-some (Some process) h = cc
 
 -- what is done of its peers' part by a call, one after another, is what becomes of each
 peers-are : (place now period : ℕ) (cores : List CoreState) (call : CallRecord) (partition : Partition) (number : ℕ) (process : Process)
-    → peer_woken place call number (stopped_by call number (only call.who.proc (caller_after place now call) number (adjusted place period cores partition call number process)))
+    → peer_woken place call number (stopped_by call number
+    (only call.who.proc (caller_after place now (handles_more partition call.who.proc call.request) call) number (adjusted place period cores partition call number process)))
     ≡ called place now period cores partition call number process
 peers-are place now period cores call partition number process =
-    by (nat_eq number call.who.proc) (stops call (peer_at call number)) (is_named (peer_at call number) call.claim.woken) (adjusted place period cores partition call number process)
+    by (handles_more partition call.who.proc call.request) (nat_eq number call.who.proc) (stops call (peer_at call number)) (is_named (peer_at call number) call.claim.woken)
+    (adjusted place period cores partition call number process)
   where
-    by : (c s n : Bool) (x : Process)
+    by : (more c s n : Bool) (x : Process)
         → (if (not c && not s) && n
-        then woken_by place (message_of call.request) (if not c && s then stopped (if c then caller_after place now call x else x) else (if c then caller_after place now call x else x))
-        else (if not c && s then stopped (if c then caller_after place now call x else x) else (if c then caller_after place now call x else x)))
-        ≡ (if c then caller_after place now call x else if s then stopped x else if n then woken_by place (message_of call.request) x else x)
-    by true s n x = refl
-    by false true n x = refl
-    by false false true x = refl
-    by false false false x = refl
+        then woken_by place (message_of call.request) (if not c && s then stopped (if c then caller_after place now more call x else x) else (if c then caller_after place now more call x else x))
+        else (if not c && s then stopped (if c then caller_after place now more call x else x) else (if c then caller_after place now more call x else x)))
+        ≡ (if c then caller_after place now more call x else if s then stopped x else if n then woken_by place (message_of call.request) x else x)
+    by more true s n x = refl
+    by more false true n x = refl
+    by more false false true x = refl
+    by more false false false x = refl
 
 -- a call of a service other than STOP stops no process
 pub stops-nobody : (call : CallRecord) → stop_of call.request ≡ None → (number : ℕ) → is_peer call number && stops call (peer_at call number) ≡ false
@@ -154,40 +157,40 @@ created-stays place first call table sound = stays call.request refl
     stays _ is = refl
 
 -- the mode and the processes once the caller is settled too
-abbrev pub after_caller : ℕ → ℕ → ℕ → ℕ → List CoreState → CallRecord → Partition → Processes → Processes
-after_caller place now period first cores call partition old = processes_in (mode_between call old.mode)
-    (each_item (only call.who.proc (caller_after place now call)) (each_item (adjusted place period cores partition call) old.table) ++ created_by first call call.request)
+abbrev pub after_caller : ℕ → ℕ → Bool → ℕ → ℕ → List CoreState → CallRecord → Partition → Processes → Processes
+after_caller place now more period first cores call partition old = processes_in (mode_between call old.mode)
+    (each_item (only call.who.proc (caller_after place now more call)) (each_item (adjusted place period cores partition call) old.table) ++ created_by first call call.request)
 
 -- a caller in the table has become what its call makes of it
-pub caller-is_member : (place now period first : ℕ) (cores : List CoreState) (call : CallRecord) (partition : Partition) (old middle own : Processes)
+pub caller-is_member : (place now : ℕ) (more : Bool) (period first : ℕ) (cores : List CoreState) (call : CallRecord) (partition : Partition) (old middle own : Processes)
     → middle ≡ between place period first cores call partition old → AsksSoundly old.table call call.request → is_some (item_at old.table call.who.proc) ≡ true
-    → own ≡ with_each (only call.who.proc (caller_after place now call)) middle → own ≡ after_caller place now period first cores call partition old
-caller-is_member place now period first cores call partition old middle own adjusts sound there is =
-    let change : ℕ → Process → Process = only call.who.proc (caller_after place now call) in
+    → own ≡ with_each (only call.who.proc (caller_after place now more call)) middle → own ≡ after_caller place now more period first cores call partition old
+caller-is_member place now more period first cores call partition old middle own adjusts sound there is =
+    let change : ℕ → Process → Process = only call.who.proc (caller_after place now more call) in
     is ∙ ap (with_each change) adjusts
     ∙ ap (processes_in (mode_between call old.mode))
     (each_item-append change (each_item (adjusted place period cores partition call) old.table) (created_by first call call.request)
     ∙ ap (λ created. each_item change (each_item (adjusted place period cores partition call) old.table) ++ created)
-    (only-absent call.who.proc (caller_after place now call) _ (creates-apart first call call.request old.table call.who.proc sound there)))
+    (only-absent call.who.proc (caller_after place now more call) _ (creates-apart first call call.request old.table call.who.proc sound there)))
 
 -- of a caller that does not, nothing becomes
-pub caller-absent : (place now period first : ℕ) (cores : List CoreState) (call : CallRecord) (partition : Partition) (old middle own : Processes)
+pub caller-absent : (place now : ℕ) (more : Bool) (period first : ℕ) (cores : List CoreState) (call : CallRecord) (partition : Partition) (old middle own : Processes)
     → middle ≡ between place period first cores call partition old → is_some (item_at old.table call.who.proc) ≡ false
-    → own ≡ middle → own ≡ after_caller place now period first cores call partition old
-caller-absent place now period first cores call partition old middle own adjusts absent is =
+    → own ≡ middle → own ≡ after_caller place now more period first cores call partition old
+caller-absent place now more period first cores call partition old middle own adjusts absent is =
     is ∙ adjusts
     ∙ ap (λ table. processes_in (mode_between call old.mode) (table ++ created_by first call call.request))
-    (sym (only-absent call.who.proc (caller_after place now call) _
+    (sym (only-absent call.who.proc (caller_after place now more call) _
     (absent-each (adjusted place period cores partition call) old.table call.who.proc (none-some _ absent))))
 
 -- with its peers it has the mode and the processes after the call
 pub called-whole : (configuration : Configuration) (place core period first : ℕ) (cores : List CoreState) (call : CallRecord) (partition : Partition) (old own stopping new : Processes)
     → processes_of partition ≡ old → first_core configuration call.who.part ≡ first → period_of configuration call.who.part ≡ period
-    → AsksSoundly old.table call call.request → own ≡ after_caller place (time_of cores core) period first cores call partition old
+    → AsksSoundly old.table call call.request → own ≡ after_caller place (time_of cores core) (handles_more partition call.who.proc call.request) period first cores call partition old
     → stopping ≡ with_each (stopped_by call) own → new ≡ with_each (peer_woken place call) stopping
     → new ≡ processes_of (partition_called configuration cores place core call partition)
 called-whole configuration place core period first cores call partition old own stopping new seen first_is period_is sound settles stops wakes_them =
-    let before : Table = each_item (only call.who.proc (caller_after place (time_of cores core) call)) (each_item (adjusted place period cores partition call) old.table) in
+    let before : Table = each_item (only call.who.proc (caller_after place (time_of cores core) (handles_more partition call.who.proc call.request) call)) (each_item (adjusted place period cores partition call) old.table) in
     let created : Table = created_by first call call.request in
     let each : each_item (peer_woken place call) (each_item (stopped_by call) (before ++ created))
     ≡ each_item (called place (time_of cores core) period cores partition call) old.table ++ created
@@ -252,19 +255,19 @@ periodic-between place period first cores call partition old (request.Caller Cal
     by false refused = adjusted-not place period first cores call partition old refused
 periodic-between place period first cores call partition old _ is periodic = cc
 
-pub caller-settled : (place now period first : ℕ) (cores : List CoreState) (call : CallRecord) (partition : Partition) (old middle own : Processes) (next : NextRelease) (change : Process → Process)
+pub caller-settled : (place now : ℕ) (more : Bool) (period first : ℕ) (cores : List CoreState) (call : CallRecord) (partition : Partition) (old middle own : Processes) (next : NextRelease) (change : Process → Process)
     → middle ≡ between place period first cores call partition old → IsDistinct nat_eq (keys_of old.table)
-    → ((process : Process) → (is_periodic_wait call.request ≡ true → IsNextOf next process) → change process ≡ caller_after place now call process)
+    → ((process : Process) → (is_periodic_wait call.request ≡ true → IsNextOf next process) → change process ≡ caller_after place now more call process)
     → (is_periodic_wait call.request ≡ true → (process : Process) → item_at old.table call.who.proc ≡ Some process → IsNextOf next process)
-    → own ≡ with_each (only call.who.proc change) middle → own ≡ with_each (only call.who.proc (caller_after place now call)) middle
-caller-settled place now period first cores call partition old middle own next change adjusts distinct same next_is is = by (is_periodic_wait call.request) refl
+    → own ≡ with_each (only call.who.proc change) middle → own ≡ with_each (only call.who.proc (caller_after place now more call)) middle
+caller-settled place now more period first cores call partition old middle own next change adjusts distinct same next_is is = by (is_periodic_wait call.request) refl
   where
-    by : (b : Bool) → is_periodic_wait call.request ≡ b → own ≡ with_each (only call.who.proc (caller_after place now call)) middle
+    by : (b : Bool) → is_periodic_wait call.request ≡ b → own ≡ with_each (only call.who.proc (caller_after place now more call)) middle
     by true periodic =
         let unchanged : middle ≡ old = adjusts ∙ sym (periodic-between place period first cores call partition old call.request refl periodic) in
-        let agree : each_item (only call.who.proc change) old.table ≡ each_item (only call.who.proc (caller_after place now call)) old.table
-        = agree_at call.who.proc change (caller_after place now call) old.table distinct (λ process found. same process (λ asked. next_is periodic process found)) in
-        is ∙ ap (with_each (only call.who.proc change)) unchanged ∙ ap (with_table old) agree ∙ ap (with_each (only call.who.proc (caller_after place now call))) (sym unchanged)
+        let agree : each_item (only call.who.proc change) old.table ≡ each_item (only call.who.proc (caller_after place now more call)) old.table
+        = agree_at call.who.proc change (caller_after place now more call) old.table distinct (λ process found. same process (λ asked. next_is periodic process found)) in
+        is ∙ ap (with_each (only call.who.proc change)) unchanged ∙ ap (with_table old) agree ∙ ap (with_each (only call.who.proc (caller_after place now more call))) (sym unchanged)
     by false other =
         is ∙ ap (with_table middle) (each_item-congr _ _ (λ number process. settles number process (nat_eq number call.who.proc) refl) middle.table)
       where
@@ -272,6 +275,6 @@ caller-settled place now period first cores call partition old middle own next c
         contrary h process = let clash : false ≡ true = sym other ∙ h in cc
 
         settles : (number : ℕ) (process : Process) (b : Bool) → nat_eq number call.who.proc ≡ b
-            → only call.who.proc change number process ≡ only call.who.proc (caller_after place now call) number process
+            → only call.who.proc change number process ≡ only call.who.proc (caller_after place now more call) number process
         settles number process true e = rw (e) (same process (λ h. contrary h process))
         settles number process false e = rw e refl

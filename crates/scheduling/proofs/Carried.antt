@@ -2,7 +2,7 @@
 use Rattle.std.proofs.Common.{◌≡◌, ℕ, ◌<◌, ◌^◌, true, false, nat_eq, List, [], ◌∷◌, ◌++◌, Option, Some, None, ℤ, pos, negsuc, MatchOption, nat_abs, refl, sym, ap, ◌∙◌, arith}
 use Rattle.std.proofs.lemmas.Bool.Decides.{nat_tests}
 use Rattle.apex_types.specs.declared.record.Call.{Call as CallRecord}
-use Rattle.apex_types.specs.declared.operation.{ProcessOperation.ProcessOperation}
+use Rattle.apex_types.specs.declared.operation.{CallerOperation.CallerOperation, HealthOperation.HealthOperation, ProcessOperation.ProcessOperation}
 use Rattle.apex_types.specs.declared.request.Request.{Request}
 use Rattle.apex_types.specs.declared.operation.ObjectOperation.TheVariants as on
 use Rattle.apex_types.specs.declared.request.Request.TheVariants as request
@@ -19,6 +19,8 @@ use Rattle.scheduling.specs.Processes.{Processes}
 use Rattle.scheduling.specs.Sound.{AsksSoundly}
 use Rattle.scheduling.proofs.Tables.{each_item-congr, each_item-same, nat_eq-swap, with_table}
 use Rattle.scheduling.specs.declared.transfer.Transfer.{Transfer}
+use Rattle.scheduling.specs.declared.fault.FaultChange.{FaultChange}
+use Rattle.scheduling.specs.Faults.{IsFaultChangeOf, fault_set}
 use Rattle.scheduling.specs.Transfers.{IsTransferOf, passed_on}
 use Rattle.apex_types.specs.declared.operation.ObjectOperation.{ObjectOperation}
 
@@ -62,12 +64,16 @@ pub carried-none : (place period first : ℕ) (cores : List CoreState) (call : C
     → ((process : ℤ) (operation : ProcessOperation) → asked ≡ request.Process process operation → ⊥)
     → ((mode : ℤ) → asked ≡ request.SetPartitionMode mode → ⊥)
     → ((number : ℤ) (operation : ObjectOperation) → asked ≡ request.Object number operation → ⊥)
+    → ((operation : HealthOperation) → asked ≡ request.Health operation → ⊥)
+    → ((operation : CallerOperation) → asked ≡ request.Caller operation → ⊥)
     → old ≡ carried place period first cores call asked partition old
-carried-none place period first cores call (request.CreateProcess name priority own capacity) partition old create target mode mutex = absurd (create name priority own capacity refl)
-carried-none place period first cores call (request.Process process operation) partition old create target mode mutex = absurd (target process operation refl)
-carried-none place period first cores call (request.SetPartitionMode given) partition old create target mode mutex = absurd (mode given refl)
-carried-none place period first cores call (request.Object given operation) partition old create target mode object = absurd (object given operation refl)
-carried-none place period first cores call _ partition old create target mode mutex =
+carried-none place period first cores call (request.CreateProcess name priority own capacity) partition old create target mode object health caller = absurd (create name priority own capacity refl)
+carried-none place period first cores call (request.Process process operation) partition old create target mode object health caller = absurd (target process operation refl)
+carried-none place period first cores call (request.SetPartitionMode given) partition old create target mode object health caller = absurd (mode given refl)
+carried-none place period first cores call (request.Object given operation) partition old create target mode object health caller = absurd (object given operation refl)
+carried-none place period first cores call (request.Health operation) partition old create target mode object health caller = absurd (health operation refl)
+carried-none place period first cores call (request.Caller operation) partition old create target mode object health caller = absurd (caller operation refl)
+carried-none place period first cores call _ partition old create target mode object health caller =
     ap (with_table old) (sym (append-nothing _ ∙ each_item-same _ (λ number process. refl) old.table))
 
 -- a service of an object
@@ -78,6 +84,20 @@ carried-object place period first cores call given (on.Mutex operation) transfer
     is ∙ ap (with_table old) (each_item-congr _ _ (λ number process. sym (passes number process)) old.table ∙ sym (append-nothing _))
 carried-object place period first cores call given _ transfer partition old new passes is =
     is ∙ ap (with_table old) (sym (append-nothing _ ∙ each_item-same _ (λ number process. refl) old.table))
+
+-- a service of the health monitor or the error handler
+pub carried-health : (place period first : ℕ) (cores : List CoreState) (call : CallRecord) (operation : HealthOperation) (made : FaultChange) (partition : Partition) (old new : Processes)
+    → IsFaultChangeOf partition call.who.proc (request.Health operation) made → new ≡ with_each (fault_set made place call.who.proc) old
+    → new ≡ carried place period first cores call (request.Health operation) partition old
+carried-health place period first cores call operation made partition old new changes is =
+    is ∙ ap (with_table old) (each_item-congr _ _ (λ number process. sym (changes place number process)) old.table ∙ sym (append-nothing _))
+
+-- a service that concerns its caller alone, or ends the handler's work
+pub carried-caller : (place period first : ℕ) (cores : List CoreState) (call : CallRecord) (operation : CallerOperation) (made : FaultChange) (partition : Partition) (old new : Processes)
+    → IsFaultChangeOf partition call.who.proc (request.Caller operation) made → new ≡ with_each (fault_set made place call.who.proc) old
+    → new ≡ carried place period first cores call (request.Caller operation) partition old
+carried-caller place period first cores call operation made partition old new changes is =
+    is ∙ ap (with_table old) (each_item-congr _ _ (λ number process. sym (changes place number process)) old.table ∙ sym (append-nothing _))
 
 -- CREATE_PROCESS
 

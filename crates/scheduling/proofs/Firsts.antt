@@ -135,13 +135,14 @@ led-is core (entry ∷ entries) = by (is_ready core entry.1) (led-is core entrie
     by false rest = rest
 
 is_ready-there : (core : ℕ) (process : Process) → is_ready core process ≡ (is_ready_there process && nat_eq process.affinity core)
-is_ready-there core process = by process.alive (not process.suspended) _ _
+is_ready-there core process = by process.alive (not process.faulted) (not process.suspended) _ _
   where
-    by : (a b c d : Bool) → a && (b && (c && d)) ≡ ((a && (b && c)) && d)
-    by true true true d = refl
-    by true true false d = refl
-    by true false c d = refl
-    by false b c d = refl
+    by : (a f b c d : Bool) → a && (f && (b && (c && d))) ≡ ((a && (f && (b && c))) && d)
+    by true true true true d = refl
+    by true true true false d = refl
+    by true true false c d = refl
+    by true false b c d = refl
+    by false f b c d = refl
 
 first_rank-led : (core : ℕ) (table : Table) → first_rank core (keys_in rank_before rank_of table) ≡ led core table
 first_rank-led core [] = refl

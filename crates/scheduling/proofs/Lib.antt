@@ -23,3 +23,4 @@ pub mod Transfers
 pub mod Owed
 pub mod Cores
 pub mod Timing
+pub mod Faults

@@ -24,6 +24,14 @@ named given change number process = if is_number given number then change proces
 abbrev pub stopped_self : ℕ → Process → Process
 stopped_self now process = record (stopped process) { called_at = now }
 
+-- a caller of which only the time of its call is noted
+abbrev pub noted : ℕ → Process → Process
+noted now process = record process { called_at = now }
+
+-- a missed deadline that is reported is taken away
+abbrev pub deadline_taken : Process → Process
+deadline_taken process = record process { deadline = None }
+
 -- a value after a change: the given one, if there is one, else the old one
 abbrev pub given_or : {Value : Type 0} → Option Value → Value → Value
 given_or None old = old

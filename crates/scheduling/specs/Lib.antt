@@ -2,6 +2,7 @@ pub mod Numbers
 pub mod Processes
 pub mod Changes
 pub mod Due
+pub mod Faults
 pub mod Settled
 pub mod Releases
 pub mod Sound

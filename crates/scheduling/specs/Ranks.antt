@@ -12,7 +12,7 @@ use Rattle.scheduling.specs.declared.order.Rank.{Rank}
 
 -- whether a process is ready on its own core
 abbrev pub is_ready_there : Process → Bool
-is_ready_there process = process.alive && (not process.suspended && waits_for_nothing process.wait)
+is_ready_there process = process.alive && (not process.faulted && (not process.suspended && waits_for_nothing process.wait))
 
 -- the rank of a process that is ready
 abbrev pub rank_of : ℕ → Process → Option Rank

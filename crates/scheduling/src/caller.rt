@@ -33,6 +33,8 @@ pub enum Settling {
     },
     /// It is dormant.
     Stops,
+    /// It is the handler, and stays ready.
+    StaysReady,
     /// The outcome is due to it. If its ready position is renewed, it is the given place; if a release is reached, that is its time; if its
     /// deadline is set, this is the new one. Times are in ticks.
     Owed {
@@ -54,19 +56,23 @@ pub fn is_done(out: Out) -> bool
 }
 
 /// What becomes of the caller of this call, at this place and at its core's time `now`. `next` is its next release, in ticks, which only
-/// PERIODIC_WAIT uses. `outcome` is the one that becomes due to it, if one does.
+/// PERIODIC_WAIT uses. `outcome` is the one that becomes due to it, if one does. `handles_more` says that it is the handler and stays ready.
 pub fn settling_of(
     place: Place,
     now: u64,
     next: NextRelease,
+    handles_more: bool,
     call: &Call,
     outcome: Option<Outcome>,
 ) -> Settling
     requires time { now < PLACE_COUNT }
     requires waits { IsTrue (is_waiting call.now.claim.out) → WaitsSoundly call.now.request }
     requires outcome { outcome ≡ outcome_due call.now call.now.claim.out }
-    ensures { (process : ProcessValue) → (sound.is_periodic_wait call.now.request ≡ true → IsNextOf next process) → settled now result process ≡ after.caller_after place now call.now process }
+    ensures { (process : ProcessValue) → (sound.is_periodic_wait call.now.request ≡ true → IsNextOf next process) → settled now result process ≡ after.caller_after place now handles_more call.now process }
 {
+    if handles_more {
+        return Settling::StaysReady;
+    }
     match outcome {
         Some(outcome) => {
             let renewed = renewed_by(place, outcome.code, &call.request);

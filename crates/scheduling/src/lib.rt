@@ -19,7 +19,7 @@
 //!
 //! The memory that a call needs is reserved first, as a `Prepared` (`prepare`): for the outcome that becomes due to the caller, and for a
 //! message for each process that the call names. After that, `call` takes memory only at CREATE_PROCESS. A mutex's change of owner is
-//! passed to the table as a `Transfer`.
+//! passed to the table as a `Transfer`, the change of who is faulted as a `FaultChange`.
 //!
 //! A process is looked up under its number (`proc`), under the number that a caller gives (`created`, `created_number`), or as the
 //! definitions read that number, with 0 for a number below 0 (`numbered`, `waits_for_mutex`).
@@ -41,6 +41,7 @@ mod caller;
 mod clock;
 mod deadline;
 mod dispatch;
+mod fault;
 mod guess;
 mod message;
 mod moment;
@@ -59,6 +60,7 @@ mod waiting;
 pub use caller::is_done;
 pub use clock::{Clock, Skew};
 pub use dispatch::{choice, owns_window, settled};
+pub use fault::FaultChange;
 pub use message::message_of;
 pub use moment::Moment;
 pub use prepared::Prepared;

@@ -157,11 +157,11 @@ pub fn is_some_reached(due_times: &Sorted<DueTime>, core: CoreId, time: u64) -> 
     }
 }
 
-/// Whether the process is ready on its own core: it is neither dormant nor suspended, and waits for nothing.
+/// Whether the process is ready on its own core: it is neither dormant, faulted nor suspended, and waits for nothing.
 pub fn is_ready(process: &Process) -> bool
     ensures { result ≡ ranks.is_ready_there process.now }
 {
-    process.alive && !process.suspended && wait::is_none(process.wait)
+    process.alive && !process.faulted && !process.suspended && wait::is_none(process.wait)
 }
 
 /// Whether the process's wait is over once its core, which must be this one, reaches this time, in ticks.

@@ -4,6 +4,7 @@ ghost use Rattle.std.specs.Prelude.{◌≡◌, ◌<◌, ◌≤◌, Some, None, p
 ghost use Rattle.apex_types.specs.declared.limits.TheConstants.{GREATEST_SPAN, PLACE_COUNT};
 ghost use Rattle.apex_machine.specs.Arguments.{period_given};
 ghost use Rattle.apex_machine.specs.DueTimes as due_times;
+ghost use Rattle.apex_machine.specs.Errors as errors;
 ghost use Rattle.apex_machine.specs.Processes as processes;
 ghost use Rattle.apex_machine.specs.State.{initialising_process};
 ghost use Rattle.scheduling.specs.Changes.{answered, stopped_self, waiting_for};
@@ -11,9 +12,10 @@ ghost use Rattle.scheduling.specs.Releases.{IsNextOf};
 ghost use Rattle.scheduling.specs.Sound.{GivesSoundly};
 
 use crate::deadline::{self, deadline_from};
+use crate::fault::has_error;
 use crate::wait;
-use apex_machine::{Mode, Outcome, Process, Wait};
-use apex_types::{Code, CoreId, Message, Name, Place, ProcessOperation, Service};
+use apex_machine::{ErrorHandler, ListedError, Mode, Outcome, Process, Wait};
+use apex_types::{Code, CoreId, Message, Name, Place, ProcId, ProcessOperation, Service};
 use std::alloc::{AllocError, Global};
 
 /// The initialising process, ready from this place on, on this core, with priority 0. Takes no memory.
@@ -31,6 +33,7 @@ pub fn initialising(alloc: Global, core: CoreId, place: Place) -> Process
         deadline: None,
         last_release: 0,
         alive: true,
+        faulted: false,
         suspended: false,
         wait: Wait::Nothing,
         ready_position: place.number(),
@@ -63,6 +66,7 @@ pub fn created(
         deadline: None,
         last_release: 0,
         alive: false,
+        faulted: false,
         suspended: false,
         wait: Wait::Nothing,
         ready_position: 0,
@@ -205,20 +209,57 @@ pub fn give_back(process: &mut Process)
 
 /// The missed deadline of the process has been reported.
 pub fn take_deadline(process: &mut Process)
-    ensures { process.new ≡ processes.reported process.old }
+    ensures { process.new ≡ record process.old { deadline = None } }
 {
     process.deadline = None;
 }
 
-/// The process has been stopped: it is dormant, has no deadline, and nothing is due to it.
+/// The process has been stopped: it is dormant and not faulted, has no deadline, and nothing is due to it.
 pub fn stop(process: &mut Process)
     ensures { process.new ≡ processes.stopped process.old }
 {
     process.alive = false;
+    process.faulted = false;
     process.suspended = false;
     process.wait = Wait::Nothing;
     take_deadline(process);
     give_back(process);
+}
+
+/// The process has an error that the handler takes.
+pub fn fault(process: &mut Process)
+    ensures { process.new ≡ errors.faulted process.old }
+{
+    process.faulted = true;
+}
+
+/// The process, which is the handler, becomes ready at this place, if it is not ready yet.
+pub fn start_handler(process: &mut Process, place: Place, handler: ErrorHandler)
+    ensures { process.new ≡ errors.handler_started place handler process.old }
+{
+    if !process.alive {
+        process.alive = true;
+        process.affinity = handler.core;
+        process.ready_position = place.number();
+    }
+}
+
+/// The handler has stopped itself at this place, and these errors are left: if the process of this number is faulted and has none of them, it
+/// goes on.
+pub fn heal(process: &mut Process, place: Place, number: ProcId, left: &[ListedError])
+    ensures { process.new ≡ errors.healed place left.now number process.old }
+{
+    if process.faulted && !has_error(number, left) {
+        process.faulted = false;
+        process.ready_position = place.number();
+    }
+}
+
+/// The handler has called STOP_SELF, when its core's time was `now`, and stays ready.
+pub fn note_call(process: &mut Process, now: u64)
+    ensures { process.new ≡ record process.old { called_at = now } }
+{
+    process.called_at = now;
 }
 
 /// The process has stopped itself, when its core's time was `now`.

@@ -6,7 +6,7 @@ ghost use Rattle.std.specs.Option.{option_copied};
 ghost use Rattle.apex_types.specs.Rising.{IsRising};
 ghost use Rattle.apex_machine.specs.Answer.{is_new};
 ghost use Rattle.apex_machine.specs.Arguments.{natural_of};
-ghost use Rattle.apex_machine.specs.Choice.{choice_in, choice_under, is_one_ready};
+ghost use Rattle.apex_machine.specs.Choice.{choice_in, choice_under, is_one_alive, is_one_ready};
 ghost use Rattle.apex_machine.specs.declared.state.Process.{Process as ProcessValue};
 ghost use Rattle.apex_machine.specs.Conditions.{is_taken};
 ghost use Rattle.apex_machine.specs.Demands.{AllWaitAt};
@@ -276,12 +276,22 @@ impl ProcTable {
         }
     }
 
-    // Whether there is a process of this number that is ready on this core.
-    fn is_ready_on(&self, core: CoreId, number: ProcId) -> bool
+    /// Whether there is a process of this number that is ready on this core.
+    pub fn is_ready_on(&self, core: CoreId, number: ProcId) -> bool
         ensures { result ≡ is_one_ready core (item_at self.now.table number) }
     {
         match self.proc(number) {
             Some(process) => process.affinity == core && is_ready(process),
+            None => false,
+        }
+    }
+
+    /// Whether there is a process of this number that is not dormant.
+    pub fn is_alive(&self, number: ProcId) -> bool
+        ensures { result ≡ is_one_alive (item_at self.now.table number) }
+    {
+        match self.proc(number) {
+            Some(process) => process.alive,
             None => false,
         }
     }

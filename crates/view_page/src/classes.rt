@@ -22,6 +22,7 @@ pub(crate) fn classes_of_look(look: Look) -> &'static str
         Look::Preempted => "bar preempted",
         Look::Waiting => "bar waiting",
         Look::Suspended => "bar suspended",
+        Look::Faulted => "bar faulted",
         Look::Dormant => "bar dormant",
         Look::Free => "bar free",
         Look::Awaited => "bar awaited",
@@ -36,6 +37,7 @@ pub(crate) fn pattern_of(look: Look) -> Option<&'static str>
         Look::Preempted => Some("url(#stripes)"),
         Look::Waiting => Some("url(#dots)"),
         Look::Suspended => Some("url(#grid)"),
+        Look::Faulted => Some("url(#crosses)"),
         Look::NoWindow => Some("url(#stripes)"),
         Look::Window
         | Look::Occupied

@@ -108,7 +108,7 @@ pub fn page_foot(out: &mut Markup) -> Result<(), AllocError> {
 }
 
 /// What the key of the picture says of each look.
-const KEY: [(Look, &str); 10] = [
+const KEY: [(Look, &str); 11] = [
     (Look::Running, "runs on a core"),
     (Look::Raised, "runs with a priority above its own"),
     (Look::Ready, "ready"),
@@ -118,6 +118,10 @@ const KEY: [(Look, &str); 10] = [
     ),
     (Look::Waiting, "waits"),
     (Look::Suspended, "suspended by another process"),
+    (
+        Look::Faulted,
+        "faulted: the error handler has not dealt with its error",
+    ),
     (Look::Dormant, "dormant"),
     (Look::Free, "object or channel"),
     (Look::Awaited, "object or channel at which processes wait"),

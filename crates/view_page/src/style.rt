@@ -37,6 +37,7 @@ pub const STYLE: &str = "
 .ready .fill, .ready .plate, .preempted .fill, .preempted .plate { fill: #9bd3f3; }
 .waiting .fill, .waiting .plate { fill: #f3bd55; }
 .suspended .fill, .suspended .plate { fill: #dfa6c6; }
+.faulted .fill, .faulted .plate { fill: #f2a07a; }
 .dormant .fill { fill: none; stroke: #c3cad1; stroke-dasharray: 3 3; }
 .dormant .plate { fill: #f1f3f5; }
 .bar.dormant .said { fill: #57616b; }
@@ -100,6 +101,7 @@ pub const DEFINITIONS: &str = "<defs>
 <pattern id=\"stripes\" width=\"7\" height=\"7\" patternUnits=\"userSpaceOnUse\" patternTransform=\"rotate(45)\"><path d=\"M0,0V7\" stroke=\"#000000\" stroke-opacity=\".25\" stroke-width=\"3\"/></pattern>
 <pattern id=\"dots\" width=\"6\" height=\"6\" patternUnits=\"userSpaceOnUse\"><circle cx=\"3\" cy=\"3\" r=\".9\" fill=\"#000000\" fill-opacity=\".3\"/></pattern>
 <pattern id=\"grid\" width=\"6\" height=\"6\" patternUnits=\"userSpaceOnUse\"><path d=\"M0,0H6M0,0V6\" stroke=\"#000000\" stroke-opacity=\".3\"/></pattern>
+<pattern id=\"crosses\" width=\"8\" height=\"8\" patternUnits=\"userSpaceOnUse\"><path d=\"M2,2L6,6M6,2L2,6\" stroke=\"#000000\" stroke-opacity=\".35\"/></pattern>
 <pattern id=\"after\" width=\"8\" height=\"8\" patternUnits=\"userSpaceOnUse\" patternTransform=\"rotate(45)\"><rect width=\"8\" height=\"8\"/><path d=\"M0,0V8\"/></pattern>
 <marker id=\"wake-end\" viewBox=\"0 0 8 8\" refX=\"7\" refY=\"4\" markerWidth=\"5\" markerHeight=\"5\" orient=\"auto-start-reverse\"><path d=\"M0,0L8,4L0,8z\"/></marker>
 <marker id=\"message-end\" viewBox=\"0 0 8 8\" refX=\"7\" refY=\"4\" markerWidth=\"5\" markerHeight=\"5\" orient=\"auto-start-reverse\"><path d=\"M0,0L8,4L0,8z\"/></marker>

@@ -20,6 +20,8 @@ pub enum Look {
     Preempted,
     Waiting,
     Suspended,
+    /// It has an error that its partition's handler has not dealt with.
+    Faulted,
     Dormant,
     /// An object or a channel at which nobody waits, and one at which a process waits.
     Free,

@@ -5,10 +5,11 @@ use crate::labels::{ShortOccupant, words_of};
 use crate::lane::{Mark, MarkKind};
 use crate::lane_key::LaneKey;
 use crate::picture::Picture;
-use crate::process_bars::mode_saying;
+use crate::process_bars::{mode_saying, restart_saying};
+use crate::saying::Saying;
 use apex_machine::Mode;
-use apex_types::{Body, Ordered, PartId};
-use partition_state::restart_of;
+use apex_types::{Body, Ordered, PartId, Request};
+use partition_state::is_restart;
 use run_view::{Lawful, Sent, ThingKey};
 use std::alloc::AllocError;
 use wording::out_name;
@@ -40,20 +41,37 @@ impl Picture {
             Body::Arrive(_) | Body::Depart(_) => {
                 self.add_mark(actor_of(ordered), column, MarkKind::Crossing, words)
             }
-            Body::Error(_) => self.add_mark(actor_of(ordered), column, MarkKind::Error, words),
+            Body::Error(report) => {
+                self.add_mark(actor_of(ordered), column, MarkKind::Error, words)?;
+                if !report.restarts {
+                    return Ok(());
+                }
+                let saying = restart_saying(self.alloc, report.who.part)?;
+                self.mark_restart(column, &report.who.part, saying)
+            }
             Body::Call(call) => {
                 self.add_mark(LaneKey::Process(call.who), column, MarkKind::Call, words)?;
-                match restart_of(call) {
-                    Some(mode) => self.mark_restart(column, &call.who.part, mode),
-                    None => Ok(()),
+                if !is_restart(call) {
+                    return Ok(());
                 }
+                let saying = match &call.request {
+                    Request::SetPartitionMode(mode) => {
+                        mode_saying(self.alloc, call.who.part, restart_mode(*mode), true)?
+                    }
+                    _ => restart_saying(self.alloc, call.who.part)?,
+                };
+                self.mark_restart(column, &call.who.part, saying)
             }
         }
     }
 
-    // Marks a restart of a partition in this mode.
-    fn mark_restart(&mut self, column: usize, part: &PartId, mode: Mode) -> Result<(), AllocError> {
-        let saying = mode_saying(self.alloc, *part, mode, true)?;
+    // Marks a restart of a partition, of which this is said.
+    fn mark_restart(
+        &mut self,
+        column: usize,
+        part: &PartId,
+        saying: Saying,
+    ) -> Result<(), AllocError> {
         let text = String::from_str(self.alloc, saying.text.as_str())?;
         let lane = self.lane(LaneKey::Partition(*part), "")?;
         lane.bars.end(column);
@@ -181,5 +199,14 @@ pub(crate) fn actor_of(ordered: &Ordered) -> LaneKey {
             LaneKey::Thing(ThingKey::Channel(crossing.chan))
         }
         Body::Disp(_) | Body::Tick(_) => LaneKey::Core(ordered.core),
+    }
+}
+
+// The mode of this number in which SET_PARTITION_MODE restarts a partition.
+fn restart_mode(number: i64) -> Mode {
+    match number {
+        0 => Mode::Idle,
+        1 => Mode::ColdStart,
+        _ => Mode::WarmStart,
     }
 }

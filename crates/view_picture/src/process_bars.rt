@@ -63,6 +63,8 @@ fn text_of(alloc: Global, view: &ProcessView, hold: Hold) -> Result<String, Allo
         ProcessState::Waiting(wait) => format!(in alloc; "{}", Waits(wait)),
         ProcessState::Suspended(Wait::Nothing) => String::from_str(alloc, "suspended"),
         ProcessState::Suspended(wait) => format!(in alloc; "suspended, and {}", Waits(wait)),
+        ProcessState::Faulted(Wait::Nothing) => String::from_str(alloc, "faulted"),
+        ProcessState::Faulted(wait) => format!(in alloc; "faulted, and {}", Waits(wait)),
     }
 }
 
@@ -71,6 +73,7 @@ fn look_of(view: &ProcessView, hold: Hold) -> Look {
         ProcessState::Dormant => Look::Dormant,
         ProcessState::Waiting(_) => Look::Waiting,
         ProcessState::Suspended(_) => Look::Suspended,
+        ProcessState::Faulted(_) => Look::Faulted,
         ProcessState::Ready => match hold {
             Hold::Runs if view.current_priority > view.base_priority => Look::Raised,
             Hold::Runs => Look::Running,
@@ -83,7 +86,7 @@ fn look_of(view: &ProcessView, hold: Hold) -> Look {
 /// What comes between the name of a process and what is said of it.
 pub fn verb_of(look: Look) -> &'static str {
     match look {
-        Look::Ready | Look::Preempted | Look::Suspended | Look::Dormant => "is ",
+        Look::Ready | Look::Preempted | Look::Suspended | Look::Faulted | Look::Dormant => "is ",
         Look::Running
         | Look::Raised
         | Look::Waiting
@@ -106,6 +109,7 @@ fn brief_of(look: Look) -> &'static str {
         Look::Ready => "ready",
         Look::Preempted => "ready",
         Look::Waiting => "waits",
+        Look::Faulted => "faulted",
         Look::Window
         | Look::NoWindow
         | Look::Occupied
@@ -214,6 +218,16 @@ pub fn mode_saying(
         text,
         brief: String::from_str(alloc, if is_restart { "restart" } else { "" })?,
         title: format!(in alloc; "partition {} is in the mode {name}", part.number())?,
+    })
+}
+
+/// What is said of a partition that an error restarts. The mode is that of the next look at the partition.
+pub fn restart_saying(alloc: Global, part: PartId) -> Result<Saying, AllocError> {
+    Ok(Saying {
+        look: Look::OtherMode,
+        text: String::from_str(alloc, "restart by an error")?,
+        brief: String::from_str(alloc, "restart")?,
+        title: format!(in alloc; "an error has restarted partition {}", part.number())?,
     })
 }
 

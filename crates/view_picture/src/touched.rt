@@ -71,8 +71,7 @@ fn process_of(call: &Call) -> Option<i64> {
         | Request::QueuingPort(..)
         | Request::GetId(..)
         | Request::GetStatus(..)
-        | Request::ReportMessage { .. }
-        | Request::CreateErrorHandler
+        | Request::Health(_)
         | Request::Preemption(_) => None,
     }
 }

@@ -14,6 +14,7 @@ pub fn state_name(alloc: Global, view: &ProcessView, runs: bool) -> Result<Strin
         ProcessState::Ready => String::from_str(alloc, "ready"),
         ProcessState::Waiting(wait) => format!(in alloc; "{}", Waits(wait)),
         ProcessState::Suspended(_) => String::from_str(alloc, "suspended"),
+        ProcessState::Faulted(_) => String::from_str(alloc, "faulted"),
     }
 }
 
@@ -40,7 +41,8 @@ impl fmt::Display for Waits {
 /// When the wait of a process is over at the latest, in words; empty if no time is known.
 pub fn due_text(alloc: Global, view: &ProcessView) -> Result<String, AllocError> {
     let wait = match view.state {
-        ProcessState::Waiting(wait) | ProcessState::Suspended(wait) => wait,
+        ProcessState::Waiting(wait) | ProcessState::Suspended(wait) | ProcessState::Faulted(wait) =>
+            wait,
         ProcessState::Dormant | ProcessState::Ready => Wait::Nothing,
     };
     let due = match wait {

@@ -7,7 +7,7 @@ use Rattle.apex_types.specs.declared.record.Who.{Who}
 use Rattle.apex_machine.specs.declared.state.Entry.{Entry}
 use Rattle.apex_machine.specs.declared.state.WaitingSet.{WaitingSet}
 use Rattle.apex_machine.specs.State.{is_named}
-use Rattle.apex_machine.specs.Waiting.{ends_wait, enters, entry_of, is_no_error, is_target, is_waiting, message_of, restart_of, set_after, stop_of, without}
+use Rattle.apex_machine.specs.Waiting.{ends_wait, enters, entry_of, is_no_error, is_restart, is_target, is_waiting, message_of, set_after, stop_of, without}
 use Rattle.wait_set.specs.Actors.{joined_by, left_by}
 use Rattle.wait_set.specs.Laws.{AreBeforePlace}
 use Rattle.wait_set.specs.Sets.{entered, has_place}
@@ -32,7 +32,7 @@ same_without leaves goes (entry ∷ entries) alike =
     rw (alike entry.who, rest) refl
 
 -- a call that stops no process and restarts no partition ends the waits of those that it names
-names_alone : (call : CallRecord) → stop_of call.request ≡ None → restart_of call ≡ None → (who : Who)
+names_alone : (call : CallRecord) → stop_of call.request ≡ None → is_restart call ≡ false → (who : Who)
     → ends_wait call who ≡ is_named who call.claim.woken
 names_alone call none stays who =
     let nobody : is_target (stop_of call.request) who.proc ≡ false = rw none refl in
@@ -40,7 +40,7 @@ names_alone call none stays who =
     refl
 
 -- processes that it does not name stay
-pub only_named_leave : (call : CallRecord) → stop_of call.request ≡ None → restart_of call ≡ None → (entries : List Entry)
+pub only_named_leave : (call : CallRecord) → stop_of call.request ≡ None → is_restart call ≡ false → (entries : List Entry)
     → without (ends_wait call) entries ≡ left_by call.claim entries
 only_named_leave call none stays entries = same_without (ends_wait call) (λ who. is_named who call.claim.woken) entries (names_alone call none stays)
 
@@ -63,7 +63,7 @@ before-without leaves place (entry ∷ entries) before = by (before-without leav
     by rest false = (before.0, rest)
 
 -- a set in which its caller may wait: those leave that it names, and a caller that waits enters it
-pub set_joined : (place : ℕ) (call : CallRecord) (wanted : WaitingSet) (entries : List Entry) → stop_of call.request ≡ None → restart_of call ≡ None
+pub set_joined : (place : ℕ) (call : CallRecord) (wanted : WaitingSet) (entries : List Entry) → stop_of call.request ≡ None → is_restart call ≡ false
     → AreBeforePlace place entries → enters call wanted ≡ is_waiting call.claim.out
     → set_after place (Call call) wanted entries
     ≡ joined_by (record { who = call.who; priority = call.claim.prio; place = place }) call.claim (message_of call.request) entries
@@ -79,6 +79,6 @@ set_joined place call wanted entries none stays before can = rw (can, only_named
     by false = refl
 
 -- a set in which its caller does not wait: those leave that it names
-pub set_left : (place : ℕ) (call : CallRecord) (wanted : WaitingSet) (entries : List Entry) → stop_of call.request ≡ None → restart_of call ≡ None
+pub set_left : (place : ℕ) (call : CallRecord) (wanted : WaitingSet) (entries : List Entry) → stop_of call.request ≡ None → is_restart call ≡ false
     → enters call wanted ≡ false → set_after place (Call call) wanted entries ≡ left_by call.claim entries
 set_left place call wanted entries none stays outside = rw (outside, only_named_leave call none stays entries) refl

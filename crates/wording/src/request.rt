@@ -3,9 +3,9 @@
 use crate::naming::{Ascii, Bytes, kind_name};
 use crate::words::Words;
 use apex_types::{
-    BlackboardOperation, BufferOperation, CallerOperation, EventOperation, MutexOperation,
-    NewObject, ObjectOperation, ProcessOperation, QueuingOperation, Request, SamplingOperation,
-    SemaphoreOperation,
+    BlackboardOperation, BufferOperation, CallerOperation, EventOperation, HealthOperation,
+    MutexOperation, NewObject, ObjectOperation, ProcessOperation, QueuingOperation, Request,
+    SamplingOperation, SemaphoreOperation,
 };
 
 /// Reports a service and the arguments that its caller gave.
@@ -40,11 +40,30 @@ pub fn tell_request(words: &mut Words, request: &Request) {
         Request::GetStatus(kind, object) => {
             words.say(format_args!(" for {} {object}", kind_name(*kind)));
         }
-        Request::ReportMessage { length, message } => words.say(format_args!(
+        Request::Health(operation) => tell_health(words, operation),
+        Request::Preemption(_) => {}
+    }
+}
+
+// Reports what a service of health monitoring is given.
+fn tell_health(words: &mut Words, operation: &HealthOperation) {
+    match operation {
+        HealthOperation::ReportMessage { length, message } => words.say(format_args!(
             " with {} and length {length}",
             Bytes(message.as_bytes())
         )),
-        Request::CreateErrorHandler | Request::Preemption(_) => {}
+        HealthOperation::RaiseError {
+            error,
+            length,
+            message,
+        } => words.say(format_args!(
+            " for error {error} with {} and length {length}",
+            Bytes(message.as_bytes())
+        )),
+        HealthOperation::ConfigureHandler { concurrency, core } => words.say(format_args!(
+            " with concurrency {concurrency} and core {core}"
+        )),
+        HealthOperation::CreateHandler | HealthOperation::GetErrorStatus => {}
     }
 }
 

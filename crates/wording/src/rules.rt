@@ -88,6 +88,15 @@ fn rules_of(service: Service) -> Rules {
         Service::DelayedStart => row(ANSWER, "delayed_start_conditions"),
         Service::ReportApplicationMessage => row(ANSWER, "report_conditions"),
         Service::CreateErrorHandler => row(ANSWER, "create_handler_conditions"),
+        Service::ConfigureErrorHandler => row(ANSWER, "configure_handler_conditions"),
+        Service::RaiseApplicationError => row(
+            "part 8, RAISE_APPLICATION_ERROR (IsRaising)",
+            "raise_conditions",
+        ),
+        Service::GetErrorStatus => row(
+            "part 8, GET_ERROR_STATUS (IsErrorStatus)",
+            "error_status_conditions",
+        ),
         Service::LockPreemption => row("part 4, LOCK_PREEMPTION (IsLocking)", "lock_conditions"),
         Service::UnlockPreemption => row(
             "part 4, UNLOCK_PREEMPTION (IsUnlocking)",

@@ -1,4 +1,4 @@
-use Rattle.apex_laws.proofs.ProcessRules.{answer_is_the_sentence}
+use Rattle.apex_laws.proofs.GivenAnswers.{answer_is_the_sentence}
 use Rattle.apex_laws.proofs.answer_is_the_sentence.Goals as goal
 
 pub returns : goal.returns

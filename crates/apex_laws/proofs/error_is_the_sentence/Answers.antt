@@ -1,4 +1,4 @@
-use Rattle.apex_laws.proofs.Records.{error_is_the_sentence}
+use Rattle.apex_laws.proofs.RestartRules.{error_is_the_sentence}
 use Rattle.apex_laws.proofs.error_is_the_sentence.Goals as goal
 
 pub returns : goal.returns

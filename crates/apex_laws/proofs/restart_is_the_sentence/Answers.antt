@@ -1,4 +1,4 @@
-use Rattle.apex_laws.proofs.Records.{restart_is_the_sentence}
+use Rattle.apex_laws.proofs.RestartRules.{restart_is_the_sentence}
 use Rattle.apex_laws.proofs.restart_is_the_sentence.Goals as goal
 
 pub returns : goal.returns

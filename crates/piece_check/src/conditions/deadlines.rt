@@ -6,6 +6,7 @@ ghost use Rattle.apex_machine.specs.Conditions as shared;
 ghost use Rattle.apex_machine.specs.Deadlines as deadlines;
 ghost use Rattle.apex_machine.specs.DueTimes as due_times;
 ghost use Rattle.apex_machine.specs.ProcessConditions as processes;
+ghost use Rattle.piece_check.specs.Limits.{sum_limit};
 
 use super::preemption::preemption;
 use crate::arguments::is_time_capacity;
@@ -51,14 +52,14 @@ fn replenishes_beyond(now: u64, budget: i64, process: &Process) -> bool
 // The release a period after the last one, in ticks; the sum may have more than 64 bits.
 fn next_release(last: u64, period: u64) -> u128
     ensures value { result ≡ due_times.release_after last (Some period) }
-    ensures bound { result < 36893488147419103232 }
+    ensures bound { result < sum_limit }
 {
     last as u128 + period as u128
 }
 
 // Whether a budget that counts from this time ends after a release, all in ticks. A budget of -1 does not end.
 fn ends_after(now: u64, budget: i64, release: u128) -> bool
-    requires { release < 36893488147419103232 }
+    requires { release < sum_limit }
     ensures { result ≡ deadlines.ends_after now budget release }
 {
     if budget >= 0 {

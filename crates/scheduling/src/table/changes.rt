@@ -7,8 +7,9 @@ ghost use Rattle.apex_machine.specs.declared.state.Process.{Process as ProcessVa
 ghost use Rattle.apex_machine.specs.Answer.{is_new};
 ghost use Rattle.apex_machine.specs.Processes.{after_normal, granted, new_process, released, restored, stopped, woken_by};
 ghost use Rattle.apex_machine.specs.State.{each_item, first_processes, initialising_process, is_free, time_of};
-ghost use Rattle.apex_machine.specs.After.{returned, deadline_taken};
-ghost use Rattle.scheduling.specs.Changes.{answered, named, only, stopped_self, waiting_for, with_each};
+ghost use Rattle.apex_machine.specs.After.{returned};
+ghost use Rattle.apex_machine.specs.Errors.{handed_over, healed};
+ghost use Rattle.scheduling.specs.Changes.{answered, deadline_taken, named, noted, only, stopped_self, waiting_for, with_each};
 ghost use Rattle.scheduling.specs.Processes.{processes_in};
 ghost use Rattle.scheduling.specs.Transfers.{transferred};
 ghost use Rattle.scheduling.specs.Timely.{IsTimely, TimesFit};
@@ -19,7 +20,7 @@ use crate::number::process_number;
 use crate::order::{DueTime, Rank};
 use crate::process;
 use crate::transfer::Transfer;
-use apex_machine::{CoreState, Mode, Outcome, Process, Wait};
+use apex_machine::{CoreState, ErrorHandler, ListedError, Mode, Outcome, Process, Wait};
 use apex_types::{CoreId, Message, Name, Place, ProcId};
 use std::alloc::AllocError;
 
@@ -159,9 +160,47 @@ impl ProcTable {
 
     /// The missed deadline of this process has been reported: it has none now. Takes no memory.
     pub fn take_deadline(&mut self, missed: ProcId)
-        ensures { self.new ≡ with_each (deadline_taken missed) self.old }
+        ensures { self.new ≡ with_each (only missed deadline_taken) self.old }
     {
         self.change(missed, |process| process::take_deadline(process));
+    }
+
+    /// An error of this process at this place, which the handler takes: the process is faulted, and the handler, which is process 0, becomes
+    /// ready. Takes no memory.
+    pub fn hand_over(&mut self, failed: ProcId, place: Place, handler: ErrorHandler)
+        ensures { self.new ≡ with_each (handed_over place handler failed) self.old }
+    {
+        let own = ProcId::new(0);
+        self.change(
+            own,
+            |process| process::start_handler(process, place, handler),
+        );
+        if failed != own {
+            self.change(failed, |process| process::fault(process));
+        }
+    }
+
+    /// The handler has stopped itself at this place, and these errors are left: each faulted process that has none of them goes on. Takes no
+    /// memory.
+    pub fn heal(&mut self, place: Place, left: &[ListedError])
+        ensures { self.new ≡ with_each (healed place left.now) self.old }
+    {
+        for index in 0..self.processes.len() {
+            if let Some((number, _)) = self.processes.get_index(index) {
+                let number = *number;
+                self.change(
+                    number,
+                    |process| process::heal(process, place, number, left),
+                );
+            }
+        }
+    }
+
+    /// STOP_SELF of the handler, which has more errors to take, when its core's time is `now`: it stays ready. Takes no memory.
+    pub fn note_call(&mut self, caller: ProcId, now: u64)
+        ensures { self.new ≡ with_each (only caller (noted now)) self.old }
+    {
+        self.change(caller, |process| process::note_call(process, now));
     }
 
     /// STOP of the process that a caller names by this number; if there is none, nothing changes. Takes no memory.

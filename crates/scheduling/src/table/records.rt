@@ -11,6 +11,8 @@ ghost use Rattle.apex_machine.specs.Processes.{set_by, set_in};
 ghost use Rattle.apex_machine.specs.Waiting.{message_of};
 ghost use Rattle.apex_machine.specs.After as after;
 ghost use Rattle.scheduling.specs.Changes.{named, only, with_each};
+ghost use Rattle.scheduling.specs.Faults.{IsFaultChangeOf, fault_set, leaves_ready};
+ghost use Rattle.apex_machine.specs.Errors.{handles_more};
 ghost use Rattle.scheduling.specs.Peers.{peer_woken, stopped_by};
 ghost use Rattle.scheduling.specs.HandedOver.{AreCopies};
 ghost use Rattle.scheduling.specs.Prepared.{IsPreparedFor, creates_process};
@@ -24,6 +26,7 @@ ghost use Rattle.scheduling.specs.Transfers.{IsTransferOf, passed_on};
 use super::ProcTable;
 use super::changes::time_at;
 use crate::caller::{Settling, is_done, settling_of};
+use crate::fault::FaultChange;
 use crate::message::messages_for;
 use crate::moment::Moment;
 use crate::number::claimed_number;
@@ -51,7 +54,7 @@ impl ProcTable {
     /// A call of one of the partition's processes at this moment: what it sets in the partition, what becomes of its caller, which process
     /// it stops, and whose waits it ends. The period is the partition's, in ticks. A process that it creates runs on the first core. The
     /// transfer is what the call makes of the owners of its mutex. A call of a service other than ACQUIRE_MUTEX, RELEASE_MUTEX and
-    /// RESET_MUTEX changes no owner, and its transfer is not used.
+    /// RESET_MUTEX changes no owner, and its transfer is not used. `faults` is what the call makes of who is faulted.
     ///
     /// AllocError if memory for a process that it creates is refused; nothing has changed then. No other call takes memory, apart from what
     /// was prepared.
@@ -61,24 +64,26 @@ impl ProcTable {
         period: u64,
         moment: &Moment<'_>,
         transfer: Transfer,
+        faults: &FaultChange<'_>,
         prepared: Prepared,
         call: &Call,
     ) -> Result<(), AllocError>
         requires timely { IsTimely period moment.now.cores.now }
         requires sound { IsSound self.old.table call.now }
         requires prepared { IsPreparedFor call.now prepared }
-        ensures ok { OnOk result ((configuration : Configuration) (partition : Partition) → configured.first_core configuration call.now.who.part ≡ first_core → configured.period_of configuration call.now.who.part ≡ period → processes_of partition ≡ self.old → (IsTrue (after.is_done call.now.claim.out) → IsTransferOf partition call.now.who.proc call.now.request transfer) → self.new ≡ processes_of (after.partition_called configuration moment.now.cores.now moment.now.place moment.now.core call.now partition)) }
+        ensures ok { OnOk result ((configuration : Configuration) (partition : Partition) → configured.first_core configuration call.now.who.part ≡ first_core → configured.period_of configuration call.now.who.part ≡ period → processes_of partition ≡ self.old → (IsTrue (after.is_done call.now.claim.out) → IsTransferOf partition call.now.who.proc call.now.request transfer) → (IsTrue (after.is_done call.now.claim.out) → IsFaultChangeOf partition call.now.who.proc call.now.request faults.now) → handles_more partition call.now.who.proc call.now.request ≡ leaves_ready faults.now → self.new ≡ processes_of (after.partition_called configuration moment.now.cores.now moment.now.place moment.now.core call.now partition)) }
         ensures unchanged { OnErr result (self.new ≡ self.old) }
         ensures memory { OnErr result (IsTrue (creates_process call.now.request)) }
     {
         let Prepared { outcome, messages } = prepared;
         let now = time_at(moment.cores, moment.core);
         let next = self.next_release(call);
-        let settling = settling_of(moment.place, now, next, call, outcome);
+        let handles_more = faults.handles_more();
+        let settling = settling_of(moment.place, now, next, handles_more, call, outcome);
         // Looked up before the call creates a process: a caller that does not exist may claim its own number for that process.
         let is_member = self.proc(call.who.proc).is_some();
         if is_done(call.claim.out) {
-            self.carry_out(first_core, period, moment, transfer, call)?;
+            self.carry_out(first_core, period, moment, transfer, faults, call)?;
         }
         if is_member {
             self.settle(call.who.proc, now, settling);
@@ -134,12 +139,13 @@ impl ProcTable {
         period: u64,
         moment: &Moment<'_>,
         transfer: Transfer,
+        faults: &FaultChange<'_>,
         call: &Call,
     ) -> Result<(), AllocError>
         requires timely { IsTimely period moment.now.cores.now }
         requires done { after.is_done call.now.claim.out ≡ true }
         requires sound { IsSound self.old.table call.now }
-        ensures ok { OnOk result ((partition : Partition) → processes_of partition ≡ self.old → IsTransferOf partition call.now.who.proc call.now.request transfer → self.new ≡ record self.old {
+        ensures ok { OnOk result ((partition : Partition) → processes_of partition ≡ self.old → IsTransferOf partition call.now.who.proc call.now.request transfer → IsFaultChangeOf partition call.now.who.proc call.now.request faults.now → self.new ≡ record self.old {
           mode = after.mode_by call.now.request self.old.mode;
           table = each_item (set_by moment.now.place period moment.now.cores.now partition call.now.who.proc call.now.request) self.old.table ++ after.created_by first_core call.now call.now.request;
         }) }
@@ -170,9 +176,23 @@ impl ProcTable {
             }
             Request::SetPartitionMode(..) => self.normal(period, moment),
             Request::Object(_, operation) => self.pass_on(operation, transfer),
+            Request::Health(_) | Request::Caller(_) => {
+                self.change_faults(call.who.proc, moment.place, faults);
+            }
             _ => {}
         }
         Ok(())
+    }
+
+    // What a request of this caller makes of who is faulted.
+    fn change_faults(&mut self, caller: ProcId, place: Place, faults: &FaultChange<'_>)
+        ensures { self.new ≡ with_each (fault_set faults.now place caller) self.old }
+    {
+        match faults {
+            FaultChange::Unchanged => {}
+            FaultChange::Raises(handler) => self.hand_over(caller, place, *handler),
+            FaultChange::Ends(left) => self.heal(place, left),
+        }
     }
 
     // An operation on a mutex changes the priorities of its owners, an operation on any other object those of no process.
@@ -266,6 +286,7 @@ impl ProcTable {
         match settling {
             Settling::Waits { wait, deadline } => self.wait(caller, now, wait, deadline),
             Settling::Stops => self.stop_self(caller, now),
+            Settling::StaysReady => self.note_call(caller, now),
             Settling::Owed {
                 outcome,
                 renewed,

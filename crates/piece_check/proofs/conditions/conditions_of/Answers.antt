@@ -22,3 +22,6 @@ returns-in-Preemption c = search (rules, c.preemption_conditions.ensures c.args.
 
 pub returns-in-Process : goal.returns-in-Process
 returns-in-Process c = search (rules, c.process_conditions.ensures c.args.now)
+
+pub returns-in-Health : goal.returns-in-Health
+returns-in-Health c = search (rules, c.health_conditions.ensures c.args.now)

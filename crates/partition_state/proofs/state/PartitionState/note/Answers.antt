@@ -6,7 +6,8 @@ use Rattle.scheduling.specs.Processes.{processes_of}
 use Rattle.partition_state.specs.Calls.{objects_noted}
 use Rattle.partition_state.proofs.Clear.{port_found}
 use Rattle.partition_state.proofs.Served.{is_called, noted_with, reads_with}
-use Rattle.partition_state.proofs.Uses.{leaves_all, noted_goes_on, noted_transfer, sound_noted}
+use Rattle.partition_state.proofs.Served.{no_restart}
+use Rattle.partition_state.proofs.Uses.{leaves_all, noted_faults, noted_goes_on, noted_no_more, noted_transfer, sound_noted}
 use Rattle.partition_state.proofs.state.PartitionState.note.Goals as goal
 
 pub call-requires-clause-sound : goal.call-requires-clause-sound
@@ -33,11 +34,12 @@ returns-clause-ok c =
     let place = a.moment.now.place in
     let core = a.moment.now.core in
     let call = a.call.now in
-    let leaves = leaves_all config call.who.part place core cores a.self.now call
-    (record { sound = c.requires.sound; own = refl; demands = c.requires.lawful }) c.requires.leaves in
+    let own : IsOwnCall config call.who.part place core cores a.self.now call = record { sound = c.requires.sound; own = refl; demands = c.requires.lawful } in
+    let leaves = leaves_all config call.who.part place core cores a.self.now call own c.requires.leaves in
     let processes = c.in_ok-call.ensures.ok config a.self.now (sym c.first_core-first_core.ensures.value) (sym c.period-period.ensures.value)
-    (sym (ap processes_of c.self.view_is)) (λ done. noted_transfer a.self.now call _ c.requires.leaves done) in
-    rw (noted_goes_on call c.requires.leaves)
+    (sym (ap processes_of c.self.view_is)) (λ done. noted_transfer a.self.now call _ c.requires.leaves done)
+    (λ done. noted_faults a.self.now call c.requires.leaves done) (noted_no_more config call.who.part place core cores a.self.now call own c.requires.leaves) in
+    rw (no_restart config call (noted_goes_on call c.requires.leaves))
     (c.note_read.ensures
     ∙ noted_with c.call.new.self call call.request _
     ∙ is_called config cores place core call a.self.now _ c.call.new.self (ap (objects_noted call call.request) c.self.view_is ∙ sym leaves) processes)

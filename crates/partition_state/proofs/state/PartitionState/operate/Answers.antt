@@ -2,10 +2,12 @@ use Rattle.std.proofs.Common.{rules}
 use Rattle.std.proofs.lemmas.Int.{to_z-of_z}
 use mir.Syntax.{w64}
 use mir.Val.{SFits}
+use Rattle.apex_machine.specs.State.{time_of}
 use Rattle.partition_state.proofs.Created.{created_changes}
 use Rattle.partition_state.proofs.Locks.{lock_new, lock_owed}
 use Rattle.partition_state.proofs.ObjectCalls.{of_any}
 use Rattle.partition_state.proofs.Served.{lock_is_served}
+use Rattle.partition_state.proofs.Sounds.{names_core}
 use Rattle.partition_state.proofs.state.PartitionState.operate.Goals as goal
 
 pub returns-in_ok-create-in-Create-clause-ok : goal.returns-in_ok-create-in-Create-clause-ok
@@ -62,3 +64,9 @@ returns-in-Preemption-clause-after c =
     rw c.in-Preemption.is
     (lock_is_served c.args.config.now c.args.moment.now.place c.args.call.now c.in-Preemption.operation _ c.args.self.now _ c.use_lock.result c.self-in-Preemption.view_is
     (rw c.caller_of-caller.ensures at c.use_lock.ensures.after))
+
+pub change_errors-requires : goal.change_errors-requires
+change_errors-requires c =
+    let a = c.args in
+    names_core a.config.now (time_of a.moment.now.cores.now a.moment.now.core) a.call.now.who a.self.now c.in-Health.operation
+    c.keeps_limits.ensures.limits.cores.most c.keeps_limits.ensures.cores (rw c.in-Health.is at c.requires.clear.conditions)

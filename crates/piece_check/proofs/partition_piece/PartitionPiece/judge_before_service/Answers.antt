@@ -16,7 +16,7 @@ returns-then-not-is_empty-clause-ok c =
     let call = a.call.now in
     let conditions = c.in_ok-conditions.conditions in
     let judged = c.in_ok-judge_refused.ensures in
-    let answer = answer_of own.clock.cores a.core call.who own.state call.request in
+    let answer = answer_of a.config.now own.clock.cores a.core call.who own.state call.request in
     let some : conditions ≢ [] = search rules in (
       refused_holds a.config.now own.number own.clock.cores own.state a.core call conditions c.in_ok-conditions.ensures.ok c.in_ok-conditions.ensures.conditions judged,
       inl (refused_not_done conditions own.number call.request answer call.claim some (judged None own.number call.request answer)),

@@ -6,7 +6,7 @@ use Rattle.scheduling.proofs.table.ProcTable.carry_out.Goals as goal
 
 pub returns-in_ok-create-in-CreateProcess-clause-ok :
     goal.returns-in_ok-create-in-CreateProcess-clause-ok
-returns-in_ok-create-in-CreateProcess-clause-ok c = λ partition seen tied.
+returns-in_ok-create-in-CreateProcess-clause-ok c = λ partition seen tied changes.
     let sound = rw c.in-CreateProcess.is at c.requires.sound.asks in
     let fits : FitsSigned w64 c.in-CreateProcess.priority = search rules in
     let fits_too : FitsSigned w64 c.in-CreateProcess.own_period = search rules in
@@ -17,7 +17,7 @@ returns-in_ok-create-in-CreateProcess-clause-ok c = λ partition seen tied.
     partition c.args.self.now _ c.claimed_number.result c.in-Some.number _ added refl c.requires.done sound c.claimed_number.ensures c.in-Some.is)
 
 pub returns-in-Process-clause-ok : goal.returns-in-Process-clause-ok
-returns-in-Process-clause-ok c = λ partition seen tied.
+returns-in-Process-clause-ok c = λ partition seen tied changes.
     let fits : FitsSigned w64 c.in-Process.process = search rules in
     let served = simp to_z-of_z at c.serve_target.ensures in
     rw c.in-Process.is
@@ -25,7 +25,7 @@ returns-in-Process-clause-ok c = λ partition seen tied.
     (ap (λ (processes : Processes). processes.mode) seen) served)
 
 pub returns-in-Object-clause-ok : goal.returns-in-Object-clause-ok
-returns-in-Object-clause-ok c = λ partition seen tied.
+returns-in-Object-clause-ok c = λ partition seen tied changes.
     rw c.in-Object.is
     (carried-object c.args.moment.now.place c.args.period c.args.first_core c.args.moment.now.cores.now c.args.call.now _ c.in-Object.operation c.args.transfer partition c.args.self.now _
     (rw c.in-Object.is at tied) c.pass_on.ensures)
@@ -33,8 +33,8 @@ returns-in-Object-clause-ok c = λ partition seen tied.
 pub returns-in_default : goal.returns-in_default
 returns-in_default c =
     record {
-      ok = λ partition seen tied. carried-none c.args.moment.now.place c.args.period c.args.first_core c.args.moment.now.cores.now c.args.call.now c.args.call.now.request partition c.args.self.now
-          c.in_default.not-CreateProcess c.in_default.not-Process c.in_default.not-SetPartitionMode c.in_default.not-Object;
+      ok = λ partition seen tied changes. carried-none c.args.moment.now.place c.args.period c.args.first_core c.args.moment.now.cores.now c.args.call.now c.args.call.now.request partition c.args.self.now
+          c.in_default.not-CreateProcess c.in_default.not-Process c.in_default.not-SetPartitionMode c.in_default.not-Object c.in_default.not-Health c.in_default.not-Caller;
       unchanged = tt;
       memory = tt;
     }

@@ -10,5 +10,5 @@ abbrev pub invariant-loop-index : goal.invariant-loop-index
 invariant-loop-index l = record {
   mode : l.self.mode ≡ mode.Normal;
   table : l.self.table
-      ≡ each_below (λ (process : Process). after_normal l.moment.place l.period (time_of l.moment.cores.now process.affinity) process) l.index l.fn.self.table;
+      ≡ each_below (λ number (process : Process). after_normal l.moment.place l.period (time_of l.moment.cores.now process.affinity) process) l.index l.fn.self.table;
 }
