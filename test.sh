@@ -4,10 +4,10 @@
 # helps, pages and completions have the options of their table; that the dossier has no dead link; the program on one
 # example through real files; every proof, every wrong body of the gate's set, every test and each program as two compilers build
 # it; the programs as their users run them, with the words of worked cases on standard error, on hostile texts and files, with logs
-# of their outcomes, at a terminal, installed and packed, in one command, and on many recordings; the search for orders, the
-# walkthrough of the guide, the pictures and traces of apexview, and the recorder in C; each allocation refused in turn that a
-# waiting set makes for its first entry; and so each of the program's, without rules, with options that ask for rules, with a rules
-# file, with so many rules that several threads test them, with a message between partitions, and with several who wait at a
+# of their outcomes and answers as JSON, at a terminal, installed and packed, in one command, and on many recordings; the search for
+# orders, the walkthrough of the guide, the pictures and traces of apexview, and the recorder in C; each allocation refused in turn
+# that a waiting set makes for its first entry; and so each of the program's, without rules, with options that ask for rules, with a
+# rules file, with so many rules that several threads test them, with a message between partitions, and with several who wait at a
 # blackboard; and each of apexview's, for a page, a picture and a trace. Every part runs, also after one that fails. At the end
 # come the costs of each crate and the counts of each part. The last line is their sum, `N passed, 0 failed`.
 #

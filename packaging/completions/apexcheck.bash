@@ -22,6 +22,12 @@ _apexcheck_files() {
     mapfile -t COMPREPLY < <(compgen -f -X "!*$1" -- "$2"; compgen -d -- "$2")
 }
 
+# Offers folders: WORD.
+_apexcheck_folders() {
+    compopt -o filenames 2> /dev/null
+    mapfile -t COMPREPLY < <(compgen -d -- "$1")
+}
+
 # Offers those of these words that begin so: WORDS WORD.
 _apexcheck_words() {
     mapfile -t COMPREPLY < <(compgen -W "$1" -- "$2")
@@ -49,6 +55,8 @@ _apexcheck() {
         --max-elapsed | --at-least) ;;
         --forbid) _apexcheck_words "$_apexcheck_services" "$word" ;;
         --sarif) _apexcheck_files .sarif "$word" ;;
+        --source-root) _apexcheck_folders "$word" ;;
+        --json) _apexcheck_files .json "$word" ;;
         --version | --help | -h) ;;
         *)
             if [ -n "$ended" ] || [[ $word != -* ]]; then
@@ -56,7 +64,7 @@ _apexcheck() {
                 return
             fi
             # Each option may be given at most once, and --version and --help only alone.
-            for given in --config --order --workers --depth --max-elapsed --forbid --rules --at-least --last --sarif --quiet; do
+            for given in --config --order --workers --depth --max-elapsed --forbid --rules --at-least --last --sarif --source-root --json --quiet; do
                 [[ " ${COMP_WORDS[*]:1:COMP_CWORD - 1} " == *" $given"[\ =]* ]] || options="$options $given"
             done
             [ "$COMP_CWORD" != 1 ] || options="$options --version --help"

@@ -33,6 +33,11 @@ function __apexcheck_files
     __fish_complete_suffix "$word" $argv[1]
 end
 
+# Folders, likewise.
+function __apexcheck_folders
+    __fish_complete_directories (commandline -ct | string replace -r -- '^--[a-z-]+=' '')
+end
+
 complete -c apexcheck -k -a '(__apexcheck_files .csv)'
 complete -c apexcheck -l config -r -k -a '(__apexcheck_files .toml)' -n '__apexcheck_takes --config' -d 'The configuration of the module'
 complete -c apexcheck -l order -r -k -a '(__apexcheck_files .csv)' -n '__apexcheck_takes --order' -d 'The certificate, which proposes the order'
@@ -44,6 +49,8 @@ complete -c apexcheck -l rules -r -k -a '(__apexcheck_files .toml)' -n '__apexch
 complete -c apexcheck -l at-least -x -n '__apexcheck_takes --at-least' -d 'Refuse a YES for fewer records than RECORDS'
 complete -c apexcheck -l last -n '__apexcheck_lacks --last' -d 'Print the records before the place of a NO, at most 8'
 complete -c apexcheck -l sarif -r -k -a '(__apexcheck_files .sarif)' -n '__apexcheck_takes --sarif' -d 'Also write the outcome to FILE as a SARIF 2.1.0 log'
+complete -c apexcheck -l source-root -x -a '(__apexcheck_folders)' -n '__apexcheck_takes --source-root' -d 'The folder from which the log names its files'
+complete -c apexcheck -l json -r -k -a '(__apexcheck_files .json)' -n '__apexcheck_takes --json' -d 'Also write the answer to FILE as JSON'
 complete -c apexcheck -l quiet -n '__apexcheck_lacks --quiet' -d 'Do not explain the answer on standard error'
 complete -c apexcheck -l version -n 'test (count (commandline -opc)) = 1' -d 'Print the version'
 complete -c apexcheck -l help -s h -n 'test (count (commandline -opc)) = 1' -d 'Print the help'

@@ -58,6 +58,8 @@ _apexrun() {
         --forbid) _apexrun_words "$_apexrun_services" "$word" ;;
         --page) _apexrun_files .html "$word" ;;
         --sarif) _apexrun_files .sarif "$word" ;;
+        --source-root) _apexrun_folders "$word" ;;
+        --json) _apexrun_files .json "$word" ;;
         --version | --help | -h) ;;
         *)
             if [ -n "$ended" ] || [[ $word != -* ]]; then
@@ -65,7 +67,7 @@ _apexrun() {
                 return
             fi
             # Each option may be given at most once, and --version and --help only alone.
-            for given in --config --order --keep-order --effort --workers --depth --max-elapsed --forbid --rules --at-least --page --no-page --last --sarif --quiet; do
+            for given in --config --order --keep-order --effort --workers --depth --max-elapsed --forbid --rules --at-least --page --no-page --last --sarif --source-root --json --quiet; do
                 [[ " ${COMP_WORDS[*]:1:COMP_CWORD - 1} " == *" $given"[\ =]* ]] || options="$options $given"
             done
             [ "$COMP_CWORD" != 1 ] || options="$options --version --help"

@@ -33,12 +33,17 @@ function __apexrun_files
     __fish_complete_suffix "$word" $argv[1]
 end
 
+# Folders, likewise.
+function __apexrun_folders
+    __fish_complete_directories (commandline -ct | string replace -r -- '^--[a-z-]+=' '')
+end
+
 # Recordings beside --config, and else folders.
 function __apexrun_names
     if string match -qr -- '^--config' (commandline -opc)
         __apexrun_files .csv
     else
-        __fish_complete_directories (commandline -ct)
+        __apexrun_folders
     end
 end
 
@@ -57,6 +62,8 @@ complete -c apexrun -l page -r -k -a '(__apexrun_files .html)' -n '__apexrun_tak
 complete -c apexrun -l no-page -n '__apexrun_lacks --no-page' -d 'Write no page'
 complete -c apexrun -l last -n '__apexrun_lacks --last' -d 'Print the records before the place of a NO, at most 8'
 complete -c apexrun -l sarif -r -k -a '(__apexrun_files .sarif)' -n '__apexrun_takes --sarif' -d 'Also write the outcome to FILE as a SARIF 2.1.0 log'
+complete -c apexrun -l source-root -x -a '(__apexrun_folders)' -n '__apexrun_takes --source-root' -d 'The folder from which the log names its files'
+complete -c apexrun -l json -r -k -a '(__apexrun_files .json)' -n '__apexrun_takes --json' -d 'Also write the answer to FILE as JSON'
 complete -c apexrun -l quiet -n '__apexrun_lacks --quiet' -d 'Do not explain the answer on standard error'
 complete -c apexrun -l version -n 'test (count (commandline -opc)) = 1' -d 'Print the version'
 complete -c apexrun -l help -s h -n 'test (count (commandline -opc)) = 1' -d 'Print the help'

@@ -117,7 +117,15 @@ function __NAME_files
     __fish_complete_suffix "$word" $argv[1]
 end
 
-NAMESCOMMANDS
+FOLDERSNAMESCOMMANDS
+"""
+
+FISH_FOLDERS = """\
+# Folders, likewise.
+function __NAME_folders
+    __fish_complete_directories (commandline -ct | string replace -r -- '^--[a-z-]+=' '')
+end
+
 """
 
 FISH_NAMES = """\
@@ -126,7 +134,7 @@ function __NAME_names
     if string match -qr -- '^--config' (commandline -opc)
         __NAME_files RECORDINGS
     else
-        __fish_complete_directories (commandline -ct)
+        __NAME_folders
     end
 end
 
@@ -158,6 +166,8 @@ def offered(option: Option) -> str:
 
 def bash_action(option: Option) -> str:
     """What bash does after an option."""
+    if option.is_folder:
+        return '_NAME_folders "$word"'
     if option.takes == "file":
         return f'_NAME_files {option.offers} "$word"'
     if option.takes == "service":
@@ -181,7 +191,7 @@ def bash(program: Program, services: list[str]) -> str:
         names = f'if [ -n "$named" ]; then {recordings}; else _NAME_folders "$word"; fi'
     return filled(
         BASH, program,
-        FOLDERS=BASH_FOLDERS if program.takes_folder else "",
+        FOLDERS=BASH_FOLDERS if program.names_folders else "",
         SERVICES=service_lines(services, ""),
         MORE_LOCALS=" named=''" if program.takes_folder else "",
         WHAT_FOLLOWS=what,
@@ -194,6 +204,8 @@ def bash(program: Program, services: list[str]) -> str:
 
 def zsh_value(option: Option) -> str:
     """What zsh offers as a value: its description and its action."""
+    if option.is_folder:
+        return f":{option.what}:_files -/"
     if option.takes == "file":
         return f':{option.what}:_files -g "*{option.offers}"'
     if option.takes == "number":
@@ -228,7 +240,9 @@ def zsh(program: Program, services: list[str]) -> str:
 def fish_command(option: Option) -> str:
     """The command of fish for an option of a run."""
     takes = ""
-    if option.takes == "file":
+    if option.is_folder:
+        takes = " -x -a '(__NAME_folders)'"
+    elif option.takes == "file":
         takes = f" -r -k -a '(__NAME_files {option.offers})'"
     elif option.takes == "service":
         takes = ' -x -a "$services"'
@@ -257,6 +271,7 @@ def fish(program: Program, services: list[str]) -> str:
     return filled(
         FISH, program,
         SERVICES=service_lines(services, " \\"),
+        FOLDERS=FISH_FOLDERS if program.names_folders else "",
         NAMES=FISH_NAMES.replace("RECORDINGS", recordings) if program.takes_folder else "",
         COMMANDS="\n".join(commands),
     )

@@ -51,6 +51,11 @@ class Option:
         """Whether it is a number with a bound that is worth a word."""
         return self.takes == "number" and self.most < GREATEST
 
+    @property
+    def is_folder(self) -> bool:
+        """Whether its value is a folder: files have an ending that is offered."""
+        return self.takes == "file" and not self.offers
+
     def filled(self, text: str, number: str = "d") -> str:
         """A text with the option's own numbers, in a form."""
         numbers = {"least": format(self.least, number), "most": format(self.most, number), "default": str(self.default)}
@@ -115,6 +120,11 @@ class Program:
     def takes_folder(self) -> bool:
         """Whether a folder may take the place of the recordings."""
         return any(operand.takes == "folder" for operand in self.operands)
+
+    @property
+    def names_folders(self) -> bool:
+        """Whether a folder may be named somewhere."""
+        return self.takes_folder or any(option.is_folder for option in self.options)
 
     def option(self, word: str) -> Option:
         """The option that is written so."""

@@ -6,7 +6,8 @@ from os.path import dirname, exists, normpath
 from pathlib import Path
 
 LINK = re.compile(r'(?:href|src)="([^"]*)"')
-MARKDOWN = re.compile(r"\]\(([^)\s]+)\)")
+# Code has no links: a span of it is matched first, and gives no name.
+MARKDOWN = re.compile(r"`[^`\n]*`|\]\(([^)\s]+)\)")
 ANCHOR = re.compile(r'\bid="([^"]*)"')
 ELSEWHERE = re.compile(r"^[a-z][a-z0-9+.-]*:")
 
@@ -14,7 +15,7 @@ ELSEWHERE = re.compile(r"^[a-z][a-z0-9+.-]*:")
 def links_of(name: str, text: str) -> list[str]:
     """The relative links of a page, or of a file of Markdown."""
     pattern = LINK if name.endswith(".html") else MARKDOWN
-    return sorted(it for it in set(map(unescape, pattern.findall(text))) if not ELSEWHERE.match(it))
+    return sorted(it for it in set(map(unescape, pattern.findall(text))) if it and not ELSEWHERE.match(it))
 
 
 def broken_links(pages: dict[str, str], is_there: Callable[[str], bool]) -> tuple[int, list[str]]:

@@ -22,7 +22,7 @@ MOST_OF_SEVERAL = 4
 # how a wrong body of a rule itself is found; others are of a whole of which the rule is a part, or are only near it
 BY_HAND, IN_FUNCTION = "by hand", "in a function whose clause cites a definition of the rule"
 BESIDE_THE_PROGRAM = {
-    "apex_laws", "explanation", "input_explanation", "toml_explanation", "wording", "sarif_report", "run_view", "shown_run", "view_picture",
+    "apex_laws", "explanation", "input_explanation", "toml_explanation", "wording", "sarif_report", "json_report", "run_view", "shown_run", "view_picture",
     "view_page", "view_trace", "view_drawing", "apexview",
     "part_tests", "intake_tests", "round_tests", "crate_tests",
 }

@@ -118,9 +118,10 @@ def carried_item(dossier: Dossier, it: Carried) -> str:
             f"<pre>{text(it.clause.text)}</pre>")
 
 
-def body_item(body: WrongBody) -> str:
-    """A wrong body with its edit, and the functions that it changes."""
-    functions = ", ".join(f"<code>{text(function_name(key))}</code>" for key in body.functions)
+def body_item(dossier: Dossier, body: WrongBody) -> str:
+    """A wrong body with its edit, and links to the functions that it changes."""
+    changed = [dossier.code.functions[key] for key in body.functions]
+    functions = ", ".join(f"<code>{text(it.name)}</code>, {at(it.path, it.line)}" for it in changed)
     return f"{body_link(body)}, {SETS[body.part]} set, changes {functions}<pre>{text(body.text.rstrip())}</pre>"
 
 
@@ -139,7 +140,7 @@ def bodies_part(dossier: Dossier, row: Row) -> str:
     if not row.bodies:
         return ""
     whys = "; ".join(dict.fromkeys(why for _, why in row.bodies))
-    items = cut([body_item(body) for body, _ in row.bodies], "rule_wrong_body.csv")
+    items = cut([body_item(dossier, body) for body, _ in row.bodies], "rule_wrong_body.csv")
     is_open = "own wrong body" in row.missing
     own = "" if row.has_own_body else "<b class=none>none of its own: this is open</b> " if is_open else "none is asked of a law; near it are some "
     return f"{own}<i>({whys})</i>{items}{audit_words(dossier, list(dict.fromkeys(body.crate for body, _ in row.bodies)))}"

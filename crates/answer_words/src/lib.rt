@@ -20,7 +20,8 @@ pub use explainer::Explainer;
 pub use files::{open, open_text};
 pub use names::InputNames;
 pub use notices::{
-    words_of_awaited, words_of_stored_run, words_of_unwritten_log, words_of_unwritten_output,
+    words_of_awaited, words_of_stored_run, words_of_unwritten_answer, words_of_unwritten_log,
+    words_of_unwritten_output,
 };
 pub use terminal::Terminal;
 pub use told::{RunFiles, Told, name_of_core};

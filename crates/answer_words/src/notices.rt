@@ -31,6 +31,13 @@ pub fn words_of_unwritten_log(alloc: Global, name: &str, why: impl Display + Dro
     words
 }
 
+/// That the answer could not be written as JSON to the file of this name, and why.
+pub fn words_of_unwritten_answer(alloc: Global, name: &str, why: impl Display + Drop) -> Words {
+    let mut words = Words::new(alloc);
+    words.say(format_args!("{name}: the answer could not be written: {why}"));
+    words
+}
+
 /// That the line could not be written.
 pub fn words_of_unwritten_output(alloc: Global) -> Words {
     let mut words = Words::new(alloc);

@@ -1,2 +1,4 @@
+mod Below
 mod Requested
 mod Failed
+mod Walked

@@ -48,18 +48,21 @@ module _ (matches : ArgMatches) (given : List Row) (is : rows_of (found_of match
 
   -- what each part is found to be is what the rows of the command line give
   pub asks_for : (asked : FilesAsked) → AreNamed (found_of matches) asked.names → option_map string_bytes asked.sarif ≡ first_value (found_of matches) (codes "sarif")
+      → option_map string_bytes asked.source_root ≡ first_value (found_of matches) (codes "source-root") → option_map string_bytes asked.json ≡ first_value (found_of matches) (codes "json")
       → Ok asked.options ≡ ok_or (values_of (first_value (found_of matches) (codes "max-elapsed")) (first_value (found_of matches) (codes "forbid"))) UsageFault.Usage
       → Ok asked.settings
       ≡ ok_or (option_and_then (λ workers. settings_of workers (first_value (found_of matches) (codes "depth"))) (first_value (found_of matches) (codes "workers"))) UsageFault.Usage
       → Ok asked.at_least ≡ ok_or (least_of (first_value (found_of matches) (codes "at-least"))) UsageFault.Usage
       → Tells (one_text (found_of matches) (codes "last")) asked.last → Tells (one_text (found_of matches) (codes "quiet")) asked.quiet
       → AsksFor given asked
-  asks_for asked names sarif options settings least last quiet = record {
+  asks_for asked names sarif source_root json options settings least last quiet = record {
     config = names.config ∙ first (codes "config");
     rules = names.rules ∙ first (codes "rules");
     order = names.order ∙ first (codes "order");
     cores = names.cores ∙ all (codes "core");
     sarif = sarif ∙ first (codes "sarif");
+    source_root = source_root ∙ first (codes "source-root");
+    json = json ∙ first (codes "json");
     options = value_of _ UsageFault.Usage asked.options options ∙ ap₂ values_of (first (codes "max-elapsed")) (first (codes "forbid"));
     settings = value_of _ UsageFault.Usage asked.settings settings
         ∙ ap₂ (λ depth text. option_and_then (λ workers. settings_of workers depth) text) (first (codes "depth")) (first (codes "workers"));

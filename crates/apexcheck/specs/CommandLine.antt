@@ -40,16 +40,18 @@ options_of_a_check = with_rule (with_rule (with_rule (with_rule no_words
     (wanted (option_of (codes "workers"))))
     (option_of (codes "depth"))
 
--- the options for rules, the one for the least number of records, and those for what is reported
+-- the options for rules, the one for the least number of records, and those for what is reported and written
 abbrev pub options : App
-options = with_rule (with_rule (with_rule (with_rule (with_rule (with_rule (with_rule options_of_a_check
+options = with_rule (with_rule (with_rule (with_rule (with_rule (with_rule (with_rule (with_rule (with_rule options_of_a_check
     (option_of (codes "max-elapsed")))
     (option_of (codes "forbid")))
     (option_of (codes "rules")))
     (option_of (codes "at-least")))
     (flag_of (codes "last")))
     (flag_of (codes "quiet")))
-    (option_of (codes "sarif"))
+    (option_of (codes "sarif")))
+    (option_of (codes "source-root")))
+    (option_of (codes "json"))
 
 -- the words of a run over files: each option at most once, and the recordings
 abbrev pub command_line : App

@@ -9,6 +9,7 @@ use Rattle.report.specs.Text.{outcome_status_of, report_of}
 use Rattle.verdict_merge.specs.declared.verdict.Verdict.{Verdict}
 use Rattle.verdict_merge.specs.declared.verdict.Verdict.TheVariants.{Yes}
 use Rattle.apexcheck.specs.declared.ending.CheckEnd.{CheckEnd}
+use Rattle.apexcheck.specs.declared.ending.TheConstants.{VERSION}
 use Rattle.apexcheck.specs.declared.ending.CheckEnd.TheVariants.{Checked, Few, Version}
 
 -- the end by a refusal of an input, or by a lack of memory: it is the check's own, and nothing is reported after it
@@ -30,7 +31,7 @@ lines_after (Some items) = last_lines items
 abbrev pub own_text_of : CheckEnd → List ℕ
 own_text_of (Checked outcome last) = report_of outcome ++ lines_after last
 own_text_of (Few records) = codes "REFUSED few records=" ++ (decimal records ++ codes "\n")
-own_text_of Version = codes "apexcheck 1.0.0\n"
+own_text_of Version = codes "apexcheck " ++ (VERSION.now ++ codes "\n")
 
 -- the end of a check by its outcome: a Yes for fewer records than are required is refused; every other outcome is reported, followed by the
 -- last records if they are requested

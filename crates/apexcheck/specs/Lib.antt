@@ -4,6 +4,7 @@ pub mod Settings
 pub mod Words
 pub mod Wrong
 pub mod Endings
+pub mod FileNames
 pub mod Files
 pub mod Folders
 pub mod Ruled

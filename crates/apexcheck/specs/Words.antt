@@ -36,6 +36,8 @@ pub record AsksFor (given : List Row) (asked : FilesAsked) : Type 0 where
   pub order : Some (string_bytes asked.names.order) ≡ first_of (codes "order") given
   pub cores : Some (map string_bytes asked.names.cores.items) ≡ all_of (codes "core") given
   pub sarif : option_map string_bytes asked.sarif ≡ first_of (codes "sarif") given
+  pub source_root : option_map string_bytes asked.source_root ≡ first_of (codes "source-root") given
+  pub json : option_map string_bytes asked.json ≡ first_of (codes "json") given
   pub options : Some asked.options ≡ values_of (first_of (codes "max-elapsed") given) (first_of (codes "forbid") given)
   pub settings : Some asked.settings ≡ option_and_then (λ workers. settings_of workers (first_of (codes "depth") given)) (first_of (codes "workers") given)
   pub at_least : Some asked.at_least ≡ least_of (first_of (codes "at-least") given)

@@ -3,15 +3,18 @@
 ghost use Rattle.std.specs.Prelude.{◌≡◌, ◌≢◌, ◌<◌, ◌++◌, OnErr, OnOk};
 ghost use Rattle.program_ends.specs.Endings.{exit_status_of, text_of};
 ghost use Rattle.report.specs.Text.{report_of};
-ghost use Rattle.apexcheck.specs.declared.ending.CheckEnd.TheVariants.{Few};
+ghost use Rattle.apexcheck.specs.declared.ending.CheckEnd.TheVariants.{Few, Version};
 ghost use Rattle.apexcheck.specs.Endings.{end_of_check, lines_after, own_status_of, own_text_of, refusing};
 ghost use Rattle.sink.specs.Written.{IsCut, IsWritten};
 
 use itoa::Buffer;
 use program_ends::{Ending, OwnEnd, UNWRITTEN, status_of, write_text};
 use report::{CheckFault, Last, Verdict, status_of_outcome, write_last, write_report};
-use sink::{Sink, WriteFault, WriterSink, put_all, put_parts};
+use sink::{Sink, WriteFault, WriterSink, put_parts};
 use std::io::Write;
+
+/// The version of the program.
+pub const VERSION: &str = "1.0.0";
 
 /// How a run ends that was not kept from what was requested.
 #[derive(Drop)]
@@ -56,7 +59,7 @@ impl OwnEnd for CheckEnd {
         match self {
             CheckEnd::Checked { outcome, last } => write_outcome(w, outcome, last),
             CheckEnd::Few { records } => write_few(w, *records),
-            CheckEnd::Version => put_all(w, b"apexcheck 1.0.0\n"),
+            CheckEnd::Version => write_version(w),
         }
     }
 }
@@ -111,6 +114,16 @@ fn write_few<W: Sink>(w: &mut W, records: u64) -> Result<(), WriteFault>
             b"\n",
         ],
     )
+}
+
+// Writes the version.
+fn write_version<W: Sink>(w: &mut W) -> Result<(), WriteFault>
+    ensures whole { OnOk result (IsWritten (W.bytes w.old) (own_text_of Version) (W.bytes w.new)) }
+    ensures same { OnOk result (W.failures w.new ≡ W.failures w.old) }
+    ensures cut { OnErr result (IsCut (W.bytes w.old) (own_text_of Version) (W.bytes w.new)) }
+    ensures failed { OnErr result (W.failures w.old < W.failures w.new) }
+{
+    put_parts(w, &[b"apexcheck ", VERSION.as_bytes(), b"\n"])
 }
 
 /// Writes the text of an end through a writer, flushes the writer, and returns the exit status of the run. Takes no memory.

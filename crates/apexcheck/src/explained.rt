@@ -1,11 +1,12 @@
 // The answer in words, on standard error, after its line. It decides nothing: a failure there, or a lack of memory, ends only the words.
 
 use crate::ending::CheckEnd;
+use crate::json::write_answer;
 use crate::sarif::write_log;
 use crate::usage::{Asked, FilesAsked};
 use answer_words::{
-    Explainer, RunFiles, Told, words_of_stored_run, words_of_unwritten_log,
-    words_of_unwritten_output,
+    Explainer, RunFiles, Told, words_of_stored_run, words_of_unwritten_answer,
+    words_of_unwritten_log, words_of_unwritten_output,
 };
 use program_ends::{Ending, UNWRITTEN, UsageFault};
 use report::Verdict;
@@ -17,7 +18,7 @@ use wording::{Documents, Look, Program, Words, tell_usage};
 
 /// Explains the line to a person: where the record, the row or the key is, what was found and what was expected; which keys of the
 /// configuration are ignored; and which recordings have no record. With `--quiet` it prints only what was noted. With `--sarif` it writes
-/// the outcome as a log.
+/// the outcome as a log, and with `--json` the answer as data.
 ///
 /// `status` is the exit status of the program.
 pub fn explain<'a, R: Env + Files<File = F> + Eprint + AllocGlobal, F: Read + Write + Drop>(
@@ -44,8 +45,19 @@ pub fn explain<'a, R: Env + Files<File = F> + Eprint + AllocGlobal, F: Read + Wr
     }
 }
 
+/// What is written of the end of a run over files, as a log or as data.
+#[derive(Drop)]
+pub struct Explained<'e, 'a> {
+    pub ending: &'e Ending<CheckEnd>,
+    pub explainer: &'a Explainer,
+    /// Why the answer is not Yes. None after a Yes, or if only a note says why.
+    pub told: Option<Told<'a>>,
+    /// The exit status of the program.
+    pub status: u8,
+}
+
 // Explains the end of a run over files.
-fn explain_files<'a, R: Files<File = F> + Eprint, F: Read + Write + Drop>(
+fn explain_files<'a, R: Env + Files<File = F> + Eprint + AllocGlobal, F: Read + Write + Drop>(
     rt: &'a R,
     alloc: Global,
     asked: &'a FilesAsked,
@@ -55,31 +67,65 @@ fn explain_files<'a, R: Files<File = F> + Eprint, F: Read + Write + Drop>(
     status: u8,
 ) {
     tell(rt, explainer.noted(), look);
-    let names = &asked.names;
-    if asked.quiet && asked.sarif.is_none() {
+    if asked.quiet && !asked.writes_file() {
         return;
     }
-    let files = RunFiles { rt, alloc, names };
-    let told = told_of(&files, asked, ending, explainer);
+    let files = RunFiles {
+        rt,
+        alloc,
+        names: &asked.names,
+    };
+    let explained = Explained {
+        ending,
+        explainer,
+        told: told_of(&files, asked, ending, explainer),
+        status,
+    };
     if !asked.quiet {
-        tell(rt, &files.unknown_keys(explainer), look);
-        tell(rt, &files.warnings(explainer), look);
-        if let Some(told) = &told {
-            tell(rt, &told.words, look);
-        }
-        if let Ending::Own(
-            CheckEnd::Checked {
-                outcome: Ok(Verdict::Yes { records }),
-                ..
-            },
-        ) = ending
-        {
-            tell(rt, &files.without_records(*records), look);
+        tell_end(&files, &explained, look);
+    }
+    write_files(&files, asked, &explained, look);
+}
+
+// Prints what the end of a run rests on, and what else a person needs to know of its files.
+fn tell_end<'a, R: Files<File = F> + Eprint, F: Read + Drop>(
+    files: &RunFiles<'a, R>,
+    explained: &Explained<'_, 'a>,
+    look: Look<'_>,
+) {
+    let rt = files.rt;
+    tell(rt, &files.unknown_keys(explained.explainer), look);
+    tell(rt, &files.warnings(explained.explainer), look);
+    if let Some(told) = &explained.told {
+        tell(rt, &told.words, look);
+    }
+    if let Ending::Own(
+        CheckEnd::Checked {
+            outcome: Ok(Verdict::Yes { records }),
+            ..
+        },
+    ) = explained.ending
+    {
+        tell(rt, &files.without_records(*records), look);
+    }
+}
+
+// Writes the log and the data that are requested.
+fn write_files<'a, R: Env + Files<File = F> + Eprint + AllocGlobal, F: Read + Write + Drop>(
+    files: &RunFiles<'a, R>,
+    asked: &FilesAsked,
+    explained: &Explained<'_, 'a>,
+    look: Look<'_>,
+) {
+    let (rt, alloc) = (files.rt, files.alloc);
+    if let Some(name) = &asked.sarif {
+        if let Err(e) = write_log(files, asked, name, explained) {
+            tell(rt, &words_of_unwritten_log(alloc, name, e), look);
         }
     }
-    if let Some(name) = &asked.sarif {
-        if let Err(e) = write_log(&files, name, ending, explainer, told.as_ref(), status) {
-            tell(rt, &words_of_unwritten_log(alloc, name, e), look);
+    if let Some(name) = &asked.json {
+        if let Err(e) = write_answer(files, asked, name, explained) {
+            tell(rt, &words_of_unwritten_answer(alloc, name, e), look);
         }
     }
 }

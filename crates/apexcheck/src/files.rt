@@ -151,7 +151,7 @@ impl<S: TextSource + Drop + Send + 'static> Opened<S> {
         end_watch(rt, &awaited, watching);
         note_broken(explainer, alloc, &options, &rules, &outcome);
         explainer.note_configuration(&config);
-        if asked.sarif.is_some() {
+        if asked.writes_file() {
             explainer.keep_last(&last);
         }
         end_of_check(asked.at_least, outcome, where_asked(asked.last, last))

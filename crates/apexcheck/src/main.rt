@@ -9,7 +9,7 @@
 //!
 //! `run` makes these promises (`Runs.antt`). `main` passes to it the files, the terminal, the words and the output of the system, and ends
 //! with the status that it returns. `carry_out` first reserves the stack that a run may need. At the end `run` writes the line, then the
-//! explanation (`explain`), and then the log of `--sarif`. No rule of the machine is here.
+//! explanation (`explain`), and then the log of `--sarif` and the answer of `--json`. No rule of the machine is here.
 //!
 //! `Opened` holds what was opened in a `Folder`. Its `check` judges the rules file (`read_rules`), then checks under the relations of the
 //! options, followed by clones of the file's relations (`check_ruled`). `check_files` opens the files and passes on the answer of `check`.
@@ -41,12 +41,21 @@ mod course;
 mod ending;
 mod explained;
 mod files;
+mod fingerprint;
 mod folder;
+mod json;
+mod last_records;
+mod result_rule;
+mod rows;
 mod ruled;
 mod sarif;
+mod sentences;
 mod settings;
+mod site;
+mod source_root;
 mod stored;
 mod usage;
+mod whole_file;
 mod words;
 
 use answer_words::{Explainer, Terminal};

@@ -1,6 +1,6 @@
 // The words of the command line.
 
-ghost use Rattle.std.specs.Prelude.{◌≡◌, ◌≢◌, ◌<◌, ◌≤◌, IfErr, IfOk, IsTrue, None, Ok, Some, codes, false, length, map, option_and_then, option_map, string_bytes, true};
+ghost use Rattle.std.specs.Prelude.{◌≡◌, ◌≢◌, ◌<◌, ◌≤◌, ◌||◌, IfErr, IfOk, IsTrue, None, Ok, Some, codes, false, is_some, length, map, option_and_then, option_map, string_bytes, true};
 ghost use Rattle.std.specs.Option.{ok_or};
 ghost use Rattle.clap.specs.Takes.{takes};
 ghost use Rattle.clap.specs.Walk.{rows_of};
@@ -38,6 +38,10 @@ pub struct FilesAsked {
     pub names: InputNames,
     /// Where the outcome is written as a SARIF log, if it is.
     pub sarif: Option<String>,
+    /// The folder from which the log names its files, if one is given.
+    pub source_root: Option<String>,
+    /// Where the answer is written as JSON, if it is.
+    pub json: Option<String>,
     /// The rules that are requested by options of their own.
     pub options: RuleOptions,
     /// How the check is carried out.
@@ -48,6 +52,15 @@ pub struct FilesAsked {
     pub last: bool,
     /// Whether standard error should not explain why the answer is not Yes.
     pub quiet: bool,
+}
+
+impl FilesAsked {
+    /// Whether the outcome is written to a file.
+    pub fn writes_file(&self) -> bool
+        ensures { result ≡ (is_some self.now.sarif || is_some self.now.json) }
+    {
+        self.sarif.is_some() || self.json.is_some()
+    }
 }
 
 /// Reads what these words request. The first word is the program's own name.
@@ -90,7 +103,9 @@ fn files_asked(alloc: Global, words: &[String]) -> Result<FilesAsked, UsageFault
     let matches = parsed(alloc, words)?;
     Ok(FilesAsked {
         names: file_names(alloc, &matches)?,
-        sarif: sarif_asked(alloc, &matches)?,
+        sarif: name_asked(alloc, &matches, "sarif")?,
+        source_root: name_asked(alloc, &matches, "source-root")?,
+        json: name_asked(alloc, &matches, "json")?,
         options: rule_options(&matches)?,
         settings: settings_asked(&matches)?,
         at_least: least_asked(&matches)?,
@@ -211,13 +226,17 @@ fn owned_names(
     })
 }
 
-// Where the outcome is to be written as a SARIF log, if it is.
-fn sarif_asked(alloc: Global, matches: &ArgMatches<'_>) -> Result<Option<String>, UsageFault>
-    ensures named { IfOk result (λ sarif. option_map string_bytes sarif ≡ first_value (found_of matches.now) (codes "sarif")) }
+// The name that is given to the option of this name, if there is one.
+fn name_asked(
+    alloc: Global,
+    matches: &ArgMatches<'_>,
+    name: &str,
+) -> Result<Option<String>, UsageFault>
+    ensures named { IfOk result (λ named. option_map string_bytes named ≡ first_value (found_of matches.now) name.now) }
     ensures refused { IfErr result (λ fault. fault ≢ UsageFault.Usage) }
 {
-    match owned_if_named(alloc, matches.get_str("sarif")) {
-        Ok(sarif) => Ok(sarif),
+    match owned_if_named(alloc, matches.get_str(name)) {
+        Ok(named) => Ok(named),
         Err(_) => Err(UsageFault::Memory),
     }
 }
@@ -260,6 +279,8 @@ fn command<'a>(alloc: Global) -> Result<Command<'a>, AllocError>
         .arg(flag(alloc, "last"))?
         .arg(flag(alloc, "quiet"))?
         .arg(option(alloc, "sarif"))?
+        .arg(option(alloc, "source-root"))?
+        .arg(option(alloc, "json"))?
         .arg(recordings(alloc))
 }
 

@@ -5,3 +5,4 @@ pub mod Line
 pub mod Pieces
 pub mod Front
 pub mod Text
+pub mod Numbered

@@ -1,13 +1,15 @@
 // A text some bytes of which are read ahead, and the plain lines at its front.
 
-ghost use Rattle.std.specs.Prelude.{◌≡◌, ◌<◌, ◌≤◌, IfOk, OnOk, false, true, drop, length, take};
+ghost use Rattle.std.specs.Prelude.{◌≡◌, ◌<◌, ◌≤◌, All, IfOk, IfSome, None, OnOk, false, true, drop, length, take};
 ghost use Rattle.std.specs.Io.KnownBytes.{IsAtEnd, Keeps};
 ghost use Rattle.csv_rows.specs.Front.{HasFields, IsLine};
-ghost use Rattle.csv_rows.specs.Line.{split};
+ghost use Rattle.csv_rows.specs.Line.{IsPlain, split};
+ghost use Rattle.csv_rows.specs.Numbered.{IsNumbered, IsPair, TakesKnown};
 ghost use Rattle.csv_rows.specs.Text.{IsFrontOf, ReportsFailure, TakesLine, mark_length as mark_length_of, rows_left, text_of, unread_of};
 
 use crate::fields::RowFields;
 use crate::front::{Front, Line};
+use crate::numbered::{numbered_at, pair_at};
 use crate::stream::StreamFault;
 use crate::text_source::TextSource;
 
@@ -190,6 +192,39 @@ impl<R: TextSource> Ahead<R> {
         }
         self.at = self.bytes.len();
         Taken::Row
+    }
+
+    /// The two numbers of the next row, which is taken, if it is such a row and has been read ahead.
+    #[inline(always)]
+    pub fn take_pair(&mut self) -> Option<(u32, u32)>
+        ensures takes { IfSome result (λ pair. TakesKnown (IsPair pair) (rows_left (text_of R.remaining self.old)) (rows_left (text_of R.remaining self.new))) }
+        ensures other { result ≡ None → self.new ≡ self.old }
+        ensures source { self.new.source ≡ self.old.source }
+    {
+        if !self.is_begun {
+            return None;
+        }
+        let found = pair_at(self.unread())?;
+        self.at += found.taken;
+        Some((found.first, found.second))
+    }
+
+    /// Takes the next row if it is this number and, after a comma, this line, and has been read ahead. Answers whether it was taken.
+    #[inline(always)]
+    pub fn take_numbered(&mut self, number: u32, line: &[u8]) -> bool
+        requires plain { All IsPlain line.now }
+        ensures takes { result ≡ true → TakesKnown (IsNumbered number line.now) (rows_left (text_of R.remaining self.old)) (rows_left (text_of R.remaining self.new)) }
+        ensures other { result ≡ false → self.new ≡ self.old }
+        ensures source { self.new.source ≡ self.old.source }
+    {
+        if !self.is_begun {
+            return false;
+        }
+        let Some(taken) = numbered_at(self.unread(), number, line) else {
+            return false;
+        };
+        self.at += taken;
+        true
     }
 }
 

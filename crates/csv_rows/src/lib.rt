@@ -19,6 +19,7 @@ mod cut;
 mod decimal;
 mod fields;
 mod front;
+mod numbered;
 mod source_reader;
 mod stream;
 mod text;

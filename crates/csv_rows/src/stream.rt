@@ -1,6 +1,8 @@
 // The rows of a text, as raw fields.
 
-ghost use Rattle.std.specs.Prelude.{◌≡◌, false, true, not, is_err, IfOk, IfSome, Ok, Err, option_map};
+ghost use Rattle.std.specs.Prelude.{◌≡◌, All, None, false, true, not, is_err, IfOk, IfSome, Ok, Err, option_map};
+ghost use Rattle.csv_rows.specs.Line.{IsPlain};
+ghost use Rattle.csv_rows.specs.Numbered.{IsNumbered, IsPair, TakesKnown};
 ghost use Rattle.csv_rows.specs.Stream.{Takes, rows_of};
 
 use crate::ahead::Ahead;
@@ -117,6 +119,53 @@ impl<R: TextSource> CsvRows<R> {
                 self.starved = fault == StreamFault::Memory;
                 Err(fault)
             }
+        }
+    }
+
+    /// The two numbers of the next row, which is taken, if it is such a row and its whole line has been read ahead.
+    ///
+    /// None says nothing of the row, takes nothing and changes nothing: `read` gives the row. So it is for the first row, for a line that has
+    /// not been read ahead up to its line feed, for numbers of more than nine digits, and once `csv` reads the text.
+    pub fn take_pair(&mut self) -> Option<(u32, u32)>
+        requires going { self.old.stopped ≡ false }
+        ensures takes { IfSome result (λ pair. TakesKnown (IsPair pair) self.old.left self.new.left) }
+        ensures other { result ≡ None → self.new ≡ self.old }
+        ensures going { self.new.stopped ≡ false }
+        ensures ended { self.new.ended ≡ self.old.ended }
+        ensures failed { self.new.failed ≡ self.old.failed }
+        ensures sound { self.old.failed ≡ true → result ≡ None }
+        ensures stays { self.old.ended ≡ true → result ≡ None }
+    {
+        if !self.begun || self.ended {
+            return None;
+        }
+        match &mut self.text {
+            Text::Lines(ahead) => ahead.take_pair(),
+            Text::Records(_) => None,
+        }
+    }
+
+    /// Takes the next row if it is this number and, after a comma, this line, and its whole line has been read ahead. Answers whether it was
+    /// taken.
+    ///
+    /// False says nothing of the row, takes nothing and changes nothing, as for `take_pair`.
+    pub fn take_numbered(&mut self, number: u32, line: &[u8]) -> bool
+        requires going { self.old.stopped ≡ false }
+        requires plain { All IsPlain line.now }
+        ensures takes { result ≡ true → TakesKnown (IsNumbered number line.now) self.old.left self.new.left }
+        ensures other { result ≡ false → self.new ≡ self.old }
+        ensures going { self.new.stopped ≡ false }
+        ensures ended { self.new.ended ≡ self.old.ended }
+        ensures failed { self.new.failed ≡ self.old.failed }
+        ensures sound { self.old.failed ≡ true → result ≡ false }
+        ensures stays { self.old.ended ≡ true → result ≡ false }
+    {
+        if !self.begun || self.ended {
+            return false;
+        }
+        match &mut self.text {
+            Text::Lines(ahead) => ahead.take_numbered(number, line),
+            Text::Records(_) => false,
         }
     }
 }

@@ -40,11 +40,10 @@ pub fn tell_since(words: &mut Words, place: u64) {
 /// Reports the state of a process: dormant, faulted, suspended, waiting, or ready.
 pub fn tell_standing(words: &mut Words, proc: ProcId, process: &Process) {
     if !process.alive {
-        words.say(if proc.number() == 0 {
-            " ended when its partition entered NORMAL mode"
-        } else {
-            " is dormant"
-        });
+        words.say(" is dormant");
+        if proc.number() == 0 {
+            words.say(" (in NORMAL mode it runs only as the error handler)");
+        }
         return;
     }
     if process.faulted {

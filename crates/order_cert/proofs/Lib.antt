@@ -1,3 +1,4 @@
 pub mod Counts
 pub mod Lawful
 pub mod RowFaults
+pub mod Pairs

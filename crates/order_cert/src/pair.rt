@@ -2,6 +2,7 @@
 
 ghost use Rattle.std.specs.Prelude.{◌≡◌, ◌<◌, ◌≤◌, IfOk, OnOk, IfErr, Ok, Err};
 ghost use Rattle.apex_types.specs.declared.limits.TheConstants.{PLACE_COUNT};
+ghost use Rattle.order_cert.specs.Order.{pair_of as pair_by};
 ghost use Rattle.order_cert.specs.Row.{IsOfRow, item_of, number_at};
 
 use crate::fault::CertFault;
@@ -28,6 +29,18 @@ pub fn read_item(number: u64, fields: &RowFields) -> Result<Pair, CertFault>
         core: core as u32,
         seq,
     })
+}
+
+/// The pair of a core and a number that were read.
+#[inline(always)]
+pub fn pair_read(core: u32, seq: u32) -> Pair
+    ensures pair { result ≡ pair_by core seq }
+    ensures bound { (core ≤ 0xFFFFFFFF) × (seq ≤ 0xFFFFFFFF) }
+{
+    Pair {
+        core,
+        seq: seq as u64,
+    }
 }
 
 // The number in the field at this place.

@@ -5,8 +5,9 @@ ghost use Rattle.csv_rows.specs.Source.{Gives};
 ghost use Rattle.order_cert.specs.Row.{IsOutside, pairs_of};
 
 use crate::fault::CertFault;
-use crate::pair::read_item;
+use crate::pair::{pair_read, read_item};
 use apex_types::Pair;
+use apex_types::limits::PLACE_COUNT;
 use csv_rows::{CsvRows, RowFields, StreamFault, TextSource};
 use std::alloc::Global;
 use std::marker::Model;
@@ -72,6 +73,9 @@ impl<R: TextSource> CertSource<R> {
         if self.stopped {
             return Err(CertFault::Ended);
         }
+        if let Some(pair) = self.take_pair() {
+            return Ok(Some(pair));
+        }
         self.stopped = true;
         match self.rows.read(&mut self.fields) {
             Ok(true) => {}
@@ -86,5 +90,25 @@ impl<R: TextSource> CertSource<R> {
         self.count += 1;
         self.stopped = false;
         Ok(Some(pair))
+    }
+
+    // The next pair, which is taken, if its row is one of those that are taken straight from the bytes. None changes nothing.
+    fn take_pair(&mut self) -> Option<Pair>
+        requires going { self.old.stopped ≡ false }
+        ensures gives { IfSome result (λ pair. IfSome self.old.left (λ items. Gives (IsOutside R.can_fail) items (Ok (Some pair)) self.new.left)) }
+        ensures other { result ≡ None → self.new ≡ self.old }
+        ensures going { self.new.stopped ≡ false }
+        ensures ended { self.new.ended ≡ self.old.ended }
+        ensures failed { self.new.failed ≡ self.old.failed }
+        ensures starved { self.new.starved ≡ false }
+        ensures sound { self.old.failed ≡ true → result ≡ None }
+        ensures stays { self.old.ended ≡ true → result ≡ None }
+    {
+        if self.count >= PLACE_COUNT {
+            return None;
+        }
+        let (core, seq) = self.rows.take_pair()?;
+        self.count += 1;
+        Some(pair_read(core, seq))
     }
 }

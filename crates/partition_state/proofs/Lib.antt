@@ -4,6 +4,7 @@ pub mod MutexOwners
 pub mod Sets
 pub mod ObjectCalls
 pub mod Clear
+pub mod Choosing
 pub mod MutexTransfers
 pub mod Locks
 pub mod Served

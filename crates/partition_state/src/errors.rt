@@ -155,8 +155,8 @@ impl PartitionState {
         Ok(())
     }
 
-    /// The report of an error of one of the partition's processes, at this place: it restarts the partition, or the handler is told of it, if
-    /// it takes the errors of the process. A missed deadline is taken away.
+    /// The report of an error of one of the partition's processes, at this place: it restarts the partition, or it is reported to the
+    /// handler, if that takes the errors of the process. A missed deadline is taken away.
     ///
     /// AllocError if memory for the list of errors is refused; nothing has changed then. A restart and an error that no handler takes need
     /// none.

@@ -1,10 +1,10 @@
 // A partition, and its parts.
 
-ghost use Rattle.std.specs.Prelude.{◌≡◌, ℕ, [], None, IfOk, OnOk};
+ghost use Rattle.std.specs.Prelude.{◌≡◌, ◌&&◌, ℕ, [], None, IfOk, OnOk};
 ghost use Rattle.apex_machine.specs.declared.state.StartCondition.TheVariants.{NormalStart};
 ghost use Rattle.apex_machine.specs.Configuration.{Configuration, first_core as first_core_of};
-ghost use Rattle.apex_machine.specs.Choice.{is_handling_on, is_paused, partition_choice, pauses_others};
-ghost use Rattle.apex_machine.specs.State.{cold_partition, free_lock};
+ghost use Rattle.apex_machine.specs.Choice.{is_handling_on, is_one_alive, is_paused, partition_choice, pauses_others};
+ghost use Rattle.apex_machine.specs.State.{cold_partition, free_lock, is_normal, item_at};
 ghost use Rattle.scheduling.specs.Processes.{processes_of};
 ghost use Rattle.partition_state.specs.Calls.{NumbersAreKept};
 
@@ -148,6 +148,17 @@ impl PartitionState {
     pub fn choice_on(&self, part: PartId, core: CoreId) -> Option<Who>
         ensures { result ≡ partition_choice part core self.now }
     {
+        if self.is_handler_alive() {
+            self.choice_with_handler(part, core)
+        } else {
+            self.processes.choice_on(part, core, self.lock.owner())
+        }
+    }
+
+    // The choice where the error handler is not dormant.
+    fn choice_with_handler(&self, part: PartId, core: CoreId) -> Option<Who>
+        ensures { result ≡ partition_choice part core self.now }
+    {
         if self.is_handling_on(core) {
             return Some(Who {
                 part,
@@ -158,6 +169,13 @@ impl PartitionState {
             return None;
         }
         self.processes.choice_on(part, core, self.lock.owner())
+    }
+
+    // Whether the error handler is not dormant.
+    fn is_handler_alive(&self) -> bool
+        ensures { result ≡ (is_normal self.now.mode && is_one_alive (item_at self.now.table 0)) }
+    {
+        self.processes.mode() == Mode::Normal && self.processes.is_alive(ProcId::new(0))
     }
 
     // Whether the error handler is ready on this core.
@@ -171,9 +189,7 @@ impl PartitionState {
     fn is_paused(&self) -> bool
         ensures { result ≡ is_paused self.now }
     {
-        self.processes.mode() == Mode::Normal
-            && self.processes.is_alive(ProcId::new(0))
-            && self.others_pause()
+        self.is_handler_alive() && self.others_pause()
     }
 
     // Whether there is a handler for which the other cores stand still.

@@ -410,7 +410,9 @@ impl PartitionPiece {
         }
     }
 
-    // In the partition's windows a dispatch finds no missed deadline, and names the partition's choice.
+    // In the partition's windows a dispatch finds no missed deadline, and names the partition's choice. Most ticks and dispatches are outside
+    // the windows of a partition, so its test is where they are judged.
+    #[inline(always)]
     fn judge_dispatch(
         &self,
         config: &Config,

@@ -9,3 +9,4 @@ pub mod GrammarTexts
 pub mod Hexadecimal
 pub mod Memory
 pub mod Pieces
+pub mod QuietTicks

@@ -10,3 +10,4 @@ pub mod Memory
 pub mod Grammar
 pub mod FirstFault
 pub mod GrammarLaws
+pub mod Quiet

@@ -23,6 +23,7 @@ mod laws;
 mod misread;
 mod named;
 mod payload;
+mod quiet;
 mod request;
 mod ret;
 mod row;

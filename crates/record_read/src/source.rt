@@ -3,13 +3,16 @@
 ghost use Rattle.std.specs.Prelude.{◌≡◌, ◌≢◌, ◌⊎◌, false, true, is_err, IfOk, IfErr, IfSome, Ok, Err, Some, None, is_none, option_map};
 ghost use Rattle.csv_rows.specs.Source.{Gives};
 ghost use Rattle.record_read.specs.Memory.{NextNeedsMemory};
+ghost use Rattle.record_read.specs.Quiet.{quiet_tick};
 ghost use Rattle.record_read.specs.Row.{records_of};
 ghost use Rattle.record_read.specs.Steps.{IsOutside};
 
 use crate::fault::RowFault;
 use crate::format::format_by;
+use crate::quiet::quiet_line;
 use crate::row::read_record_explained;
-use apex_types::{Format, Record};
+use apex_types::limits::MOST_RECORDS;
+use apex_types::{Body, Format, Record, Woken};
 use csv_rows::{CsvRows, RowFields, StreamFault, TextSource};
 use std::alloc::Global;
 use std::marker::Model;
@@ -89,6 +92,10 @@ impl<R: TextSource> RowSource<R> {
         if self.stopped {
             return Err(RowFault::Ended);
         }
+        if let Some(seq) = self.take_tick() {
+            let body = Body::Tick(Woken::none(self.alloc));
+            return Ok(Some(Record { seq, body }));
+        }
         self.stopped = true;
         match self.rows.read(&mut self.fields) {
             Ok(true) => {}
@@ -108,5 +115,30 @@ impl<R: TextSource> RowSource<R> {
         self.count += 1;
         self.stopped = false;
         Ok(Some(made))
+    }
+
+    // The number of the next row, which is taken, if it is a tick that ends no wait and is taken straight from the bytes. None changes
+    // nothing.
+    fn take_tick(&mut self) -> Option<u32>
+        requires going { self.old.stopped ≡ false }
+        ensures gives { IfSome result (λ number. IfSome self.old.left (λ items. Gives (IsOutside R.can_fail) items (Ok (Some (quiet_tick number))) self.new.left)) }
+        ensures other { result ≡ None → self.new ≡ self.old }
+        ensures going { self.new.stopped ≡ false }
+        ensures ended { self.new.ended ≡ self.old.ended }
+        ensures failed { self.new.failed ≡ self.old.failed }
+        ensures starved { self.new.starved ≡ false }
+        ensures sound { self.old.failed ≡ true → result ≡ None }
+        ensures stays { self.old.ended ≡ true → result ≡ None }
+    {
+        let format = self.format?;
+        let number = self.count;
+        if number >= MOST_RECORDS {
+            return None;
+        }
+        if !self.rows.take_numbered(number, quiet_line(format)) {
+            return None;
+        }
+        self.count += 1;
+        Some(number)
     }
 }

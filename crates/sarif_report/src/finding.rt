@@ -1,4 +1,17 @@
-// What a log says of the outcome of a check.
+// What a log says of a run and of the outcome of its check.
+
+/// The run that a log is of.
+#[derive(Clone, Copy, Debug)]
+pub struct LoggedRun<'a> {
+    /// The version of the program.
+    pub version: &'a str,
+    /// The exit status of the program.
+    pub status: u8,
+    /// The folder from which files are named, as an absolute name that ends with a slash, if it is known.
+    pub root: Option<&'a str>,
+    /// What distinguishes the results of this run from those of other runs.
+    pub id: &'a str,
+}
 
 /// The rule of a result: its identifier, what it demands, and where the documents describe it.
 #[derive(Clone, Copy, Debug)]
@@ -8,7 +21,7 @@ pub struct ResultRule<'a> {
     pub section: &'a str,
 }
 
-/// A place in a file: the line, counted from 1, if it is known.
+/// A place in a file: the line, counted from 1, if it is known. A name that is not absolute is from the folder of the run's `root`.
 #[derive(Clone, Copy, Debug)]
 pub struct Location<'a> {
     pub file: &'a str,
@@ -20,7 +33,9 @@ pub struct Location<'a> {
 pub struct Finding<'a> {
     pub rule: ResultRule<'a>,
     pub message: &'a str,
-    pub location: Option<Location<'a>>,
+    pub location: Location<'a>,
+    /// What stays the same of the result if other rows are added or left out.
+    pub fingerprint: &'a str,
 }
 
 /// A record before the place of a No or of a broken rule.

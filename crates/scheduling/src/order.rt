@@ -147,6 +147,10 @@ pub fn is_some_reached(due_times: &Sorted<DueTime>, core: CoreId, time: u64) -> 
     ensures { result ≡ firsts.some_reached core time due_times.now.keys }
 {
     let in_order = due_times.as_slice();
+    // Most partitions have no deadlines.
+    if in_order.is_empty() {
+        return false;
+    }
     let place = due_times
         .guess(core)
         .begin()

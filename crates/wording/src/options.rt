@@ -82,7 +82,7 @@ const MOST: u64 = 4_294_967_295;
 const LAST_PLACE: u64 = 4_611_686_018_427_387_903;
 
 /// The options of `apexcheck`.
-pub static CHECK_OPTIONS: [ProgramOption; 11] = [
+pub static CHECK_OPTIONS: [ProgramOption; 13] = [
     row!(required "--config", Takes::File),
     row!(required "--order", Takes::File),
     row!(required "--workers", number!("number", 1, 64)),
@@ -92,6 +92,8 @@ pub static CHECK_OPTIONS: [ProgramOption; 11] = [
     row!("--rules", Takes::File),
     row!("--at-least", number!("number of records", 0, MOST)),
     row!("--sarif", Takes::File),
+    row!("--source-root", Takes::File),
+    row!("--json", Takes::File),
     row!("--last", Takes::Nothing),
     row!("--quiet", Takes::Nothing),
 ];

@@ -14,7 +14,8 @@ order. Without arguments, it checks a stored example.
   speed:  --workers N (threads, 1 to 64), --depth N (records read ahead)
   rules:  --max-elapsed TICKS, --forbid SERVICE, --rules FILE,
           --at-least RECORDS (refuse a YES for fewer)
-  output: --last (the records before a NO), --sarif FILE (a log), --quiet";
+  output: --last (the records before a NO), --sarif FILE (a log),
+          --source-root FOLDER, --json FILE (the answer as data), --quiet";
 
 const ORDER_HELP: &str = "usage: apexorder --config FILE [OPTION]... CORE...
        apexorder --version | --help

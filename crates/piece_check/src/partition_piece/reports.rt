@@ -17,7 +17,7 @@ use module_config::Config;
 use wait_set::ObjFault;
 
 impl PartitionPiece {
-    // The report of an error is judged, and the partition of the process that has the error is told of it.
+    // The report of an error is judged, and the error is reported to the partition of the process that has it.
     pub(super) fn take_error(
         &mut self,
         config: &Config,

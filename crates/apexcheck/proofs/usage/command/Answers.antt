@@ -28,4 +28,6 @@ returns c =
     let last = c.in_ok-arg-9.ensures.shape c.flag.ensures.local ∙ ap₂ with_rule least c.flag.ensures.rule in
     let quiet = c.in_ok-arg-10.ensures.shape c.flag-2.ensures.local ∙ ap₂ with_rule last c.flag-2.ensures.rule in
     let sarif = c.in_ok-arg-11.ensures.shape c.option-9.ensures.local ∙ ap₂ with_rule quiet c.option-9.ensures.rule in
-    IfOk-weaker c.arg-12.result _ _ (λ command added. added.shape c.recordings.ensures.local ∙ ap₂ with_rule sarif c.recordings.ensures.rule) c.arg-12.ensures
+    let root = c.in_ok-arg-12.ensures.shape c.option-10.ensures.local ∙ ap₂ with_rule sarif c.option-10.ensures.rule in
+    let json = c.in_ok-arg-13.ensures.shape c.option-11.ensures.local ∙ ap₂ with_rule root c.option-11.ensures.rule in
+    IfOk-weaker c.arg-14.result _ _ (λ command added. added.shape c.recordings.ensures.local ∙ ap₂ with_rule json c.recordings.ensures.rule) c.arg-14.ensures

@@ -7,7 +7,7 @@ use Rattle.apexcheck.proofs.usage.files_asked.Goals as goal
 
 pub returns : goal.returns
 returns c = record {
-  asked = asks_for c.in_ok-matches.matches _ c.in_ok-matches.ensures.found _ c.in_ok-file_names.ensures.named c.in_ok-sarif_asked.ensures.named (search rules) (search rules) (search rules)
+  asked = asks_for c.in_ok-matches.matches _ c.in_ok-matches.ensures.found _ c.in_ok-file_names.ensures.named c.in_ok-name_asked.ensures.named c.in_ok-name_asked-2.ensures.named c.in_ok-name_asked-3.ensures.named (search rules) (search rules) (search rules)
       (record { is_given = c.asks_last.ensures.given; is_not = c.asks_last.ensures.not_given; is_unknown = c.asks_last.ensures.none })
       (record { is_given = c.asks_quiet.ensures.given; is_not = c.asks_quiet.ensures.not_given; is_unknown = c.asks_quiet.ensures.none });
   refused = tt;
@@ -24,10 +24,20 @@ returns-in_err-file_names-clause-refused c =
     λ usage. inr (lacks_files c.in_ok-matches.matches _ c.in_ok-matches.ensures.found (c.in_err-file_names.ensures.refused usage)) in
     of_error _ _ (λ fault same. rw same wrong) c.from_residual-in_err-file_names.result c.from_residual-in_err-file_names.ensures.1
 
-pub returns-in_err-sarif_asked-clause-refused : goal.returns-in_err-sarif_asked-clause-refused
-returns-in_err-sarif_asked-clause-refused c =
-    let wrong : c.in_err-sarif_asked.field-0.0 ≡ Usage → IsWrong (map string_bytes c.args.words.now) = λ usage. absurd (c.in_err-sarif_asked.ensures.refused usage) in
-    of_error _ _ (λ fault same. rw same wrong) c.from_residual-in_err-sarif_asked.result c.from_residual-in_err-sarif_asked.ensures.1
+pub returns-in_err-name_asked-clause-refused : goal.returns-in_err-name_asked-clause-refused
+returns-in_err-name_asked-clause-refused c =
+    let wrong : c.in_err-name_asked.field-0.0 ≡ Usage → IsWrong (map string_bytes c.args.words.now) = λ usage. absurd (c.in_err-name_asked.ensures.refused usage) in
+    of_error _ _ (λ fault same. rw same wrong) c.from_residual-in_err-name_asked.result c.from_residual-in_err-name_asked.ensures.1
+
+pub returns-in_err-name_asked-2-clause-refused : goal.returns-in_err-name_asked-2-clause-refused
+returns-in_err-name_asked-2-clause-refused c =
+    let wrong : c.in_err-name_asked-2.field-0.0 ≡ Usage → IsWrong (map string_bytes c.args.words.now) = λ usage. absurd (c.in_err-name_asked-2.ensures.refused usage) in
+    of_error _ _ (λ fault same. rw same wrong) c.from_residual-in_err-name_asked-2.result c.from_residual-in_err-name_asked-2.ensures.1
+
+pub returns-in_err-name_asked-3-clause-refused : goal.returns-in_err-name_asked-3-clause-refused
+returns-in_err-name_asked-3-clause-refused c =
+    let wrong : c.in_err-name_asked-3.field-0.0 ≡ Usage → IsWrong (map string_bytes c.args.words.now) = λ usage. absurd (c.in_err-name_asked-3.ensures.refused usage) in
+    of_error _ _ (λ fault same. rw same wrong) c.from_residual-in_err-name_asked-3.result c.from_residual-in_err-name_asked-3.ensures.1
 
 pub returns-in_err-rule_options-clause-refused : goal.returns-in_err-rule_options-clause-refused
 returns-in_err-rule_options-clause-refused c =
