@@ -129,3 +129,93 @@ fn rows_end_at_their_places(rt: HostRuntime) -> Result<(), Fail> {
     }
     Ok(())
 }
+
+// The rows of a text after its first: each pair that is taken at once in round brackets, and of the others each field with a bar after it,
+// and each row with a slash. The first row is read in full.
+fn pairs_of(alloc: Global, text: &'static str) -> Result<Vec<u8>, AllocError> {
+    let mut rows = CsvRows::new(alloc, text.as_bytes());
+    let mut fields = RowFields::new(alloc);
+    let mut shown = Vec::new(alloc);
+    match rows.read(&mut fields) {
+        Ok(true) => {}
+        _ => return Ok(shown),
+    }
+    'turns: for _ in 0..10 {
+        if let Some((first, second)) = rows.take_pair() {
+            let pair = format!(in alloc; "({first},{second})")?;
+            shown.extend_from_slice(pair.as_bytes())?;
+            continue;
+        }
+        match rows.read(&mut fields) {
+            Ok(true) => {}
+            _ => return Ok(shown),
+        }
+        for place in 0..fields.len() {
+            shown.extend_from_slice(fields.get(place).unwrap_or(b"!"))?;
+            shown.push(b'|')?;
+        }
+        shown.push(b'/')?;
+    }
+    Ok(shown)
+}
+
+// Each text with its rows after the first.
+const PAIRS: [(&'static str, &'static str); 14] = [
+    ("1,2\n", ""),
+    ("x\n0,10\n3,4\n", "(0,10)(3,4)"),
+    ("x\n123456789,1\n", "(123456789,1)"),
+    ("x\n1234567890,1\n2,3\n", "1234567890|1|/(2,3)"),
+    ("x\n05,1\n0,1\n", "05|1|/(0,1)"),
+    ("x\n1,00\n1,0\n", "1|00|/(1,0)"),
+    ("x\n1,2,3\n4,5\n", "1|2|3|/(4,5)"),
+    ("x\n1\n2,3\n", "1|/(2,3)"),
+    ("x\n1,\n,2\n3,4\n", "1||/|2|/(3,4)"),
+    ("x\n1,2\n3,4", "(1,2)3|4|/"),
+    ("x\n1,2\r\n3,4\n", "1|2|/(3,4)"),
+    ("x\n\n1,2\n3,4\n", "1|2|/(3,4)"),
+    ("x\n\"1\",2\n3,4\n", "1|2|/3|4|/"),
+    ("x\n-1,2\n1,+2\n", "-1|2|/1|+2|/"),
+];
+
+#[test]
+fn pairs_are_taken_at_once(rt: HostRuntime) -> Result<(), Fail> {
+    let alloc = rt.alloc();
+    for (text, expected) in PAIRS {
+        let rows = pairs_of(alloc, text)?;
+        assert_eq!(rt; rows.as_slice(), expected.as_bytes(), "{text:?}");
+    }
+    Ok(())
+}
+
+// Each text, and whether `is_taken` holds of it.
+const NUMBERED: [(&'static str, bool); 10] = [
+    ("x\n7,a,,\n", true),
+    ("x\n7,a,,\ny", true),
+    ("x\n07,a,,\n", false),
+    ("x\n8,a,,\n", false),
+    ("x\n77,a,,\n", false),
+    ("x\n7,a,,,\n", false),
+    ("x\n7,a,\n", false),
+    ("x\n7,a,,", false),
+    ("x\n7,a,,\r\n", false),
+    ("x\n7;a,,\n", false),
+];
+
+// Whether the second row of a text is taken at once as that of the number 7 and the line `a,,`.
+fn is_taken(alloc: Global, text: &'static str) -> bool {
+    let mut rows = CsvRows::new(alloc, text.as_bytes());
+    let mut fields = RowFields::new(alloc);
+    match rows.read(&mut fields) {
+        Ok(true) => rows.take_numbered(7, b"a,,"),
+        _ => false,
+    }
+}
+
+#[test]
+fn numbered_rows_are_taken_at_once(rt: HostRuntime) -> Result<(), Fail> {
+    let alloc = rt.alloc();
+    for (text, expected) in NUMBERED {
+        assert_eq!(rt; is_taken(alloc, text), expected, "{text:?}");
+    }
+    Ok(())
+}
