@@ -8,8 +8,8 @@
 # orders, the walkthrough of the guide, the pictures and traces of apexview, and the recorder in C; each allocation refused in turn
 # that a waiting set makes for its first entry; and so each of the program's, without rules, with options that ask for rules, with a
 # rules file, with so many rules that several threads test them, with a message between partitions, and with several who wait at a
-# blackboard; and each of apexview's, for a page, a picture and a trace. Every part runs, also after one that fails. At the end
-# come the costs of each crate and the counts of each part. The last line is their sum, `N passed, 0 failed`.
+# blackboard; and each of apexview's, for a page, a picture and a trace, and of apexmake's. Every part runs, also after one that
+# fails. At the end come the costs of each crate and the counts of each part. The last line is their sum, `N passed, 0 failed`.
 #
 # `bash test.sh quick` shows without a proof, in minutes, that everything works. `bash audit.sh` tries all wrong bodies.
 set -euo pipefail
@@ -33,7 +33,7 @@ one_example() {
 # The programs that `rt ci` builds. If it fails, those of an earlier run may be there, and are run.
 link_programs() {
     local name
-    for name in apexcheck apexorder apexview case_runner; do
+    for name in apexcheck apexorder apexview apexmake case_runner; do
         ln -s "$PWD/crates/$name/out/$name" "$programs/$name"
     done
     ln -s "$PWD/crates/part_tests/out/part_tests_tests" "$programs/part_tests_tests"
@@ -69,6 +69,8 @@ parts_of_allocations() {
     for format in html svg trace; do
         allocations_of_view "$format"
     done
+    single "allocations of apexmake" bash .ci/refuse_allocations_of_maker "$programs/apexmake" --config examples/telemetry_departs/config.toml \
+        --seed 1 --records 20
 }
 
 parts_of_sources

@@ -1,13 +1,13 @@
-"""Recordings that are made at random, rules for them, and faults in them. A seed gives the same ones each time.
+"""Recordings that apexmake makes, rules for them, and faults in them. A seed gives the same ones each time.
 
-.ci/run_views imports it. What a check answers to such a recording is known only from apexcheck.
+.ci/run_views imports it. What a check answers to such a recording under such rules, or with such a fault, is known only from apexcheck.
 """
+import csv
 import random
 import subprocess
-import sys
+import tempfile
 from pathlib import Path
 
-MAKER = Path(__file__).resolve().parent.parent / "bench/make_random_recording.py"
 # The fields of a row, by their number.
 PART, PROC, PRIO, OUT, VAL, WOKEN = 2, 3, 10, 11, 12, 15
 SERVICES = ["GET_TIME", "TIMED_WAIT", "SIGNAL_SEMAPHORE", "SEND_BUFFER", "SET_EVENT", "RELEASE_MUTEX", "SET_PARTITION_MODE"]
@@ -15,9 +15,13 @@ SERVICES = ["GET_TIME", "TIMED_WAIT", "SIGNAL_SEMAPHORE", "SEND_BUFFER", "SET_EV
 FORMATS = ["1", "3"]
 
 
-def make(seed, records, folder):
-    """Makes the lawful recording of a seed, of at most so many records, with some rules in its options.txt."""
-    subprocess.run([sys.executable, MAKER, str(seed), str(records), folder, FORMATS[seed % 2]], check=True, capture_output=True)
+def make(maker, seed, records, folder):
+    """Makes a lawful recording of so many records by a seed, of a module of this seed, with some rules in its options.txt."""
+    module = subprocess.run([maker, "--module", str(seed)], check=True, capture_output=True).stdout
+    with tempfile.NamedTemporaryFile() as config:
+        Path(config.name).write_bytes(module)
+        words = ["--config", config.name, "--seed", str(seed), "--records", str(records), "--out", folder, "--format", FORMATS[seed % 2]]
+        subprocess.run([maker, *words], check=True, capture_output=True)
     chance = random.Random(seed)
     words = []
     if chance.random() < 0.3:
@@ -34,7 +38,7 @@ def make(seed, records, folder):
 def spoil(seed, folder):
     """Changes one thing of the recording of a seed. Returns what was changed."""
     chance = random.Random(-seed)
-    rows = {path: path.read_text().split() for path in sorted(Path(folder).glob("core*.csv"))}
+    rows = {path: _rows_of(path) for path in sorted(Path(folder).glob("core*.csv"))}
     order = Path(folder, "order.csv")
     pairs = order.read_text().split()
     what = chance.choice(["row", "row", "row", "row", "cut", "order", "end"])
@@ -43,8 +47,8 @@ def spoil(seed, folder):
     if what == "cut":
         path = chance.choice([path for path in rows if rows[path]])
         seq = chance.randrange(len(rows[path]))
-        rows[path][seq] = rows[path][seq].rpartition(",")[0]
-        path.write_text("\n".join(rows[path]) + "\n")
+        rows[path][seq].pop()
+        _write(path, rows[path])
         return f"row {seq} of {path.name} lacks a field"
     if what == "order":
         place = chance.randrange(len(pairs) - 1)
@@ -56,13 +60,25 @@ def spoil(seed, folder):
     return f"place {place} of the certificate"
 
 
+def _rows_of(path):
+    """The rows of a recording, each as its fields."""
+    with open(path, newline="", encoding="ascii") as text:
+        return list(csv.reader(text))
+
+
+def _write(path, rows):
+    """Writes the rows of a recording."""
+    with open(path, "w", newline="", encoding="ascii") as text:
+        csv.writer(text, lineterminator="\n").writerows(rows)
+
+
 def _spoil_row(chance, rows):
     """Changes a field of a row that has it, in a way that its format allows. Returns what was changed."""
-    found = [(path, seq, field) for path in rows for seq, row in enumerate(rows[path]) for field in _fields_of(row.split(","))]
+    found = [(path, seq, field) for path in rows for seq, row in enumerate(rows[path]) for field in _fields_of(row)]
     # each field as often as any other, however many rows have it
     wanted = chance.choice(sorted({field for _, _, field in found}))
     path, seq, field = chance.choice([one for one in found if one[2] == wanted])
-    values = rows[path][seq].split(",")
+    values = rows[path][seq]
     if field == WOKEN:
         values[WOKEN] = "" if values[WOKEN] else "0:1"
     elif field == OUT:
@@ -71,8 +87,7 @@ def _spoil_row(chance, rows):
         values[PART] = "31"
     else:
         values[field] = str(int(values[field]) + 1)
-    rows[path][seq] = ",".join(values)
-    path.write_text("\n".join(rows[path]) + "\n")
+    _write(path, rows[path])
     return f"field {field} of row {seq} of {path.name}"
 
 

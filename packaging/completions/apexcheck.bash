@@ -64,7 +64,7 @@ _apexcheck() {
                 return
             fi
             # Each option may be given at most once, and --version and --help only alone.
-            for given in --config --order --workers --depth --max-elapsed --forbid --rules --at-least --last --sarif --source-root --json --quiet; do
+            for given in --config --order --workers --depth --max-elapsed --forbid --rules --at-least --last --sarif --source-root --json --quiet --rows; do
                 [[ " ${COMP_WORDS[*]:1:COMP_CWORD - 1} " == *" $given"[\ =]* ]] || options="$options $given"
             done
             [ "$COMP_CWORD" != 1 ] || options="$options --version --help"

@@ -52,5 +52,6 @@ complete -c apexcheck -l sarif -r -k -a '(__apexcheck_files .sarif)' -n '__apexc
 complete -c apexcheck -l source-root -x -a '(__apexcheck_folders)' -n '__apexcheck_takes --source-root' -d 'The folder from which the log names its files'
 complete -c apexcheck -l json -r -k -a '(__apexcheck_files .json)' -n '__apexcheck_takes --json' -d 'Also write the answer to FILE as JSON'
 complete -c apexcheck -l quiet -n '__apexcheck_lacks --quiet' -d 'Do not explain the answer on standard error'
+complete -c apexcheck -l rows -n '__apexcheck_lacks --rows' -d 'Read the rows of the recordings alone; this must be the first word'
 complete -c apexcheck -l version -n 'test (count (commandline -opc)) = 1' -d 'Print the version'
 complete -c apexcheck -l help -s h -n 'test (count (commandline -opc)) = 1' -d 'Print the help'

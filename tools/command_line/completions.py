@@ -15,16 +15,19 @@ _NAME_folders() {
 
 """
 
-BASH = """\
-# Completion of NAME for bash. It needs no package of completions.
-# HEAD
-
+BASH_SERVICES = """\
 # The names that follow --forbid; docs/FORMATS.md lists them.
 _NAME_services="
 SERVICES
 "
 
-# Offers the files that end so, and the folders on the way to them: SUFFIX WORD.
+"""
+
+BASH = """\
+# Completion of NAME for bash. It needs no package of completions.
+# HEAD
+
+LISTED# Offers the files that end so, and the folders on the way to them: SUFFIX WORD.
 _NAME_files() {
     compopt -o filenames 2> /dev/null
     mapfile -t COMPREPLY < <(compgen -f -X "!*$1" -- "$2"; compgen -d -- "$2")
@@ -69,18 +72,21 @@ VALUES
 complete -F _NAME NAME
 """
 
-ZSH = """\
-#compdef NAME
-# Completion of NAME for zsh.
-# HEAD
-
+ZSH_SERVICES = """\
 # The names that follow --forbid; docs/FORMATS.md lists them.
 local -a services
 services=(
 SERVICES
 )
 
-NAMES_arguments -S \\
+"""
+
+ZSH = """\
+#compdef NAME
+# Completion of NAME for zsh.
+# HEAD
+
+LISTEDNAMES_arguments -S \\
 ARGUMENTS
 """
 
@@ -91,15 +97,18 @@ local names='FOLDER'
 
 """
 
-FISH = """\
-# Completion of NAME for fish.
-# HEAD
-
+FISH_SERVICES = """\
 # The names that follow --forbid; docs/FORMATS.md lists them.
 set -l services \\
 SERVICES
 
-# Whether an option may still be given: OPTION. Each may be given at most once, and none with --version or --help.
+"""
+
+FISH = """\
+# Completion of NAME for fish.
+# HEAD
+
+LISTED# Whether an option may still be given: OPTION. Each may be given at most once, and none with --version or --help.
 function __NAME_lacks
     set -l words (commandline -opc)
     not string match -qr -- '^(--version|--help|-h)$' $words; and not string match -qr -- "^$argv[1](=|\\$)" $words
@@ -154,9 +163,14 @@ def service_lines(services: list[str], end: str) -> str:
     return f"{end}\n".join(lines)
 
 
-def recordings_of(program: Program) -> Operand:
-    """The operand for the recordings."""
-    return next(operand for operand in program.operands if operand.takes == "file")
+def recordings_of(program: Program) -> Operand | None:
+    """The operand for the recordings, if the program has one."""
+    return next((operand for operand in program.operands if operand.takes == "file"), None)
+
+
+def takes_service(program: Program) -> bool:
+    """Whether an option takes the name of a service."""
+    return any(option.takes == "service" for option in program.options)
 
 
 def offered(option: Option) -> str:
@@ -166,10 +180,10 @@ def offered(option: Option) -> str:
 
 def bash_action(option: Option) -> str:
     """What bash does after an option."""
-    if option.is_folder:
-        return '_NAME_folders "$word"'
     if option.takes == "file":
         return f'_NAME_files {option.offers} "$word"'
+    if option.takes == "folder":
+        return '_NAME_folders "$word"'
     if option.takes == "service":
         return '_NAME_words "$_NAME_services" "$word"'
     return f'_NAME_words "{offered(option)}" "$word"' if offered(option) else ""
@@ -184,13 +198,16 @@ def bash(program: Program, services: list[str]) -> str:
     alone = [program.version.word, program.help.word]
     after[" "] = [*alone, f"-{program.help.short_name}"]
     values = [f"        {' | '.join(options)}) {action.strip()} ;;".replace(")  ;;", ") ;;") for action, options in after.items()]
-    recordings = f'_NAME_files {recordings_of(program).offers} "$word"'
-    what, names = "After the word -- there are only recordings.", recordings
+    operand = recordings_of(program)
+    recordings = f'_NAME_files {operand.offers} "$word"' if operand else ":"
+    what = "After the word -- there are only recordings." if operand else "After the word -- there is nothing."
+    names = recordings
     if program.takes_folder:
         what = "After the word -- there are only names. With --config these are recordings, and else there is one folder."
         names = f'if [ -n "$named" ]; then {recordings}; else _NAME_folders "$word"; fi'
     return filled(
         BASH, program,
+        LISTED=BASH_SERVICES if takes_service(program) else "",
         FOLDERS=BASH_FOLDERS if program.names_folders else "",
         SERVICES=service_lines(services, ""),
         MORE_LOCALS=" named=''" if program.takes_folder else "",
@@ -204,10 +221,10 @@ def bash(program: Program, services: list[str]) -> str:
 
 def zsh_value(option: Option) -> str:
     """What zsh offers as a value: its description and its action."""
-    if option.is_folder:
-        return f":{option.what}:_files -/"
     if option.takes == "file":
         return f':{option.what}:_files -g "*{option.offers}"'
+    if option.takes == "folder":
+        return f":{option.what}:_files -/"
     if option.takes == "number":
         what = option.value.lower() if option.value != "N" else option.what
         what = option.filled("number from {least} to {most}") if option.is_bounded else what
@@ -226,24 +243,31 @@ def zsh_argument(option: Option) -> str:
 def zsh(program: Program, services: list[str]) -> str:
     """The completion for zsh."""
     recordings = recordings_of(program)
-    operand = f'*:{recordings.what}:_files -g "*{recordings.offers}"'
+    operand = f'*:{recordings.what}:_files -g "*{recordings.offers}"' if recordings else ""
+    operands = [f"'(-h --help --version){operand}'"] if operand else []
     arguments = [
         f"'(- *)'{{-{program.help.short_name},{program.help.word}}}'[{program.help.short}]'",
         f"'(- *){program.version.word}[{program.version.short}]'",
         *map(zsh_argument, program.options),
-        '"(-h --help --version)$names"' if program.takes_folder else f"'(-h --help --version){operand}'",
+        *(['"(-h --help --version)$names"'] if program.takes_folder else operands),
     ]
     names = ZSH_NAMES.replace("FOLDER", "1:folder:_files -/").replace("RECORDINGS", operand) if program.takes_folder else ""
-    return filled(ZSH, program, SERVICES=service_lines(services, ""), NAMES=names, ARGUMENTS=" \\\n".join(f"    {it}" for it in arguments))
+    return filled(
+        ZSH, program,
+        LISTED=ZSH_SERVICES if takes_service(program) else "",
+        SERVICES=service_lines(services, ""),
+        NAMES=names,
+        ARGUMENTS=" \\\n".join(f"    {it}" for it in arguments),
+    )
 
 
 def fish_command(option: Option) -> str:
     """The command of fish for an option of a run."""
     takes = ""
-    if option.is_folder:
-        takes = " -x -a '(__NAME_folders)'"
-    elif option.takes == "file":
+    if option.takes == "file":
         takes = f" -r -k -a '(__NAME_files {option.offers})'"
+    elif option.takes == "folder":
+        takes = " -x -a '(__NAME_folders)'"
     elif option.takes == "service":
         takes = ' -x -a "$services"'
     elif option.value:
@@ -259,8 +283,9 @@ def capitalized(words: str) -> str:
 
 def fish(program: Program, services: list[str]) -> str:
     """The completion for fish."""
-    recordings = recordings_of(program).offers
-    names = f"complete -c NAME -k -a '(__NAME_files {recordings})'"
+    operand = recordings_of(program)
+    recordings = operand.offers if operand else ""
+    names = f"complete -c NAME -k -a '(__NAME_files {recordings})'" if operand else "complete -c NAME -f"
     if program.takes_folder:
         names = "complete -c NAME -f -k -a '(__NAME_names)'"
     commands = [names, *map(fish_command, program.options)]
@@ -270,6 +295,7 @@ def fish(program: Program, services: list[str]) -> str:
         commands.append(f"complete -c NAME -l {option.name}{short_name} {only} -d '{capitalized(option.short)}'")
     return filled(
         FISH, program,
+        LISTED=FISH_SERVICES if takes_service(program) else "",
         SERVICES=service_lines(services, " \\"),
         FOLDERS=FISH_FOLDERS if program.names_folders else "",
         NAMES=FISH_NAMES.replace("RECORDINGS", recordings) if program.takes_folder else "",

@@ -1,7 +1,7 @@
 """The regions of docs/FORMATS.md: the usage of a program, and the table of its options."""
 import re
 
-from table import ALL_OTHERS, Operand, Option, Program, Word
+from table import ALL_OTHERS, Operand, Program, Word
 
 
 def usage(program: Program) -> str:
@@ -11,18 +11,13 @@ def usage(program: Program) -> str:
         words = []
         for word in form:
             if word == ALL_OTHERS and form is program.forms[-1]:
-                words += [f"[{with_words(option)}]" for option in program.options if option.word not in form]
+                words += [f"[{option.usage_by_words}]" for option in program.others(form)]
             else:
                 words.append(program.option(word).usage if word.startswith("--") else word)
         lines.append(" ".join([program.name, *words]))
     lines += [program.name] if program.runs_alone else []
     lines += [f"{program.name} {option.word}" for option in (program.version, program.help)]
     return "\n".join(["```", *lines, "```"])
-
-
-def with_words(option: Option) -> str:
-    """An option with its value, or with the words that it takes."""
-    return f"{option.word} {'|'.join(option.words)}" if option.words else option.usage
 
 
 def as_cell(text: str) -> str:

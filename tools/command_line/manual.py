@@ -20,7 +20,7 @@ def synopsis_form(program: Program, form: list[str], is_last: bool) -> list[str]
     lines = [".Nm"]
     for word in form:
         if word == ALL_OTHERS and is_last:
-            lines += [f".Op {flag(option)}" for option in program.options if option.word not in form]
+            lines += [f".Op {flag(option)}" for option in program.others(form)]
         elif word == ALL_OTHERS:
             lines.append(".Op Ar option ...")
         elif word.startswith("--"):

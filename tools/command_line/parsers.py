@@ -32,8 +32,9 @@ class Accepted:
 
 
 def accepted_of(program: Program) -> dict[str, Accepted]:
-    """What a program accepts by the table. The parsers know the recordings as `core`."""
-    found = {it.name: Accepted(it.name, True, bool(it.value), it in program.required, False) for it in program.options}
+    """What a program accepts by the table. The parsers know the recordings as `core`, and nothing of an option that is alone."""
+    options = [it for it in program.options if it not in program.alone]
+    found = {it.name: Accepted(it.name, True, bool(it.value), it in program.required, False) for it in options}
     for operand in program.operands:
         found["core"] = Accepted("core", False, True, True, operand.name.endswith("..."))
     return found

@@ -22,15 +22,23 @@ def takes_of(option: Option) -> str:
         return f'number!("{option.what}", {literal(option.least)}, {literal(option.most)})'
     if option.takes == "word":
         return "Takes::OneOf(&[{}])".format(", ".join(f'"{word}"' for word in option.words))
-    return f"Takes::{option.takes.capitalize()}"
+    return "Takes::File" if option.takes == "folder" else f"Takes::{option.takes.capitalize()}"
+
+
+def row_of(program: Program, option: Option) -> str:
+    """The row of an option in options.rt, as `rt fmt` lays it out."""
+    mark = "required " if option in program.required else "alone " if option in program.alone else ""
+    row = f'    row!({mark}"{option.word}", {takes_of(option)}),\n'
+    if len(row) <= LINE or option.takes != "word":
+        return row
+    words = ",\n".join(f'            "{word}"' for word in option.words)
+    return f'    row!(\n        "{option.word}",\n        Takes::OneOf(&[\n{words}\n        ])\n    ),\n'
 
 
 def options_table(program: Program) -> str:
     """The table of a program in options.rt: those with a value, and then the flags."""
-    rows = []
-    for option in sorted(program.options, key=lambda it: (it not in program.required, not it.value)):
-        mark = "required " if option in program.required else ""
-        rows.append(f'    row!({mark}"{option.word}", {takes_of(option)}),\n')
+    options = sorted(program.options, key=lambda it: (it not in program.required, not it.value))
+    rows = [row_of(program, option) for option in options]
     return f"pub static {program.words}_OPTIONS: [ProgramOption; {len(rows)}] = [\n{''.join(rows)}];"
 
 
@@ -46,8 +54,7 @@ def brief_item(word: Word) -> str:
     """An option or an operand in the short help."""
     if isinstance(word, Operand):
         return f"{word.name} ({word.brief})"
-    usage = f"{word.word} {'|'.join(word.words)}" if word.words else word.usage
-    return usage + (f" ({word.filled(word.brief)})" if word.brief else "")
+    return word.usage_by_words + (f" ({word.filled(word.brief)})" if word.brief else "")
 
 
 def brief_section(section: Section, indent: int) -> list[str]:
@@ -131,10 +138,10 @@ def script_head(program: Program) -> str:
     return "\n".join([
         f'HELP="{whole_help(program)}"',
         "",
-        "# The options with a value, those without, and those whose value is a file.",
+        "# The options with a value, those without, and those whose value is a file or a folder.",
         f"WITH_VALUE={listed([option for option in program.options if option.value])}",
         f"ALONE={listed([option for option in program.options if not option.value])}",
-        f"FILES={listed([option for option in program.options if option.takes == 'file'])}",
+        f"FILES={listed([option for option in program.options if option.takes in ('file', 'folder')])}",
         "# The greatest value of those that are judged here.",
         " ".join(most),
     ])

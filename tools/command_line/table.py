@@ -8,6 +8,8 @@ ALL_OTHERS = "[OPTION]..."
 TAKES = {"nothing", "file", "folder", "number", "service", "word"}
 # What the words of a completion may not have.
 UNQUOTED = set("'\"`$\\[]:")
+# The most words of an option that a usage lists.
+MOST_LISTED = 4
 # The greatest number of 32 bits. A bound that is not below it is not worth a word in a list of options.
 GREATEST = 2**32 - 1
 
@@ -47,14 +49,15 @@ class Option:
         return f"{self.word} {self.value}" if self.value else self.word
 
     @property
+    def usage_by_words(self) -> str:
+        """The option with the words that it takes if these are few, and otherwise with the name of its value."""
+        is_listed = 0 < len(self.words) <= MOST_LISTED
+        return f"{self.word} {'|'.join(self.words)}" if is_listed else self.usage
+
+    @property
     def is_bounded(self) -> bool:
         """Whether it is a number with a bound that is worth a word."""
         return self.takes == "number" and self.most < GREATEST
-
-    @property
-    def is_folder(self) -> bool:
-        """Whether its value is a folder: files have an ending that is offered."""
-        return self.takes == "file" and not self.offers
 
     def filled(self, text: str, number: str = "d") -> str:
         """A text with the option's own numbers, in a form."""
@@ -112,9 +115,19 @@ class Program:
         return [word for section in self.sections for word in section.has if isinstance(word, Operand)]
 
     @property
+    def alone(self) -> list[Option]:
+        """The options that are the only option of a form of the usage."""
+        return [option for option in self.options if any(is_only(option, form) for form in self.forms)]
+
+    @property
     def required(self) -> list[Option]:
-        """The options that no form of the usage omits."""
-        return [option for option in self.options if all(option.word in form for form in self.forms)]
+        """The options that no form of the usage omits, but for those of the only option of a form."""
+        forms = [form for form in self.forms if not any(is_only(option, form) for option in self.alone)]
+        return [option for option in self.options if all(option.word in form for form in forms)]
+
+    def others(self, form: list[str]) -> list[Option]:
+        """The other options of a form."""
+        return [option for option in self.options if option.word not in form and option not in self.alone]
 
     @property
     def takes_folder(self) -> bool:
@@ -124,7 +137,7 @@ class Program:
     @property
     def names_folders(self) -> bool:
         """Whether a folder may be named somewhere."""
-        return self.takes_folder or any(option.is_folder for option in self.options)
+        return self.takes_folder or any(option.takes == "folder" for option in self.options)
 
     def option(self, word: str) -> Option:
         """The option that is written so."""
@@ -132,6 +145,11 @@ class Program:
             if option.word == word:
                 return option
         raise ValueError(f"{self.name} has no option {word}")
+
+
+def is_only(option: Option, form: list[str]) -> bool:
+    """Whether an option is the only one of a form of the usage."""
+    return [word for word in form if not word[0].isalpha()] == [option.word]
 
 
 def made_of(kind, table: dict, **more):

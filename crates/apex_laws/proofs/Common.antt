@@ -14,7 +14,7 @@ pub use Rattle.apex_types.specs.Requested.{kind_of, service_of}
 pub use Rattle.apex_types.specs.Shapes.{kind_used}
 pub use Rattle.apex_machine.specs.declared.condition.{Condition.Condition}
 pub use Rattle.apex_machine.specs.declared.state.{CoreState.CoreState, Direction.Direction, Entry.Entry, ErrorHandler.ErrorHandler, ErrorPolicy.ErrorPolicy, ListedError.ListedError, Mode.Mode, Restart.Restart, Outcome.Outcome, Process.Process, Wait.Wait, WaitingSet.WaitingSet, StartCondition.StartCondition}
-pub use Rattle.apex_machine.specs.After.{adjusted, after, called, channel_after, content_by, cores_by, created_by, each_set, is_channel, is_done, is_valid, mode_by, new_blackboard, new_buffer, new_event, new_mutex, new_object, new_queuing_port, new_sampling_port, new_semaphore, numbered, numbered_if, objects_by, objects_called, own_partition, partition_by, partition_called, returned, ticked, with_sets, woken_if_named, partition_errored, partition_told, partition_woken, lock_called, restart_by_error, restart_for, restart_of, restart_told, restarted, sets_left}
+pub use Rattle.apex_machine.specs.After.{adjusted, after, called, channel_after, content_by, cores_by, created_by, each_set, is_channel, is_done, is_valid, mode_by, new_blackboard, new_buffer, new_event, new_mutex, new_object, new_queuing_port, new_sampling_port, new_semaphore, numbered, numbered_if, objects_by, objects_called, own_partition, partition_by, partition_called, returned, ticked, with_sets, woken_if_named, partition_errored, partition_reported, partition_woken, lock_called, restart_by_error, restart_for, restart_of, restart_reported, restarted, sets_left}
 pub use Rattle.apex_machine.specs.Answer.{Answer, answering, done, done_with, Effect, effect_on, HasValue, HasValues, is_new, NamesExactly, never_waking, NewNumber, unmet, waiters_of, waiting, waking}
 pub use Rattle.apex_machine.specs.Arguments.{direction_number, discipline_number, is_between, is_length, is_longer, is_mode, is_negative, is_normal_mode, is_number, is_over, is_period, is_priority, is_time_out, is_warm_start_mode, natural_of, period_given, restart_given, suits_maximum, suits_period, capacity_given, is_above_period, is_at_least, is_report_length, is_time_capacity, mode_number, start_number}
 pub use Rattle.apex_machine.specs.Channels.{capacity_of, end_among, EndsAreApart, has_channel, is_at_destination, is_at_end, is_at_source, is_port, is_receiver, is_sender, queuing_end, queuing_port, QueuingPort, receiving_discipline, refresh_of, samples, sampling_port, SamplingPort, sending_discipline, ends_inside, is_from_outside, is_port_inside, is_to_outside, size_of}

@@ -4,7 +4,7 @@ use Rattle.std.proofs.lemmas.Bool.{and_parts}
 use Rattle.std.specs.Option.{option_map_or}
 use Rattle.apex_laws.proofs.Common.{AllHold, Answer, CallRecord, Claim, Code, Condition, Configuration, CoreState, ErrorCode, ErrorHandler, ErrorReport, HasCode, HasOutcome, HealthOperation, Mode, Out, Partition, Process, Request, Restart, StartCondition, Who, after_error, answer_of}
 use Rattle.apex_laws.proofs.Common.{channel_of, deadline_after, done, ends_handler, error_mode, error_set, faulted, handed_over, handler_started, has_error, healed, health_answer, is_handled, is_restart, never, outcome_demands, reported, restart_by_error}
-use Rattle.apex_laws.proofs.Common.{restart_for, restart_given, restart_of, restart_told, restarts_by, restarts_by_error}
+use Rattle.apex_laws.proofs.Common.{restart_for, restart_given, restart_of, restart_reported, restarts_by, restarts_by_error}
 use Rattle.apex_laws.proofs.Booleans.{by_test, either_way, impossible, never_found}
 use Rattle.apex_laws.proofs.Choices.{choice_from, choice_is}
 use Rattle.apex_laws.proofs.Common.{CanHaveError, State, process_demand, window_now}
@@ -73,11 +73,11 @@ error_restarts configuration number partition process is =
 
 -- so it is with the report of one
 has_told : (configuration : Configuration) (report : ErrorReport) → report.restarts ≡ true → (restart : Restart) × (restart_by_error configuration report.who.part ≡ Some restart)
-    → (restart : Restart) × (restart_told configuration report ≡ Some restart)
+    → (restart : Restart) × (restart_reported configuration report ≡ Some restart)
 has_told configuration report restarts (restart, found) = (restart, rw restarts found)
 
 pub told_restarts : (configuration : Configuration) (partition : Partition) (report : ErrorReport) → restarts_by_error configuration report.who.part partition report.who.proc ≡ report.restarts
-    → report.restarts ≡ true → (restart : Restart) × (restart_told configuration report ≡ Some restart)
+    → report.restarts ≡ true → (restart : Restart) × (restart_reported configuration report ≡ Some restart)
 told_restarts configuration partition report is restarts =
     has_told configuration report restarts (error_restarts configuration report.who.part partition report.who.proc (is ∙ restarts))
 

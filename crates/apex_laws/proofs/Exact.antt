@@ -12,7 +12,7 @@ use Rattle.apex_laws.proofs.Awaited.{Awaited, awaits, begins, for_none, goes_in,
 use Rattle.apex_laws.proofs.Dormant.{Rests}
 use Rattle.apex_laws.proofs.Ends.{first_empty}
 use Rattle.apex_laws.proofs.Errors.{reported_case}
-use Rattle.apex_laws.proofs.Keeps.{begun_for, called_sets, called_waiters, calls_ready, CallsReady, found_changed, IsReadyCall, leaves, same_sets, same_sets_with, set_case, used_sets, error_ends_none, same_sets_told, told_ends}
+use Rattle.apex_laws.proofs.Keeps.{begun_for, called_sets, called_waiters, calls_ready, CallsReady, found_changed, IsReadyCall, leaves, same_sets, same_sets_with, set_case, used_sets, error_ends_none, same_sets_reported, told_ends}
 use Rattle.apex_laws.proofs.ObjectCalls.{message_there, mutex_there, object_there}
 use Rattle.apex_laws.proofs.Objects.{each_set_holds, is_created_at, none_there}
 use Rattle.apex_laws.proofs.Restarts.{call_case, goes_on, not_restarted, restarts_none, restarts_other, return_case, start_awaits_not, start_waits_not, waiting_goes_on, woken_table, error_case, no_restart}
@@ -388,7 +388,7 @@ object_has_entry configuration cores place core body partition who wanted ready 
     stays (Error report) goes has =
         error_case Has configuration cores place core who.part report partition
         (λ own none. subst (λ entries. has_entry_in who entries ≡ true)
-        (sym (same_sets_told partition (errors_after partition report) (each_item (reported place partition report) partition.table) wanted)) has)
+        (sym (same_sets_reported partition (errors_after partition report) (each_item (reported place partition report) partition.table) wanted)) has)
         (λ own restart is. absurd (told_ends configuration report who restart is own goes)) (λ elsewhere. has)
     stays (Call call) goes has =
         let objects : Partition = cond (is_done call.claim.out) (objects_by configuration call.who call.claim.val call.request partition) partition in

@@ -10,7 +10,7 @@ use Rattle.apex_laws.proofs.Common.{conditions_of, created, created_by, due_of_c
 use Rattle.apex_laws.proofs.Common.{is_named, is_new, is_number, is_owner, is_the_set, is_waiting, item_at, new_process, numbered, objects_by, objects_called, objects_of, on_ownership, partition_by, partition_called, period_of, returned}
 use Rattle.apex_laws.proofs.Common.{set_after, set_by, set_in, set_of, start_conditions, started, ticked, time_of, time_out_of, wait_in, wait_of, waits_at, waits_for_normal, window_now, without, woken_if_named}
 use Rattle.apex_laws.proofs.Common.{Arrive, Depart, Lock, StartCondition, delay_kept, Effect, LockOperation, enters_lock, first_for_lock, given_up, is_for_lock, is_of_lock, lock_by, lock_called, lock_effect, lock_left, lock_stopped, lock_waiters_after, locked_again, locked_from, natural_of, not_locked, passed_on, passed_to, unlocked_once, message_of, waits_for_lock, Error, ErrorReport, entry_deadline, reported}
-use Rattle.apex_laws.proofs.Common.{ErrorHandler, ListedError, Restart, errors_after, handles_more, is_restart, restart_of, restart_told}
+use Rattle.apex_laws.proofs.Common.{ErrorHandler, ListedError, Restart, errors_after, handles_more, is_restart, restart_of, restart_reported}
 use Rattle.apex_laws.proofs.Awaited.{Awaited, awaits, begins, goes_in, is_for, lock_awaits, not_for_normal, ready_awaits_not, set_awaits}
 use Rattle.apex_laws.proofs.Booleans.{by_test, cannot_hold, differs_back, either_way, impossible, is_itself, never_found, not_first, not_second}
 use Rattle.apex_laws.proofs.Choices.{chosen_exists, FoundReady}
@@ -151,7 +151,7 @@ pub record IsReadyCall (configuration : Configuration) (partition : Partition) (
 abbrev pub CallsReady : Configuration → ℕ → ℕ → Body → Partition → Type 0
 CallsReady configuration core number (Call call) partition = nat_eq call.who.part number ≡ true → IsReadyCall configuration partition core call
 CallsReady configuration core number (Error report) partition =
-    nat_eq report.who.part number ≡ true → report.restarts ≡ true → (restart : Restart) × (restart_told configuration report ≡ Some restart)
+    nat_eq report.who.part number ≡ true → report.restarts ≡ true → (restart : Restart) × (restart_reported configuration report ≡ Some restart)
 CallsReady configuration core number _ partition = Unit {0}
 
 -- a lawful call is one
@@ -225,7 +225,7 @@ woken_waits place message woken table who wanted named waits =
     (rw named old.alive) (rw named old.waits)
 
 -- an error that restarts a partition ends the waits of its processes
-pub told_ends : (configuration : Configuration) (report : ErrorReport) (who : Who) (restart : Restart) → restart_told configuration report ≡ Some restart
+pub told_ends : (configuration : Configuration) (report : ErrorReport) (who : Who) (restart : Restart) → restart_reported configuration report ≡ Some restart
     → nat_eq report.who.part who.part ≡ true → leaves (Error report) who ≡ false → ⊥
 told_ends configuration report who restart is own stays =
     true≢false (sym (and_from _ _ (told_anew configuration report restart is) (eq-eqb who.part report.who.part (sym (eqb-true report.who.part who.part own)))) ∙ stays)
@@ -418,8 +418,8 @@ same_sets_with partition lock table wanted = ap (λ objects. entries_in (entries
     same _ = refl
 
 -- nor do the listed errors
-pub same_sets_told : (partition : Partition) (errors : List ListedError) (table : Table) (wanted : WaitingSet) → entries_at (record partition { errors = errors; table = table }) wanted ≡ entries_at partition wanted
-same_sets_told partition errors table wanted = ap (λ objects. entries_in (entries_at_end wanted.kind wanted.end) (item_at objects wanted.number)) (same wanted.kind)
+pub same_sets_reported : (partition : Partition) (errors : List ListedError) (table : Table) (wanted : WaitingSet) → entries_at (record partition { errors = errors; table = table }) wanted ≡ entries_at partition wanted
+same_sets_reported partition errors table wanted = ap (λ objects. entries_in (entries_at_end wanted.kind wanted.end) (item_at objects wanted.number)) (same wanted.kind)
   where
     same : (one : ObjectKind) → objects_of (record partition { errors = errors; table = table }) one ≡ objects_of partition one
     same kind.Buffer = refl
@@ -452,7 +452,7 @@ abbrev pub LeavesSets : Configuration → ℕ → Body → Type 0
 LeavesSets configuration number (Call call) = nat_eq call.who.part number ≡ false
 LeavesSets configuration number (Arrive crossing) = Unit {0}
 LeavesSets configuration number (Depart crossing) = Unit {0}
-LeavesSets configuration number (Error report) = (nat_eq report.who.part number ≡ false) ⊎ (restart_told configuration report ≡ None)
+LeavesSets configuration number (Error report) = (nat_eq report.who.part number ≡ false) ⊎ (restart_reported configuration report ≡ None)
 LeavesSets configuration number _ = ⊥
 
 -- such an error ends no wait of this partition's processes
@@ -463,7 +463,7 @@ error_ends_none configuration core number report partition who ready elsewhere h
     foreign : nat_eq report.who.part number ≡ false → leaves (Error report) who ≡ false
     foreign there = not_second report.restarts (nat_eq who.part report.who.part) (differs_back report.who.part who.part (ap (nat_eq report.who.part) here ∙ there))
 
-    by : (nat_eq report.who.part number ≡ false) ⊎ (restart_told configuration report ≡ None) → leaves (Error report) who ≡ false
+    by : (nat_eq report.who.part number ≡ false) ⊎ (restart_reported configuration report ≡ None) → leaves (Error report) who ≡ false
     by (inl there) = foreign there
     by (inr none) =
         either_way (nat_eq report.who.part number)
@@ -492,7 +492,7 @@ one_set_after Before After configuration cores place core number (Call call) par
     (λ elsewhere. subst After (sym (same_sets partition (woken_table place number (message_of call.request) call.claim.woken partition.table) wanted)) (foreign elsewhere before))
 one_set_after Before After configuration cores place core number (Error report) partition wanted nobody change foreign before =
     error_case (λ next. After (entries_at next wanted)) configuration cores place core number report partition
-    (λ own none. subst After (sym (same_sets_told partition (errors_after partition report) (each_item (reported place partition report) partition.table) wanted)) (foreign (inr none) before))
+    (λ own none. subst After (sym (same_sets_reported partition (errors_after partition report) (each_item (reported place partition report) partition.table) wanted)) (foreign (inr none) before))
     (λ own restart is. subst After (sym (start_set restart.start restart.mode configuration report.who.part place wanted)) nobody) (λ elsewhere. foreign (inl elsewhere) before)
 one_set_after Before After configuration cores place core number (Arrive crossing) partition wanted nobody change foreign before =
     subst After (sym (same_sets partition (woken_table place number crossing.message crossing.woken partition.table) wanted)) (foreign tt before)

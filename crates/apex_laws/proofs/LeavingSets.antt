@@ -4,7 +4,7 @@ use Rattle.std.proofs.Common.{◌≡◌, ℕ, List, [], ◌∷◌, true, false, 
 use Rattle.std.proofs.lemmas.Bool.{and_parts, eqb-true}
 use Rattle.apex_laws.proofs.Common.{AllEntries, AllHold, Call, CallRecord, Claim, Condition, DueLeave, End, Entry, ForeignCallsLeaveSets, HasDistinctObjects, OnlyProcessesChange, Partition, Process, ProcessOperation, Request, Ret, Return}
 use Rattle.apex_laws.proofs.Common.{StoppedLeaves, Wait, WaitingSet, Who, answer_of, at_end, channel_of, conditions_of, each_set, ends_wait, entries_at, entries_at_end, is_done, is_in, is_named, is_no_error, is_of_object, is_same}
-use Rattle.apex_laws.proofs.Common.{is_same_end, is_same_set, is_set_used, is_target, item_at, left_by, natural_of, objects_by, objects_of, outcome_demands, partition_by, peer, restarts_by, is_restart, restart_told, OnlyErrorsChange, set_after, set_at, stop_of}
+use Rattle.apex_laws.proofs.Common.{is_same_end, is_same_set, is_set_used, is_target, item_at, left_by, natural_of, objects_by, objects_of, outcome_demands, partition_by, peer, restarts_by, is_restart, restart_reported, OnlyErrorsChange, set_after, set_at, stop_of}
 use Rattle.apex_laws.proofs.Common.{waits_at, with_ends, with_set, without_one}
 use Rattle.apex_laws.proofs.Common.{Lock, Table, enters_lock, freed_by_stop, is_for_lock, is_of_lock, is_waiting, lock_by, lock_called, lock_left, lock_stopped, lock_waiters_after, objects_called, stopped_lock, waits_for_lock, waking, without, time_of, Error, ErrorReport}
 use Rattle.apex_laws.proofs.Booleans.{cannot_hold, either_way, never_found, not_first, not_second, same_if}
@@ -41,7 +41,7 @@ foreign_calls_leave_sets configuration cores place core number partition = (call
     given_back : (ret : Return) → OnlyProcessesChange partition (partition_by configuration cores place core number (Ret ret) partition)
     given_back ret = return_case (OnlyProcessesChange partition) configuration cores place core number ret partition refl refl
 
-    reported : (report : ErrorReport) → restart_told configuration report ≡ None → OnlyErrorsChange partition (partition_by configuration cores place core number (Error report) partition)
+    reported : (report : ErrorReport) → restart_reported configuration report ≡ None → OnlyErrorsChange partition (partition_by configuration cores place core number (Error report) partition)
     reported report none =
         error_case (OnlyErrorsChange partition) configuration cores place core number report partition (λ own goes_on. refl) (λ own restart is. never_found (sym none ∙ is)) (λ elsewhere. refl)
 

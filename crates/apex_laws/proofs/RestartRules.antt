@@ -6,8 +6,8 @@ use Rattle.std.specs.Prelude.{All, Contains}
 use Rattle.apex_laws.proofs.Common.{Answer, Body, Call, CallRecord, Channel, Claim, Condition, Configuration, CoreState, Entry, Ordered, Step, is_normal, Error, ErrorCode, ErrorIsTheSentence, ErrorReport, HasOutcome, HealthOperation, IsInError, IsInitialising, IsReported}
 use Rattle.apex_laws.proofs.Common.{IsRestartOf, IsStart, KeepsOnly, Mode, OnlyErrorsChange, Out, Partition, Process, Receivers, Request, Restart, RestartIsTheSentence, Restarts, Senders, StartCondition, State, Table, WaitingSet, Who, answer_of}
 use Rattle.apex_laws.proofs.Common.{CanHaveError, channel_effect, channel_of, channel_set, choice_under, conditions_of, deadline_after, each_item, ends_wait, enters, error_mode, first_core, first_processes, initialising_process, is_channel, is_handling_on}
-use Rattle.apex_laws.proofs.Common.{is_named, is_no_error, is_one_ready, is_paused, is_restart, is_waiting, item_at, message_of, own_partition, partition_choice, partition_errored, partition_told, process_in, ready_entries, reported, restart_by_error}
-use Rattle.apex_laws.proofs.Common.{restart_for, restart_given, restart_of, restart_told, restarted, restarts_by, set_after, time_of, use_of, window_now, without, woken_if_named, foremost}
+use Rattle.apex_laws.proofs.Common.{is_named, is_no_error, is_one_ready, is_paused, is_restart, is_waiting, item_at, message_of, own_partition, partition_choice, partition_errored, partition_reported, process_in, ready_entries, reported, restart_by_error}
+use Rattle.apex_laws.proofs.Common.{restart_for, restart_given, restart_of, restart_reported, restarted, restarts_by, set_after, time_of, use_of, window_now, without, woken_if_named, foremost}
 use Rattle.apex_laws.proofs.Booleans.{by_test, cannot_hold, either_way, impossible, is_itself, never_found, not_first, one_item}
 use Rattle.apex_laws.proofs.Choices.{FoundReady, choice_is, foremost_is_chosen, owner_is_ready}
 use Rattle.apex_laws.proofs.DeadlineRules.{missed_exists}
@@ -267,19 +267,19 @@ reported_is _ old = refl
 
 -- the next partition of an error
 next_own : (configuration : Configuration) (state : State) (ordered : Ordered) (report : ErrorReport) (next : State) (one : Option Restart)
-    → Step configuration state ordered next → ordered.rec.body ≡ Error report → restart_told configuration report ≡ one
+    → Step configuration state ordered next → ordered.rec.body ≡ Error report → restart_reported configuration report ≡ one
     → next.partitions report.who.part ≡ partition_errored one configuration ordered.pos report (state.partitions report.who.part)
 next_own configuration state ordered report next one step is told =
     let part = report.who.part in
     next_partition configuration state ordered next (Error report) step is part
-    ∙ ap (λ test. cond test (partition_errored (restart_told configuration report) configuration ordered.pos report (state.partitions part)) (state.partitions part)) (is_itself part)
+    ∙ ap (λ test. cond test (partition_errored (restart_reported configuration report) configuration ordered.pos report (state.partitions part)) (state.partitions part)) (is_itself part)
     ∙ ap (λ found. partition_errored found configuration ordered.pos report (state.partitions part)) told
 
 next_other : (configuration : Configuration) (state : State) (ordered : Ordered) (report : ErrorReport) (next : State)
     → Step configuration state ordered next → ordered.rec.body ≡ Error report → (number : ℕ) → ¬ (number ≡ report.who.part) → next.partitions number ≡ state.partitions number
 next_other configuration state ordered report next step is number there =
     next_partition configuration state ordered next (Error report) step is number
-    ∙ ap (λ test. cond test (partition_errored (restart_told configuration report) configuration ordered.pos report (state.partitions number)) (state.partitions number))
+    ∙ ap (λ test. cond test (partition_errored (restart_reported configuration report) configuration ordered.pos report (state.partitions number)) (state.partitions number))
     (cannot_hold (nat_eq report.who.part number) (λ same. there (sym (eqb-true report.who.part number same))))
 
 -- a set of a channel after an error that restarts its partition
@@ -303,7 +303,7 @@ error_is_the_sentence configuration state ordered report next step is =
     (λ restarts.
     (let restarting = restarting_is configuration part partition report.who.proc (law.restart ∙ restarts) in
     let restart : Restart = record { start = StartCondition.ErrorRestart; mode = restarting.1.0 } in
-    let told : restart_told configuration report ≡ Some restart =
+    let told : restart_reported configuration report ≡ Some restart =
     ap (λ test. cond test (restart_by_error configuration part) None) restarts
     ∙ ap (option_map {U = Restart} (λ mode. record { start = StartCondition.ErrorRestart; mode = mode })) (restarts_mode configuration part restarting.1.0 restarting.1.1) in
     inr (
@@ -321,7 +321,7 @@ error_is_the_sentence configuration state ordered report next step is =
     )))
     (λ stays.
     (let old = in_error configuration state ordered.core report.who report.error law.process in
-    let own : next.partitions part ≡ partition_told place report partition = next_own configuration state ordered report next None step is (told_on configuration report stays) in
+    let own : next.partitions part ≡ partition_reported place report partition = next_own configuration state ordered report next None step is (told_on configuration report stays) in
     inl (
       stays,
       record {

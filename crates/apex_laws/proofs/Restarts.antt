@@ -7,7 +7,7 @@ use Rattle.apex_laws.proofs.Common.{first_processes, initialising_process, is_do
 use Rattle.apex_laws.proofs.Common.{returned, started_partition, stops, waits_at, woken_if_named}
 use Rattle.apex_laws.proofs.Common.{StartCondition, Wait}
 use Rattle.apex_laws.proofs.Awaited.{Awaited, awaits, for_none, is_for, set_awaits}
-use Rattle.apex_laws.proofs.Common.{message_of, Error, ErrorReport, HealthOperation, Restart, partition_errored, partition_told, restart_told, restarted}
+use Rattle.apex_laws.proofs.Common.{message_of, Error, ErrorReport, HealthOperation, Restart, partition_errored, partition_reported, restart_reported, restarted}
 use Rattle.apex_laws.proofs.Booleans.{by_test, either_way, impossible, neither, neither_first, neither_later, never_found, not_first, not_second}
 
 -- the caller's partition
@@ -53,16 +53,16 @@ return_case Holds configuration cores place core number ret partition back stays
 
 -- what holds of a partition after an error: by whether it is one of its processes, and whether that restarts it
 pub error_case : (Holds : Partition → Type 0) (configuration : Configuration) (cores : List CoreState) (place core number : ℕ) (report : ErrorReport) (partition : Partition)
-    → (nat_eq report.who.part number ≡ true → restart_told configuration report ≡ None → Holds (partition_told place report partition))
-    → (nat_eq report.who.part number ≡ true → (restart : Restart) → restart_told configuration report ≡ Some restart → Holds (restarted restart configuration report.who.part place))
+    → (nat_eq report.who.part number ≡ true → restart_reported configuration report ≡ None → Holds (partition_reported place report partition))
+    → (nat_eq report.who.part number ≡ true → (restart : Restart) → restart_reported configuration report ≡ Some restart → Holds (restarted restart configuration report.who.part place))
     → (nat_eq report.who.part number ≡ false → Holds partition) → Holds (partition_by configuration cores place core number (Error report) partition)
 error_case Holds configuration cores place core number report partition told anew stays =
-    by_test Holds (nat_eq report.who.part number) (partition_errored (restart_told configuration report) configuration place report partition) partition
-    (λ own. by (told own) (anew own) (restart_told configuration report) refl) stays
+    by_test Holds (nat_eq report.who.part number) (partition_errored (restart_reported configuration report) configuration place report partition) partition
+    (λ own. by (told own) (anew own) (restart_reported configuration report) refl) stays
   where
-    by : (restart_told configuration report ≡ None → Holds (partition_told place report partition))
-        → ((restart : Restart) → restart_told configuration report ≡ Some restart → Holds (restarted restart configuration report.who.part place))
-        → (one : Option Restart) → restart_told configuration report ≡ one → Holds (partition_errored one configuration place report partition)
+    by : (restart_reported configuration report ≡ None → Holds (partition_reported place report partition))
+        → ((restart : Restart) → restart_reported configuration report ≡ Some restart → Holds (restarted restart configuration report.who.part place))
+        → (one : Option Restart) → restart_reported configuration report ≡ one → Holds (partition_errored one configuration place report partition)
     by told anew None none = told none
     by told anew (Some restart) is = anew restart is
 
@@ -105,10 +105,10 @@ pub some_restart : (configuration : Configuration) (call : CallRecord) (restart 
 some_restart configuration call restart is = either_way (is_restart call) (λ holds. holds) (λ fails. never_found (sym (no_restart configuration call fails) ∙ is))
 
 -- so it is with the report of an error
-pub told_on : (configuration : Configuration) (report : ErrorReport) → report.restarts ≡ false → restart_told configuration report ≡ None
+pub told_on : (configuration : Configuration) (report : ErrorReport) → report.restarts ≡ false → restart_reported configuration report ≡ None
 told_on configuration report goes_on = rw goes_on refl
 
-pub told_anew : (configuration : Configuration) (report : ErrorReport) (restart : Restart) → restart_told configuration report ≡ Some restart → report.restarts ≡ true
+pub told_anew : (configuration : Configuration) (report : ErrorReport) (restart : Restart) → restart_reported configuration report ≡ Some restart → report.restarts ≡ true
 told_anew configuration report restart is = either_way report.restarts (λ holds. holds) (λ fails. never_found (sym (told_on configuration report fails) ∙ is))
 
 -- whose wait goes on

@@ -16,7 +16,7 @@ use Rattle.apex_types.specs.declared.request.Request.TheVariants as request
 use Rattle.apex_types.specs.Shapes.{kind_used}
 use Rattle.apex_machine.specs.declared.state.CoreState.{CoreState}
 use Rattle.apex_machine.specs.declared.state.WaitingSet.{WaitingSet}
-use Rattle.apex_machine.specs.After.{is_done, lock_called, partition_after, partition_by, restart_told}
+use Rattle.apex_machine.specs.After.{is_done, lock_called, partition_after, partition_by, restart_reported}
 use Rattle.apex_machine.specs.Arguments.{natural_of}
 use Rattle.apex_machine.specs.Configuration.{Configuration}
 use Rattle.apex_machine.specs.Demands.{AllHold, IsRunning, own_call_demands, partition_demands, has_entry_in}
@@ -171,4 +171,4 @@ ForeignCallsLeaveSets =
     × ((crossing : Crossing) → OnlyProcessesChange partition (partition_by configuration cores place core number (Depart crossing) partition))
     × ((ret : Return) → OnlyProcessesChange partition (partition_by configuration cores place core number (Ret ret) partition))
     × ((who : Option Who) → partition_by configuration cores place core number (Disp who) partition ≡ partition)
-    × ((report : ErrorReport) → restart_told configuration report ≡ None → OnlyErrorsChange partition (partition_by configuration cores place core number (Error report) partition))
+    × ((report : ErrorReport) → restart_reported configuration report ≡ None → OnlyErrorsChange partition (partition_by configuration cores place core number (Error report) partition))

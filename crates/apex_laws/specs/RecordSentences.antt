@@ -191,8 +191,7 @@ abbrev pub IsInError : ErrorCode → ℕ → State → Who → Process → Type 
 IsInError error.DeadlineMissed core state who process = HasMissed core (time_of state.cores core) process
 IsInError _ core state who process = occupant_of state.cores core ≡ Some who
 
--- the report of an error that restarts no partition: the process's partition is told of it, and if its handler takes it, the error is listed;
--- nothing else changes
+-- an error that restarts no partition is reported to the process's partition; if its handler takes the error, it is listed; nothing else changes
 pub record IsErrorOf (configuration : Configuration) (core place : ℕ) (report : ErrorReport) (state next : State) : Type 0 where
   pub process : Process
   pub found : process_in state report.who ≡ Some process

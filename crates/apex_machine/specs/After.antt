@@ -229,19 +229,19 @@ abbrev pub returned : ℕ → ℕ → Process → Process
 returned returner number process = if nat_eq number returner then record process { due = None } else process
 
 -- a partition after the report of an error of one of its processes that does not restart it
-abbrev pub partition_told : ℕ → ErrorReport → Partition → Partition
-partition_told place report partition = record partition {
+abbrev pub partition_reported : ℕ → ErrorReport → Partition → Partition
+partition_reported place report partition = record partition {
   errors = errors_after partition report;
   table = each_item (reported place partition report) partition.table;
 }
 
 -- the restart that the report of an error makes, if it makes one
-abbrev pub restart_told : Configuration → ErrorReport → Option Restart
-restart_told configuration report = if report.restarts then restart_by_error configuration report.who.part else None
+abbrev pub restart_reported : Configuration → ErrorReport → Option Restart
+restart_reported configuration report = if report.restarts then restart_by_error configuration report.who.part else None
 
 -- a partition after the report of an error of one of its processes, by the restart that it makes, if it makes one
 abbrev pub partition_errored : Option Restart → Configuration → ℕ → ErrorReport → Partition → Partition
-partition_errored None configuration place report partition = partition_told place report partition
+partition_errored None configuration place report partition = partition_reported place report partition
 partition_errored (Some restart) configuration place report partition = restarted restart configuration report.who.part place
 
 -- a partition after a record of others, which hands over this message and can only end waits of the partition's processes
@@ -264,7 +264,7 @@ partition_by configuration cores place core number (Call call) partition =
 partition_by configuration cores place core number (Arrive crossing) partition = partition_woken place number crossing.message crossing.woken partition
 partition_by configuration cores place core number (Depart crossing) partition = partition_woken place number [] crossing.woken partition
 partition_by configuration cores place core number (Error report) partition =
-    if nat_eq report.who.part number then partition_errored (restart_told configuration report) configuration place report partition else partition
+    if nat_eq report.who.part number then partition_errored (restart_reported configuration report) configuration place report partition else partition
 
 -- a partition after an ordered record
 abbrev pub partition_after : Configuration → List CoreState → ℕ → Ordered → Partition → Partition

@@ -1,4 +1,5 @@
 mod Below
+mod FaultLines
 mod Requested
 mod Failed
 mod Walked

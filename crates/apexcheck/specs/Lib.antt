@@ -7,5 +7,7 @@ pub mod Endings
 pub mod FileNames
 pub mod Files
 pub mod Folders
+pub mod RowsAlone
+pub mod RowsText
 pub mod Ruled
 pub mod Runs

@@ -20,6 +20,7 @@ use Rattle.apexcheck.specs.Endings.{own_status_of, own_text_of, refusing}
 use Rattle.apexcheck.specs.Files.{IsOfFiles}
 use Rattle.apexcheck.specs.Folders.{FolderView}
 use Rattle.apexcheck.specs.Requests.{IsRequested}
+use Rattle.apexcheck.specs.RowsAlone.{IsOfRows}
 
 -- an outcome of the run that is stored in the program, with one worker and the usual depth
 abbrev pub IsOfStored : Result Verdict CheckFault → Type 0
@@ -35,11 +36,12 @@ pub record IsConcluded (ending : Ending CheckEnd) (before after : WriterView) (s
   pub failed : status ≡ UNWRITTEN → before.failures < after.failures
 
 module _ {F : Type 0} (facts : FolderView F) (known : Observed (Watched F) → Option (List ℕ)) (can_fail : Bool) where
-  -- a run ends as it is requested: with an outcome of the stored run, with the version, as a run over the files, or with the refusal of the
-  -- command line
+  -- a run ends as it is requested: with an outcome of the stored run, with the version, with what is found in rows alone, as a run over the
+  -- files, or with the refusal of the command line
   abbrev pub EndsAsRequested : Result Asked UsageFault → Ending CheckEnd → Type 0
   EndsAsRequested (Ok Asked.StoredRun) ending = (outcome : Result Verdict CheckFault) × (ending ≡ Own (CheckEnd.Checked outcome None)) × IsOfStored outcome
   EndsAsRequested (Ok Asked.Version) ending = ending ≡ Own CheckEnd.Version
+  EndsAsRequested (Ok (Asked.Rows names)) ending = IsOfRows facts known can_fail names ending
   EndsAsRequested (Ok (Asked.Files files)) ending = IsOfFiles facts known can_fail files ending
   EndsAsRequested (Err fault) ending = ending ≡ refused_words refusing fault
 

@@ -1,12 +1,12 @@
 -- What the words of a command line request.
-use Rattle.std.specs.Prelude.{◌≡◌, ℕ, List, [], ◌∷◌, Option, Some, None, Bool, true, false, bytes_eq, codes, map, option_and_then, option_map, string_bytes}
+use Rattle.std.specs.Prelude.{◌≡◌, ℕ, List, [], ◌∷◌, Option, Some, None, Bool, true, false, bytes_eq, codes, drop, map, option_and_then, option_map, string_bytes}
 use Rattle.clap.specs.Matches.{raw_values}
 use Rattle.clap.specs.Words.{Row, all_of, first_of, first_value, matched_of, one_of}
 use Rattle.clap.specs.declared.parser.matches.Found.{Found}
 use Rattle.answer_words.specs.declared.names.InputNames.{InputNames}
 use Rattle.asked_rules.specs.Options.{values_of}
 use Rattle.apexcheck.specs.declared.usage.Asked.{Asked}
-use Rattle.apexcheck.specs.declared.usage.Asked.TheVariants.{Files}
+use Rattle.apexcheck.specs.declared.usage.Asked.TheVariants.{Files, Rows}
 use Rattle.apexcheck.specs.declared.usage.FilesAsked.{FilesAsked}
 use Rattle.apexcheck.specs.Settings.{least_of, settings_of}
 
@@ -14,6 +14,11 @@ use Rattle.apexcheck.specs.Settings.{least_of, settings_of}
 abbrev pub asks_version : List (List ℕ) → Bool
 asks_version (name ∷ word ∷ []) = bytes_eq word (codes "--version")
 asks_version _ = false
+
+-- the first word after the program's own name is `--rows`
+abbrev pub asks_rows : List (List ℕ) → Bool
+asks_rows (name ∷ word ∷ names) = bytes_eq word (codes "--rows")
+asks_rows _ = false
 
 -- these names of files are those that the parser found
 pub record AreNamed (found : Found) (names : InputNames) : Type 0 where
@@ -48,3 +53,12 @@ pub record AsksFor (given : List Row) (asked : FilesAsked) : Type 0 where
 abbrev pub AsksForFiles : List Row → Asked → Type 0
 AsksForFiles given (Files asked) = AsksFor given asked
 AsksForFiles given _ = ⊥
+
+-- the rows of the recordings of these names are requested, in their order
+abbrev pub NamesRecordings : List (List ℕ) → Asked → Type 0
+NamesRecordings names (Rows given) = map string_bytes given.cores.items ≡ names
+NamesRecordings names _ = ⊥
+
+-- the rows of the recordings that the words after `--rows` name
+abbrev pub AsksForRows : List (List ℕ) → Asked → Type 0
+AsksForRows words asked = NamesRecordings (drop 2 words) asked

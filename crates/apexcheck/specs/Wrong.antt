@@ -1,5 +1,5 @@
 -- Which command lines are wrong.
-use Rattle.std.specs.Prelude.{◌≡◌, ◌⊎◌, ℕ, List, None, IsTrue, codes, option_and_then, option_map}
+use Rattle.std.specs.Prelude.{◌≡◌, ◌⊎◌, ℕ, List, [], None, IsTrue, true, codes, drop, option_and_then, option_map}
 use Rattle.clap.specs.Matches.{raw_values}
 use Rattle.clap.specs.Takes.{takes}
 use Rattle.clap.specs.Words.{Row, all_of, first_of, first_value, matched_of}
@@ -7,6 +7,7 @@ use Rattle.clap.specs.declared.parser.matches.Found.{Found}
 use Rattle.asked_rules.specs.Options.{values_of}
 use Rattle.apexcheck.specs.CommandLine.{command_line, found_in}
 use Rattle.apexcheck.specs.Settings.{least_of, settings_of}
+use Rattle.apexcheck.specs.Words.{asks_rows}
 
 -- a file that a run needs is not among what the parser found
 abbrev pub LacksFiles : Found → Type 0
@@ -26,6 +27,14 @@ IsIncomplete given =
     ⊎ (option_and_then (λ workers. settings_of workers (first_of (codes "depth") given)) (first_of (codes "workers") given) ≡ None)
     ⊎ (least_of (first_of (codes "at-least") given) ≡ None)
 
--- a command line is wrong: the parser does not accept its words, or the run that they request is incomplete
+-- the command line of a run over files is wrong: the parser does not accept its words, or the run that they request is incomplete
 abbrev pub IsWrong : List (List ℕ) → Type 0
 IsWrong words = (¬ IsTrue (takes command_line words)) ⊎ IsIncomplete (found_in words)
+
+-- the rows of recordings are requested, and no recording is named
+abbrev pub NamesNone : List (List ℕ) → Type 0
+NamesNone words = (asks_rows words ≡ true) × (drop 2 words ≡ [])
+
+-- a command line is wrong: it is a wrong one of a run over files, or names no recording
+abbrev pub IsRefused : List (List ℕ) → Type 0
+IsRefused words = IsWrong words ⊎ NamesNone words

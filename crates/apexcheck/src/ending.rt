@@ -7,9 +7,11 @@ ghost use Rattle.apexcheck.specs.declared.ending.CheckEnd.TheVariants.{Few, Vers
 ghost use Rattle.apexcheck.specs.Endings.{end_of_check, lines_after, own_status_of, own_text_of, refusing};
 ghost use Rattle.sink.specs.Written.{IsCut, IsWritten};
 
+use crate::rows_alone::{status_of_rows, write_rows};
 use itoa::Buffer;
 use program_ends::{Ending, OwnEnd, UNWRITTEN, status_of, write_text};
 use report::{CheckFault, Last, Verdict, status_of_outcome, write_last, write_report};
+use rows_check::RowsFound;
 use sink::{Sink, WriteFault, WriterSink, put_parts};
 use std::io::Write;
 
@@ -29,6 +31,8 @@ pub enum CheckEnd {
     Few {
         records: u64,
     },
+    /// The rows of recordings were read: what was found in each, core 0 first.
+    Rows(Vec<RowsFound>),
     /// The version was requested.
     Version,
 }
@@ -51,6 +55,7 @@ impl OwnEnd for CheckEnd {
         match self {
             CheckEnd::Checked { outcome, .. } => status_of_outcome(outcome),
             CheckEnd::Few { .. } => 2,
+            CheckEnd::Rows(found) => status_of_rows(found),
             CheckEnd::Version => 0,
         }
     }
@@ -59,6 +64,7 @@ impl OwnEnd for CheckEnd {
         match self {
             CheckEnd::Checked { outcome, last } => write_outcome(w, outcome, last),
             CheckEnd::Few { records } => write_few(w, *records),
+            CheckEnd::Rows(found) => write_rows(w, found),
             CheckEnd::Version => write_version(w),
         }
     }

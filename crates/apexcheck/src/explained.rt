@@ -5,11 +5,12 @@ use crate::json::write_answer;
 use crate::sarif::write_log;
 use crate::usage::{Asked, FilesAsked};
 use answer_words::{
-    Explainer, RunFiles, Told, words_of_stored_run, words_of_unwritten_answer,
+    Explainer, InputNames, RunFiles, Told, words_of_stored_run, words_of_unwritten_answer,
     words_of_unwritten_log, words_of_unwritten_output,
 };
+use placement::InputFault;
 use program_ends::{Ending, UNWRITTEN, UsageFault};
-use report::Verdict;
+use report::{CheckFault, Verdict};
 use std::alloc::Global;
 use std::fs::Files;
 use std::io::{Read, Write};
@@ -36,12 +37,38 @@ pub fn explain<'a, R: Env + Files<File = F> + Eprint + AllocGlobal, F: Read + Wr
     };
     match asked {
         Ok(Asked::StoredRun) => tell(rt, &words_of_stored_run(alloc), look),
+        Ok(Asked::Rows(names)) => explain_rows(rt, alloc, names, ending, explainer, look),
         Ok(Asked::Files(asked)) => explain_files(rt, alloc, asked, ending, explainer, look, status),
         Ok(Asked::Version) | Err(UsageFault::Memory) => {}
         Err(UsageFault::Usage) => tell_usage(rt, alloc, Program::Check, look),
     }
     if status == UNWRITTEN {
         tell(rt, &words_of_unwritten_output(alloc), look);
+    }
+}
+
+// Explains the end of a run over the rows of recordings: where each fault is, and what is wrong there.
+fn explain_rows<'a, R: Files<File = F> + Eprint, F: Read + Drop>(
+    rt: &'a R,
+    alloc: Global,
+    names: &'a InputNames,
+    ending: &Ending<CheckEnd>,
+    explainer: &'a Explainer,
+    look: Look<'_>,
+) {
+    tell(rt, explainer.noted(), look);
+    let Ending::Own(CheckEnd::Rows(found)) = ending else {
+        return;
+    };
+    let files = RunFiles { rt, alloc, names };
+    for (core, one) in found.iter().enumerate() {
+        if let (Ok(core), Some(fault)) = (u32::try_from(core), one.fault) {
+            let seq = one.records;
+            let refusal = Err(CheckFault::Input(InputFault::Row { core, seq, fault }));
+            if let Some(told) = files.told_of(&refusal, explainer) {
+                tell(rt, &told.words, look);
+            }
+        }
     }
 }
 

@@ -49,8 +49,8 @@ where
     }
 }
 
-// The end of a run if not all its files could be opened.
-fn end_by(fault: OpenFault) -> Ending<CheckEnd>
+/// The end of a run if not all its files could be opened.
+pub fn end_by(fault: OpenFault) -> Ending<CheckEnd>
     ensures { result ≡ ending_of fault }
 {
     match fault {
@@ -190,8 +190,8 @@ fn awaited_of<R: Files>(rt: &R, alloc: Global, asked: &FilesAsked) -> Option<Arc
     Awaited::new(rt, alloc, &asked.names)
 }
 
-// The recordings in the files of these names, in their order.
-fn open_cores<D: Folder<File = F>, F: Read + Drop>(
+/// The recordings in the files of these names, in their order. The explainer receives which file cannot be opened and why.
+pub fn open_cores<D: Folder<File = F>, F: Read + Drop>(
     folder: &D,
     alloc: Global,
     names: &[String],
@@ -211,12 +211,12 @@ fn open_cores<D: Folder<File = F>, F: Read + Drop>(
     Ok(cores)
 }
 
-// Why not all files of a run could be opened.
+/// Why not all files of a run could be opened.
 #[derive(Clone, Copy, Debug, PartialEq, Eq)]
-enum OpenFault {
-    // A file cannot be opened, or the configuration or the rules file cannot be read.
+pub enum OpenFault {
+    /// A file cannot be opened, or the configuration or the rules file cannot be read.
     Unopened,
-    // Memory was refused.
+    /// Memory was refused.
     Memory,
 }
 

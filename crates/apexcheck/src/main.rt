@@ -14,6 +14,9 @@
 //! `Opened` holds what was opened in a `Folder`. Its `check` judges the rules file (`read_rules`), then checks under the relations of the
 //! options, followed by clones of the file's relations (`check_ruled`). `check_files` opens the files and passes on the answer of `check`.
 //!
+//! With `--rows` the recordings alone are read, each to its end or to its first fault (`check_rows`, over `rows_check`). A run ends with what
+//! is found in each.
+//!
 //! `Explainer` gathers what explains the end. It is the witness of the check, and notes which file cannot be opened, why a rules file is
 //! refused, which rule is broken, and which keys of the configuration are unknown. What a person sees while the check goes on is a
 //! `Course`, which is the gate of the check: its progress, and the files that hold up a known answer (`Awaited`).
@@ -22,9 +25,10 @@
 //!
 //! What the command line of `apexcheck` requests.
 //!
-//! Promises: no word requests the stored run, `--version` alone the version, and other words a run over files, for which each file, option
-//! and setting is what the parser of command lines finds in the words. Words are refused only if the parser does not take them, if a file
-//! that a run needs is not named, or if an option has a value that it cannot have.
+//! Promises: no word requests the stored run, `--version` alone the version, `--rows` the rows of the recordings that the other words name,
+//! and other words a run over files, for which each file, option and setting is what the parser of command lines finds in the words. Words
+//! are refused only if the parser does not take them, if a file that a run needs is not named, if an option has a value that it cannot have,
+//! or if no recording follows `--rows`.
 //!
 //! The options are a definition (`CommandLine.antt`), and so is what they request (`Words.antt`). Workers and depth are passed on as they
 //! are given; the check refuses what is out of range.
@@ -47,6 +51,7 @@ mod json;
 mod last_records;
 mod result_rule;
 mod rows;
+mod rows_alone;
 mod ruled;
 mod sarif;
 mod sentences;
@@ -65,6 +70,7 @@ use ending::{CheckEnd, conclude};
 use explained::explain;
 use folder::{Folder, SystemFiles};
 use program_ends::{Ending, UsageFault, out_of_memory, refused_words};
+use rows_alone::check_rows;
 use sink::WriterSink;
 use std::alloc::Global;
 use std::env::Args;
@@ -146,6 +152,7 @@ where
             last: None,
         }),
         Ok(Asked::Version) => Ending::Own(CheckEnd::Version),
+        Ok(Asked::Rows(names)) => check_rows(folder, alloc, names, explainer),
         Ok(Asked::Files(asked)) => files::check_files(rt, folder, asked, explainer),
         Err(fault) => refused_words(*fault),
     }

@@ -68,7 +68,7 @@ pub fn rule_of(
             fault,
             "docs/SPECIFICATION.md, part 14; docs/FORMATS.md, Rules",
         ),
-        Ending::BadUsage | Ending::Own(CheckEnd::Version) => Ok(None),
+        Ending::BadUsage | Ending::Own(CheckEnd::Rows(_) | CheckEnd::Version) => Ok(None),
     }
 }
 

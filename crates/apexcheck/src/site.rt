@@ -36,7 +36,8 @@ pub fn site_of<'a, R: Files<File = F>, F: Read + Drop>(
         Ending::Own(CheckEnd::Checked { outcome, .. }) => {
             site_of_outcome(files, outcome, explainer, line_of(told))
         }
-        Ending::BadUsage | Ending::Own(CheckEnd::Few { .. } | CheckEnd::Version) => {
+        Ending::BadUsage
+        | Ending::Own(CheckEnd::Few { .. } | CheckEnd::Rows(_) | CheckEnd::Version) => {
             in_file(config, None)
         }
     }

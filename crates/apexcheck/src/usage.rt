@@ -1,6 +1,6 @@
 // The words of the command line.
 
-ghost use Rattle.std.specs.Prelude.{◌≡◌, ◌≢◌, ◌<◌, ◌≤◌, ◌||◌, IfErr, IfOk, IsTrue, None, Ok, Some, codes, false, is_some, length, map, option_and_then, option_map, string_bytes, true};
+ghost use Rattle.std.specs.Prelude.{◌≡◌, ◌≢◌, ◌<◌, ◌≤◌, ◌||◌, [], IfErr, IfOk, IsTrue, None, Ok, Some, codes, false, is_some, length, map, option_and_then, option_map, string_bytes, true};
 ghost use Rattle.std.specs.Option.{ok_or};
 ghost use Rattle.clap.specs.Takes.{takes};
 ghost use Rattle.clap.specs.Walk.{rows_of};
@@ -8,8 +8,8 @@ ghost use Rattle.clap.specs.Words.{app_of, first_value, found_of, one_text, rule
 ghost use Rattle.asked_rules.specs.Options.{values_of};
 ghost use Rattle.apexcheck.specs.CommandLine.{command_line, flag_of, found_in, option_of, recordings};
 ghost use Rattle.apexcheck.specs.Settings.{least_of, settings_of};
-ghost use Rattle.apexcheck.specs.Words.{AreNamed, AsksFor, AsksForFiles, asks_version};
-ghost use Rattle.apexcheck.specs.Wrong.{IsWrong, LacksFiles};
+ghost use Rattle.apexcheck.specs.Words.{AreNamed, AsksFor, AsksForFiles, AsksForRows, NamesRecordings, asks_rows, asks_version};
+ghost use Rattle.apexcheck.specs.Wrong.{IsRefused, IsWrong, LacksFiles};
 
 use crate::settings::{read_least, read_settings};
 use answer_words::InputNames;
@@ -27,6 +27,8 @@ pub enum Asked {
     StoredRun,
     /// The one word is `--version`.
     Version,
+    /// The first word is `--rows`: the rows of recordings alone.
+    Rows(InputNames),
     /// The run whose texts are in files.
     Files(FilesAsked),
 }
@@ -67,12 +69,14 @@ impl FilesAsked {
 pub fn read_words(alloc: Global, words: &[String]) -> Result<Asked, UsageFault>
     ensures stored { length words.now ≤ 1 → result ≡ Ok Asked.StoredRun }
     ensures version { asks_version (map string_bytes words.now) ≡ true → result ≡ Ok Asked.Version }
-    ensures files { 1 < length words.now → asks_version (map string_bytes words.now) ≡ false → IfOk result (AsksForFiles (found_in (map string_bytes words.now))) }
-    ensures refused { IfErr result (λ fault. fault ≡ UsageFault.Usage → IsWrong (map string_bytes words.now)) }
+    ensures rows { asks_rows (map string_bytes words.now) ≡ true → IfOk result (AsksForRows (map string_bytes words.now)) }
+    ensures files { 1 < length words.now → asks_version (map string_bytes words.now) ≡ false → asks_rows (map string_bytes words.now) ≡ false → IfOk result (AsksForFiles (found_in (map string_bytes words.now))) }
+    ensures refused { IfErr result (λ fault. fault ≡ UsageFault.Usage → IsRefused (map string_bytes words.now)) }
 {
     match words {
         [] | [_] => Ok(Asked::StoredRun),
         words if is_version(words) => Ok(Asked::Version),
+        [_, first, names @ ..] if first.as_str() == "--rows" => rows_asked(alloc, names),
         words => run_over_files(alloc, words),
     }
 }
@@ -85,6 +89,36 @@ fn is_version(words: &[String]) -> bool
         [_, word] => word.as_str() == "--version",
         _ => false,
     }
+}
+
+// The rows of the recordings of these names, of which there must be one.
+fn rows_asked(alloc: Global, names: &[String]) -> Result<Asked, UsageFault>
+    ensures asked { IfOk result (NamesRecordings (map string_bytes names.now)) }
+    ensures refused { IfErr result (λ fault. fault ≡ UsageFault.Usage → names.now ≡ []) }
+{
+    if names.is_empty() {
+        return Err(UsageFault::Usage);
+    }
+    match names_alone(alloc, names) {
+        Ok(names) => Ok(Asked::Rows(names)),
+        Err(_) => Err(UsageFault::Memory),
+    }
+}
+
+// The names of these recordings, and of no other file.
+fn names_alone(alloc: Global, names: &[String]) -> Result<InputNames, AllocError>
+    ensures { IfOk result (λ given. map string_bytes given.cores.items ≡ map string_bytes names.now) }
+{
+    let mut cores = Vec::new(alloc);
+    for name in names {
+        cores.push(String::from_str(alloc, name)?)?;
+    }
+    Ok(InputNames {
+        config: String::new(alloc),
+        rules: None,
+        order: String::new(alloc),
+        cores,
+    })
 }
 
 // A run over files, as the words request it. The first word is the program's own name.

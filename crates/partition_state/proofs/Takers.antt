@@ -12,7 +12,7 @@ use Rattle.apex_types.specs.declared.request.Request.TheVariants as request
 use Rattle.apex_machine.specs.declared.state.ErrorHandler.{ErrorHandler}
 use Rattle.apex_machine.specs.declared.state.ListedError.{ListedError}
 use Rattle.apex_machine.specs.declared.state.Process.{Process}
-use Rattle.apex_machine.specs.After.{partition_told}
+use Rattle.apex_machine.specs.After.{partition_reported}
 use Rattle.apex_machine.specs.Errors.{deadline_after, error_set, handed_over, handles_more, healed, is_handled, is_some_listed, listed, listed_if_handled, oldest_reported, reported, without_oldest}
 use Rattle.apex_machine.specs.State.{Partition, is_handler, is_normal}
 use Rattle.scheduling.specs.declared.fault.FaultChange.TheVariants as change
@@ -124,7 +124,7 @@ error_left place partition report old new none is = is ∙ ap (with_table old) (
 -- the partition after an error that does not restart it
 pub is_told : (place : ℕ) (partition middle : Partition) (report : ErrorReport) (message : List ℕ) (processes : Processes) → message ≡ []
     → middle ≡ record partition { errors = listed_if_handled partition (record { error = report.error; process = report.who.proc; message = message }) }
-    → processes ≡ with_each (reported place partition report) (processes_of partition) → with_processes processes middle ≡ partition_told place report partition
+    → processes ≡ with_each (reported place partition report) (processes_of partition) → with_processes processes middle ≡ partition_reported place report partition
 is_told place partition middle report message processes empty is become = rw (is, become, empty) refl
 
 -- who is faulted

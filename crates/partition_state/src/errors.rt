@@ -13,7 +13,7 @@ ghost use Rattle.scheduling.specs.Sound.{is_core_number};
 ghost use Rattle.wait_set.specs.Givens.{answer_given};
 ghost use Rattle.partition_state.specs.Calls.{NamesCore};
 
-use crate::restarting::{error_mode, restart_told};
+use crate::restarting::{error_mode, restart_reported};
 use crate::state::PartitionState;
 use apex_machine::{ErrorHandler, ListedError, Mode};
 use apex_types::limits::MOST_ERRORS;
@@ -166,10 +166,10 @@ impl PartitionState {
         place: Place,
         report: &ErrorReport,
     ) -> Result<(), AllocError>
-        ensures ok { OnOk result (self.new ≡ after.partition_errored (after.restart_told config.now report.now) config.now place report.now self.old) }
+        ensures ok { OnOk result (self.new ≡ after.partition_errored (after.restart_reported config.now report.now) config.now place report.now self.old) }
         ensures unchanged { OnErr result (self.new ≡ self.old) }
     {
-        match restart_told(config, report) {
+        match restart_reported(config, report) {
             Some(restart) => {
                 self.restart(restart, config.first_core(report.who.part), place);
                 Ok(())
@@ -180,7 +180,7 @@ impl PartitionState {
 
     // The same for an error that does not restart the partition.
     fn note_error(&mut self, place: Place, report: &ErrorReport) -> Result<(), AllocError>
-        ensures ok { OnOk result (self.new ≡ after.partition_told place report.now self.old) }
+        ensures ok { OnOk result (self.new ≡ after.partition_reported place report.now self.old) }
         ensures unchanged { OnErr result (self.new ≡ self.old) }
     {
         let taker = self.taker(report.who.proc);

@@ -69,8 +69,8 @@ pub(crate) fn error_mode(config: &Config, part: PartId) -> Option<Mode>
 }
 
 /// The restart that the report of an error makes of the partition of its process, if it makes one.
-pub(crate) fn restart_told(config: &Config, report: &ErrorReport) -> Option<Restart>
-    ensures { result ≡ after.restart_told config.now report.now }
+pub(crate) fn restart_reported(config: &Config, report: &ErrorReport) -> Option<Restart>
+    ensures { result ≡ after.restart_reported config.now report.now }
 {
     if report.restarts {
         restart_by_error(config, report.who.part)

@@ -53,6 +53,7 @@ pub use inputs::Inputs;
 pub use last::{Last, LastItem};
 pub use last_text::write_last;
 pub use laws::{one_outcome, settings_change_no_outcome, whole_readings_tell_no_failure};
+pub use names::name_of_row_fault;
 pub use options::Options;
 pub use settings::Settings;
 pub use text::{status_of_outcome, write_report};

@@ -58,7 +58,7 @@ pub fn name_of_order_fault(fault: OrderFault) -> &'static [u8]
     name_of!(fault, OrderFault: NoSuchCore Skipped Repeated Absent Missing)
 }
 
-// The name of a fault of a row.
+/// The name of a fault of a row.
 pub fn name_of_row_fault(fault: RowFault) -> &'static [u8]
     ensures { result.now ≡ row_fault_name fault }
 {

@@ -1,7 +1,7 @@
 // The words of a refused command line, which are read again.
 
 use crate::complaint::Complaint;
-use crate::options::{HELP, ProgramOption, SHORT_HELP, Takes, VERSION};
+use crate::options::{HELP, Need, ProgramOption, SHORT_HELP, Takes, VERSION};
 use crate::program::Program;
 use csv_rows::read_decimal;
 use record_read::find_service;
@@ -55,6 +55,9 @@ impl<'a> CommandLine<'a> {
                 break;
             }
             if !looks_like_option(word) {
+                if !self.program.takes_recordings() {
+                    return Ok(Complaint::Unknown(word));
+                }
                 self.recordings = self.recordings.saturating_add(1);
             } else if let Some(complaint) = self.read_option(word)? {
                 return Ok(complaint);
@@ -112,17 +115,31 @@ impl<'a> CommandLine<'a> {
         }
     }
 
-    // What is required and missing.
+    // What is required and missing, or is not alone although it must be.
     fn missing(&self) -> Complaint<'a> {
         for option in self.program.options() {
-            if option.is_required && !self.seen.contains(&option.name) {
+            if option.need == Need::Alone && self.seen.contains(&option.name) {
+                return self.wrong_beside(option.name);
+            }
+        }
+        for option in self.program.options() {
+            if option.need == Need::Required && !self.seen.contains(&option.name) {
                 return Complaint::Missing(option.name);
             }
         }
-        if self.recordings == 0 {
+        if self.recordings == 0 && self.program.takes_recordings() {
             Complaint::NoRecording
         } else {
             Complaint::Other
+        }
+    }
+
+    // What is wrong beside an option that must be alone.
+    fn wrong_beside(&self, option: &'static str) -> Complaint<'a> {
+        if self.seen.len() == 1 && self.recordings == 0 && self.program.takes_recordings() {
+            Complaint::NoRecording
+        } else {
+            Complaint::NotAlone(option)
         }
     }
 }

@@ -28,6 +28,8 @@ pub enum Complaint<'a> {
     },
     /// This option is required, and missing.
     Missing(&'static str),
+    /// This option has others beside it, and must be the only one.
+    NotAlone(&'static str),
     /// No recording is named.
     NoRecording,
     /// Nothing that is found here.
@@ -47,6 +49,7 @@ impl Complaint<'_> {
             Complaint::NeedlessValue(name) => words.say(format_args!("{name} takes no value")),
             Complaint::BadValue { option, value } => tell_value(words, alloc, option, value),
             Complaint::Missing(name) => words.say(format_args!("{name} is missing")),
+            Complaint::NotAlone(name) => words.say(format_args!("{name} must be the only option")),
             Complaint::NoRecording => words.say("no recording is named"),
             Complaint::Other => words.say("the arguments do not match the usage"),
         }

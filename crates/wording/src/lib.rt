@@ -9,7 +9,7 @@
 //!
 //! # What the programs say of themselves
 //!
-//! What the three programs say of themselves: their options, their short help, why a command line is refused, and where their documents are.
+//! What the programs say of themselves: their options, their short help, why a command line is refused, and where their documents are.
 //!
 //! Promises only that its functions end and take no memory except for their texts. It decides nothing: a program's own parser decides
 //! whether the words of its command line are accepted. If they are refused, they are read again here, by a table of the program's options
@@ -36,7 +36,7 @@ pub use documents::Documents;
 pub use naming::{
     Ascii, Bytes, Count, Found, Numbered, Occupant, Set, ThereAre, code_name, kind_name, out_name,
 };
-pub use options::{Bounds, ProgramOption, Takes};
+pub use options::{Bounds, Need, ProgramOption, Takes};
 pub use program::Program;
 pub use refused::{Refusal, tell_usage};
 pub use rules::{answer_rule, conditions_rule};

@@ -7,8 +7,19 @@ pub struct ProgramOption {
     pub name: &'static str,
     /// What its value is.
     pub takes: Takes,
-    /// Whether no command line may omit it.
-    pub is_required: bool,
+    /// Whether a command line may omit it, or have others beside it.
+    pub need: Need,
+}
+
+/// Whether a command line may omit an option, or have others beside it.
+#[derive(Clone, Copy, Debug, PartialEq, Eq)]
+pub enum Need {
+    /// It may be omitted.
+    Optional,
+    /// It may be omitted only where an option is alone.
+    Required,
+    /// It must be the only option.
+    Alone,
 }
 
 /// What the value of an option is.
@@ -46,20 +57,27 @@ pub const HELP: &str = "--help";
 /// The short name of that option.
 pub const SHORT_HELP: &str = "-h";
 
-// A row of a table: an option, and what its value is. A required one is marked.
+// A row of a table: an option, and what its value is. One that is required, or that must be the only one, is marked.
 macro_rules! row {
     ($name:literal, $takes:expr) => {
         ProgramOption {
             name: $name,
             takes: $takes,
-            is_required: false,
+            need: Need::Optional,
         }
     };
     (required $name:literal, $takes:expr) => {
         ProgramOption {
             name: $name,
             takes: $takes,
-            is_required: true,
+            need: Need::Required,
+        }
+    };
+    (alone $name:literal, $takes:expr) => {
+        ProgramOption {
+            name: $name,
+            takes: $takes,
+            need: Need::Alone,
         }
     };
 }
@@ -82,7 +100,7 @@ const MOST: u64 = 4_294_967_295;
 const LAST_PLACE: u64 = 4_611_686_018_427_387_903;
 
 /// The options of `apexcheck`.
-pub static CHECK_OPTIONS: [ProgramOption; 13] = [
+pub static CHECK_OPTIONS: [ProgramOption; 14] = [
     row!(required "--config", Takes::File),
     row!(required "--order", Takes::File),
     row!(required "--workers", number!("number", 1, 64)),
@@ -96,6 +114,7 @@ pub static CHECK_OPTIONS: [ProgramOption; 13] = [
     row!("--json", Takes::File),
     row!("--last", Takes::Nothing),
     row!("--quiet", Takes::Nothing),
+    row!(alone "--rows", Takes::Nothing),
 ];
 
 /// The options of `apexorder`.
@@ -118,4 +137,33 @@ pub static VIEW_OPTIONS: [ProgramOption; 8] = [
     row!("--max-elapsed", number!("number of ticks", 0, MOST)),
     row!("--forbid", Takes::Service),
     row!("--rules", Takes::File),
+];
+
+/// The options of `apexmake`.
+pub static MAKE_OPTIONS: [ProgramOption; 7] = [
+    row!(required "--config", Takes::File),
+    row!(required "--seed", number!("number", 0, MOST)),
+    row!(required "--records", number!("number of records", 1, MOST)),
+    row!(required "--out", Takes::File),
+    row!("--format", Takes::OneOf(&["1", "2", "3"])),
+    row!(
+        "--spoil",
+        Takes::OneOf(&[
+            "Names",
+            "Skew",
+            "Idle",
+            "Window",
+            "Deadline",
+            "Choice",
+            "Return",
+            "OutsideProfile",
+            "Prio",
+            "Chan",
+            "Out",
+            "Val",
+            "Data",
+            "Woken"
+        ])
+    ),
+    row!(alone "--module", number!("number", 0, MOST)),
 ];

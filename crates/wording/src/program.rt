@@ -1,6 +1,6 @@
 // The programs.
 
-use crate::options::{CHECK_OPTIONS, ORDER_OPTIONS, ProgramOption, VIEW_OPTIONS};
+use crate::options::{CHECK_OPTIONS, MAKE_OPTIONS, ORDER_OPTIONS, ProgramOption, VIEW_OPTIONS};
 
 /// A program.
 #[derive(Clone, Copy, Debug, PartialEq, Eq)]
@@ -11,6 +11,8 @@ pub enum Program {
     Order,
     /// `apexview`.
     View,
+    /// `apexmake`.
+    Make,
 }
 
 impl Program {
@@ -20,6 +22,7 @@ impl Program {
             Program::Check => "apexcheck",
             Program::Order => "apexorder",
             Program::View => "apexview",
+            Program::Make => "apexmake",
         }
     }
 
@@ -29,6 +32,15 @@ impl Program {
             Program::Check => &CHECK_OPTIONS,
             Program::Order => &ORDER_OPTIONS,
             Program::View => &VIEW_OPTIONS,
+            Program::Make => &MAKE_OPTIONS,
+        }
+    }
+
+    /// Whether its command line names recordings.
+    pub fn takes_recordings(self) -> bool {
+        match self {
+            Program::Check | Program::Order | Program::View => true,
+            Program::Make => false,
         }
     }
 }

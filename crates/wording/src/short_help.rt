@@ -4,8 +4,8 @@ use crate::program::Program;
 use std::fmt;
 use std::fmt::Display;
 
-const CHECK_HELP: &str =
-    "usage: apexcheck --config FILE --order FILE --workers N [OPTION]... CORE...
+const CHECK_HELP: &str = "usage: apexcheck --rows CORE...
+       apexcheck --config FILE --order FILE --workers N [OPTION]... CORE...
        apexcheck --version | --help
 Checks the recordings of the cores of an ARINC 653 module, in one proposed
 order. Without arguments, it checks a stored example.
@@ -15,7 +15,8 @@ order. Without arguments, it checks a stored example.
   rules:  --max-elapsed TICKS, --forbid SERVICE, --rules FILE,
           --at-least RECORDS (refuse a YES for fewer)
   output: --last (the records before a NO), --sarif FILE (a log),
-          --source-root FOLDER, --json FILE (the answer as data), --quiet";
+          --source-root FOLDER, --json FILE (the answer as data), --quiet
+  alone:  --rows (the rows of the recordings, and nothing else)";
 
 const ORDER_HELP: &str = "usage: apexorder --config FILE [OPTION]... CORE...
        apexorder --version | --help
@@ -36,6 +37,16 @@ output, up to the first record that is rejected or breaks a rule.
           --span N (records before the end, 1 to 5000; default 200)
   rules:  --max-elapsed TICKS, --forbid SERVICE, --rules FILE";
 
+const MAKE_HELP: &str = "usage: apexmake --module SEED
+       apexmake --config FILE --seed N --records N --out FOLDER [OPTION]...
+       apexmake --version | --help
+Makes recordings of the cores of an ARINC 653 module, with the line that
+apexcheck must print for them, or the configuration of a module.
+  inputs: --config FILE (the module), --seed N (of all choices)
+  made:   --records N (of all cores together), --format 1|2|3,
+          --spoil CAUSE (the cause of a NO), --out FOLDER (new or empty)
+  alone:  --module SEED (a random module)";
+
 /// The short help of a program.
 #[derive(Clone, Copy, Debug)]
 pub struct HelpText<'a> {
@@ -55,6 +66,7 @@ impl HelpText<'_> {
             Program::Check => CHECK_HELP,
             Program::Order => ORDER_HELP,
             Program::View => VIEW_HELP,
+            Program::Make => MAKE_HELP,
         }
     }
 }

@@ -27,7 +27,8 @@ returns-in-Ok c =
     let request : IsRequest (map string_bytes c.as_slice.result.now) c.read_words.result = record {
       stored = λ few. c.read_words.ensures.stored (rw same at few);
       version = c.read_words.ensures.version;
-      files = λ more other. c.read_words.ensures.files (rw same at more) other;
+      rows = c.read_words.ensures.rows;
+      files = λ more other whole. c.read_words.ensures.files (rw same at more) other whole;
       refused = c.read_words.ensures.refused;
     } in
     requested into_iter_items string_bytes error_kind c.args.given c.in-Ok.words.items c.in-Ok.words c.read_words.result c.in-Ok.ensures.words c.in-Ok.ensures.memory c.in-Ok.ensures.wrong

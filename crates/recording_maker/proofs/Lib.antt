@@ -1,0 +1,5 @@
+mod Begins
+mod Making
+mod Outcomes
+mod Rising
+mod Shown

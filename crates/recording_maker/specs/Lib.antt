@@ -1,0 +1,5 @@
+pub mod Formats
+pub mod Made
+pub mod Outcome
+pub mod Refused
+pub mod Rising
