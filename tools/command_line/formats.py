@@ -5,12 +5,12 @@ from table import ALL_OTHERS, Operand, Program, Word
 
 
 def usage(program: Program) -> str:
-    """The usage of a program. Its last form names all options."""
+    """The usage of a program. Its widest form names all options."""
     lines = []
     for form in program.forms:
         words = []
         for word in form:
-            if word == ALL_OTHERS and form is program.forms[-1]:
+            if word == ALL_OTHERS and form is program.widest_form:
                 words += [f"[{option.usage_by_words}]" for option in program.others(form)]
             else:
                 words.append(program.option(word).usage if word.startswith("--") else word)

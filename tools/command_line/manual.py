@@ -15,11 +15,11 @@ def flag(option: Option) -> str:
     return f"Fl -{option.name}" + (f" Ar {NAMES.get(option.value, option.value.lower())}" if option.value else "")
 
 
-def synopsis_form(program: Program, form: list[str], is_last: bool) -> list[str]:
-    """The lines of a form of the usage. The last form names all options, each on a line."""
+def synopsis_form(program: Program, form: list[str], is_widest: bool) -> list[str]:
+    """The lines of a form of the usage. The widest form names all options, each on a line."""
     lines = [".Nm"]
     for word in form:
-        if word == ALL_OTHERS and is_last:
+        if word == ALL_OTHERS and is_widest:
             lines += [f".Op {flag(option)}" for option in program.others(form)]
         elif word == ALL_OTHERS:
             lines.append(".Op Ar option ...")
@@ -34,7 +34,7 @@ def synopsis(program: Program) -> str:
     """The synopsis of a program."""
     lines = []
     for form in program.forms:
-        lines += synopsis_form(program, form, form is program.forms[-1])
+        lines += synopsis_form(program, form, form is program.widest_form)
     alone = [".Nm"] if program.runs_alone else []
     return "\n".join([*lines, *alone, ".Nm", f".{flag(program.version)}", ".Nm", f".{flag(program.help)}"])
 

@@ -125,6 +125,11 @@ class Program:
         forms = [form for form in self.forms if not any(is_only(option, form) for option in self.alone)]
         return [option for option in self.options if all(option.word in form for form in forms)]
 
+    @property
+    def widest_form(self) -> list[str]:
+        """The form of the usage in which a reference names all options."""
+        return [form for form in self.forms if ALL_OTHERS in form][-1]
+
     def others(self, form: list[str]) -> list[Option]:
         """The other options of a form."""
         return [option for option in self.options if option.word not in form and option not in self.alone]

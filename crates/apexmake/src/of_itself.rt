@@ -24,6 +24,9 @@ pub fn print_help<R: Files + AllocGlobal, W: Sink>(rt: &R, alloc: Global, output
     ensures { (result ≡ Help) ⊎ (result ≡ Unwritten) ⊎ (result ≡ Memory) }
 {
     let documents = Documents::find(rt, alloc);
+    if documents.lacks_memory() {
+        return Ending::Memory;
+    }
     let shown = help(Program::Make, documents.folder());
     let Ok(text) = format!(in alloc; "{shown}\n") else {
         return Ending::Memory;

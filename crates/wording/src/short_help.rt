@@ -4,8 +4,9 @@ use crate::program::Program;
 use std::fmt;
 use std::fmt::Display;
 
-const CHECK_HELP: &str = "usage: apexcheck --rows CORE...
-       apexcheck --config FILE --order FILE --workers N [OPTION]... CORE...
+const CHECK_HELP: &str =
+    "usage: apexcheck --config FILE --order FILE --workers N [OPTION]... CORE...
+       apexcheck --rows CORE...
        apexcheck --version | --help
 Checks the recordings of the cores of an ARINC 653 module, in one proposed
 order. Without arguments, it checks a stored example.
@@ -37,8 +38,8 @@ output, up to the first record that is rejected or breaks a rule.
           --span N (records before the end, 1 to 5000; default 200)
   rules:  --max-elapsed TICKS, --forbid SERVICE, --rules FILE";
 
-const MAKE_HELP: &str = "usage: apexmake --module SEED
-       apexmake --config FILE --seed N --records N --out FOLDER [OPTION]...
+const MAKE_HELP: &str = "usage: apexmake --config FILE --seed N --records N --out FOLDER [OPTION]...
+       apexmake --module SEED
        apexmake --version | --help
 Makes recordings of the cores of an ARINC 653 module, with the line that
 apexcheck must print for them, or the configuration of a module.
