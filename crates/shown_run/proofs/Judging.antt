@@ -34,14 +34,14 @@ use Rattle.shown_run.specs.Stretches.{HaveTaken, accepted_by}
 -- one round
 
 round_of : (configuration : Configuration) (first : ℕ) (old new : List Holding) (records : List Ordered) (found : Option Refused) → HaveRunOver configuration old records found new
-    → AreGoing configuration (first + length records) new → IsRound configuration (judging_of first old) records found (judging_of (first + length records) new)
-round_of configuration first old new records None run going = (run, refl, going)
+    → (found ≡ None → AreGoing configuration (first + length records) new) → IsRound configuration (judging_of first old) records found (judging_of (first + length records) new)
+round_of configuration first old new records None run going = (run, refl, going refl)
 round_of configuration first old new records (Some found) is_no going = is_no
 
 -- what the records of a round decide
 pub judged_round : (configuration : Configuration) (relations : List Relation) (first : ℕ) (old new : List Holding) (records : List Ordered) (found : Option Refused) (breach : Option Breach)
     → AreGoing configuration first old → ArePlaced first records → AreOfCores configuration.cores records → HaveRunOver configuration old records found new
-    → IsTested configuration relations (parts_in old) records found breach → AreGoing configuration (first + length records) new
+    → IsTested configuration relations (parts_in old) records found breach → (found ≡ None → AreGoing configuration (first + length records) new)
     → (decides : Option Verdict) → decides ≡ against first found (broken_of breach)
     → IsDecided configuration relations (judging_of first old) records decides (judging_of (first + length records) new)
 judged_round configuration relations first old new records found breach ready placed cores outcome tested going decides is =
@@ -61,7 +61,7 @@ rejects_there configuration relations first old new before records (No pos piece
 -- the breach of a broken rule is of the record at its place
 pub breaks_there : (configuration : Configuration) (relations : List Relation) (first : ℕ) (old new : List Holding) (before records : List Ordered) (found : Option Refused) (breach : Option Breach) (verdict : Verdict)
     → AllRun configuration (cold_parts configuration) before (parts_in old) → ViewsMeet configuration relations (cold_parts configuration) before → first ≡ length before → ArePlaced first records
-    → HaveRunOver configuration old records found new → IsTested configuration relations (parts_in old) records found breach → AreGoing configuration (first + length records) new
+    → HaveRunOver configuration old records found new → IsTested configuration relations (parts_in old) records found breach → (found ≡ None → AreGoing configuration (first + length records) new)
     → against first found (broken_of breach) ≡ Some verdict → StillBreaks configuration relations records (Ok verdict) breach
 breaks_there configuration relations first old new before records found breach verdict run meet many placed outcome tested going is =
     let counted : first ≡ 0 + length before = omega (arith, many) in
@@ -119,6 +119,12 @@ pub goes_on : (next : ℕ) (end : Option (Result (Unit {0}) InputFault)) (decide
 goes_on next end (Some verdict) is = let none : ◌≡◌ {A = Option (Result Verdict CheckFault)} (Some (Ok verdict)) None = is in cc
 goes_on next (Some end) None is = let none : ◌≡◌ {A = Option (Result Verdict CheckFault)} (Some (answer_with (Yes next) end)) None = is in cc
 goes_on next None None is = (refl, refl)
+
+-- where nothing decides, the pieces may judge what comes next
+pub ready_on : (configuration : Configuration) (relations : List Relation) (first next : ℕ) (old new : List Holding) (records : List Ordered) (decided : Option Verdict)
+    → decided ≡ None → IsDecided configuration relations (judging_of first old) records decided (judging_of next new) → AreGoing configuration next new
+ready_on configuration relations first next old new records None none (run, counted, meet, ready) = ready
+ready_on configuration relations first next old new records (Some verdict) none is = let some : ◌≡◌ {A = Option Verdict} (Some verdict) None = none in absurd cc
 
 -- before the first record
 

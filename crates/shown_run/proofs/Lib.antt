@@ -2,5 +2,6 @@ mod Copies
 pub mod Kept
 pub mod Taking
 pub mod Judging
+pub mod InPlace
 pub mod FewerRecords
 mod Answering

@@ -6,7 +6,7 @@ use Rattle.report.specs.Rounds.{IsDecided}
 use Rattle.user_rules.specs.Rules.{relations_of}
 use Rattle.verdict_merge.specs.Rounds.{AreGoing}
 use Rattle.shown_run.specs.Judged.{answer_after, filled_of, judging_of}
-use Rattle.shown_run.proofs.Judging.{goes_on, hold_nothing, hold_on, is_followed, lead_on, round_answer}
+use Rattle.shown_run.proofs.Judging.{goes_on, hold_nothing, hold_on, is_followed, lead_on, ready_on, round_answer}
 use Rattle.shown_run.proofs.following.follow_all.Goals as goal
 
 pub records-init : goal.records-init
@@ -52,7 +52,8 @@ records-preserved g c =
     let none = goes_on round.next round.end c.in-Ok-judge.verdict (sym c.answer.ensures ∙ c.in_default-answer.is) in
     let decided : IsDecided config relations (judging_of c.records.first c.records.run.walk) records c.in-Ok-judge.verdict (judging_of (c.records.first + length records) c.judge.new.self.walk) =
     rw (c.deref.ensures.value, is.config, is.rules) at c.in-Ok-judge.ensures.decided in
-    let pieces : AreGoing config (c.records.first + length records) c.judge.new.self.walk = rw (c.deref.ensures.value, is.config) at c.in-Ok-judge.ensures.going in
+    let pieces : AreGoing config (c.records.first + length records) c.judge.new.self.walk =
+    ready_on config relations c.records.first (c.records.first + length records) c.records.run.walk c.judge.new.self.walk records c.in-Ok-judge.verdict none.1 decided in
     record {
       going = c.in-Ok.ensures.going none.0;
       config = c.judge.ensures.same ∙ is.config;

@@ -13,7 +13,7 @@ use Rattle.shown_run.specs.Stretches.{GoesOn, IsGathered, KeepsSame}
 use Rattle.apex_types.specs.declared.record.Ordered.{Ordered}
 use Rattle.apex_machine.specs.Configuration.{Configuration}
 use Rattle.apex_machine.specs.Runs.{AreOfCores, ArePlaced}
-use Rattle.shown_run.proofs.Judging.{goes_on, hold_nothing, have_taken, hold_on, lead_on, round_answer, whenever}
+use Rattle.shown_run.proofs.Judging.{goes_on, hold_nothing, have_taken, hold_on, lead_on, ready_on, round_answer, whenever}
 use Rattle.shown_run.proofs.gathered.gather_all.Goals as goal
 
 pub rounds-init : goal.rounds-init
@@ -82,7 +82,8 @@ rounds-preserved g c =
     let none = goes_on round.next round.end c.in-Ok-judge.verdict (sym c.answer-answer.ensures ∙ c.in_default-answer.is) in
     let decided : IsDecided config relations (judging_of c.rounds.first c.rounds.run.walk) records c.in-Ok-judge.verdict (judging_of (c.rounds.first + length records) c.judge.new.self.walk) =
     rw (c.deref.ensures.value, is.config, is.rules) at c.in-Ok-judge.ensures.decided in
-    let pieces : AreGoing config (c.rounds.first + length records) c.judge.new.self.walk = rw (c.deref.ensures.value, is.config) at c.in-Ok-judge.ensures.going in
+    let pieces : AreGoing config (c.rounds.first + length records) c.judge.new.self.walk =
+    ready_on config relations c.rounds.first (c.rounds.first + length records) c.rounds.run.walk c.judge.new.self.walk records c.in-Ok-judge.verdict none.1 decided in
     record {
       going = c.in-Ok.ensures.going none.0;
       config = c.judge.ensures.same ∙ is.config;

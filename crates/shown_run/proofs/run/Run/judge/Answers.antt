@@ -22,7 +22,7 @@ tell-requires-clause-rejects g c =
     let relations = relations_of run.rules.now in
     let taken = c.in-Ok.taken in
     let records = c.args.records.now in
-    let new = c.take.new.walk in
+    let new = c.take.new.self.walk in
     let decided : IsDecided config relations (judging_of c.args.first run.walk) records (Some c.in-Some.verdict) (judging_of (c.args.first + length records) new) =
     subst (λ (decides : Option Verdict). IsDecided config relations (judging_of c.args.first run.walk) records decides (judging_of (c.args.first + length records) new)) c.in-Some.is
     (judged_round config relations c.args.first run.walk new records taken.found taken.breach c.requires.going c.requires.placed c.requires.cores c.in-Ok.ensures.outcome
@@ -33,7 +33,7 @@ pub tell-requires-clause-breaks : goal.tell-requires-clause-breaks
 tell-requires-clause-breaks g c =
     let run = c.args.self.now in
     let taken = c.in-Ok.taken in
-    breaks_there run.config.now (relations_of run.rules.now) c.args.first run.walk c.take.new.walk c.requires.reached.0 c.args.records.now taken.found taken.breach c.in-Some.verdict
+    breaks_there run.config.now (relations_of run.rules.now) c.args.first run.walk c.take.new.self.walk c.requires.reached.0 c.args.records.now taken.found taken.breach c.in-Some.verdict
     c.requires.reached.1 c.requires.reached.2 c.requires.reached.3 c.requires.placed c.in-Ok.ensures.outcome c.in-Ok.ensures.tested c.in-Ok.ensures.going
     (sym (c.against-verdict.ensures c.args.first c.requires.placed) ∙ c.in-Some.is)
 
@@ -41,5 +41,5 @@ pub returns-clause-decided : goal.returns-clause-decided
 returns-clause-decided g c =
     let run = c.args.self.now in
     let taken = c.in-Ok.taken in
-    judged_round run.config.now (relations_of run.rules.now) c.args.first run.walk c.take.new.walk c.args.records.now taken.found taken.breach c.requires.going c.requires.placed
+    judged_round run.config.now (relations_of run.rules.now) c.args.first run.walk c.take.new.self.walk c.args.records.now taken.found taken.breach c.requires.going c.requires.placed
     c.requires.cores c.in-Ok.ensures.outcome c.in-Ok.ensures.tested c.in-Ok.ensures.going c.against-verdict.result (c.against-verdict.ensures c.args.first c.requires.placed)
