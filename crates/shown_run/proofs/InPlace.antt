@@ -1,8 +1,7 @@
 -- The pieces take one record where they are.
-use Rattle.std.proofs.Common.{◌≡◌, ◌<◌, ◌≤◌, ◌+◌, ◌∙◌, ℕ, zero, suc, List, [], ◌∷◌, Option, Some, None, length, get_or, refl, sym, ap, subst, arith}
+use Rattle.std.proofs.Common.{◌≡◌, ◌<◌, ◌≤◌, ◌∙◌, ℕ, zero, suc, List, [], ◌∷◌, Option, Some, None, length, get_or, refl, sym, ap, subst, arith}
 use Rattle.std.specs.List.{All}
 use Rattle.std.specs.Prelude.{slice_index_or}
-use Rattle.apex_types.specs.declared.cause.Cause.{Cause}
 use Rattle.apex_types.specs.declared.record.Ordered.{Ordered}
 use Rattle.apex_types.specs.declared.view.View.{View}
 use Rattle.apex_machine.specs.Configuration.{Configuration}

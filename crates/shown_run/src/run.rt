@@ -83,14 +83,7 @@ impl<'a> Run<'a> {
         let verdict = Verdict::against(records, found, breach);
         if let Some(verdict) = &verdict {
             tell(
-                witness,
-                config,
-                rules,
-                &self.walk,
-                verdict,
-                breach,
-                first,
-                records,
+                witness, config, rules, &self.walk, verdict, breach, first, records,
             );
         }
         Ok(verdict)

@@ -1,5 +1,5 @@
 -- Record by record, up to the answer.
-use Rattle.std.proofs.Common.{◌≡◌, ◌+◌, ◌∙◌, ◌++◌, [], Some, None, length, refl, subst, sym}
+use Rattle.std.proofs.Common.{◌≡◌, ◌+◌, ◌∙◌, ◌++◌, [], Some, length, refl, subst, sym}
 use Rattle.placement.specs.Reading.{CanFail}
 use Rattle.report.proofs.Going.{filled_on}
 use Rattle.report.specs.Rounds.{IsDecided}

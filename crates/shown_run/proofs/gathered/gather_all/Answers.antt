@@ -1,5 +1,5 @@
 -- Round by round, up to the answer.
-use Rattle.std.proofs.Common.{◌≡◌, ◌+◌, ◌∙◌, ◌++◌, List, [], Some, None, inl, inr, length, refl, subst, sym}
+use Rattle.std.proofs.Common.{◌≡◌, ◌+◌, ◌∙◌, ◌++◌, List, [], Some, inl, inr, length, refl, subst, sym}
 use Rattle.placement.specs.Reading.{CanFail}
 use Rattle.report.proofs.Going.{filled_on}
 use Rattle.report.specs.Rounds.{IsDecided}

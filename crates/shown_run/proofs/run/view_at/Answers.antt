@@ -1,6 +1,5 @@
 -- The pieces in turn, up to the first that gives a view.
-use Rattle.std.proofs.Common.{below_more, ◌≡◌, ◌<◌, ◌∙◌, ℕ, Option, Some, None, ap, arith, length, subst, sym}
-use Rattle.apex_types.specs.declared.view.View.{View}
+use Rattle.std.proofs.Common.{below_more, ◌≡◌, ◌<◌, ◌∙◌, None, ap, arith, length, sym}
 use Rattle.apex_machine.specs.Views.{view_in}
 use Rattle.piece_check.specs.Parts.{Holding}
 use Rattle.verdict_merge.specs.Rounds.{parts_in}

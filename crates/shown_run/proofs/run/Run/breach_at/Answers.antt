@@ -1,10 +1,7 @@
 -- The view of an accepted record is tested; if no piece gives one, the record is not accepted.
-use Rattle.std.proofs.Common.{◌≡◌, ◌<◌, ◌∙◌, rules, ℕ, List, [], Option, Some, None, arith, length, refl, slice_index_or, subst, sym}
-use Rattle.apex_types.specs.declared.view.View.{View}
-use Rattle.apex_machine.specs.Views.{view_in}
+use Rattle.std.proofs.Common.{◌<◌, rules, ℕ, List, length, refl, slice_index_or, subst, sym}
 use Rattle.piece_check.specs.Parts.{Holding, HoldsBefore}
 use Rattle.user_rules.specs.Rules.{relations_of}
-use Rattle.verdict_merge.specs.Rounds.{parts_in}
 use Rattle.shown_run.proofs.InPlace.{broken_next, holds_each, met_next, unviewed_next}
 use Rattle.shown_run.proofs.run.Run.breach_at.Goals as goal
 

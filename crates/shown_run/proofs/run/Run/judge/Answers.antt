@@ -1,5 +1,5 @@
 -- What the records of a round decide, and what the witness is shown of it.
-use Rattle.std.proofs.Common.{◌≡◌, ◌+◌, ◌∙◌, Option, Some, length, subst, sym}
+use Rattle.std.proofs.Common.{◌+◌, ◌∙◌, Option, Some, length, subst, sym}
 use Rattle.user_rules.specs.Rules.{relations_of}
 use Rattle.report.specs.Rounds.{IsDecided}
 use Rattle.verdict_merge.proofs.Ruled.{breach_within}
