@@ -6,7 +6,7 @@ use Rattle.recording_maker.specs.declared.fault.MakeFault.{MakeFault}
 use Rattle.recording_maker.specs.declared.fault.MakeFault.TheVariants as fault
 use Rattle.recording_maker.specs.declared.made.MadeRun.{MadeRun}
 use Rattle.recording_maker.specs.Made.{IsMade}
-use Rattle.recording_maker.specs.declared.walking.WalkPlan.{WalkPlan}
+use Rattle.recording_walk.specs.declared.walking.WalkPlan.{WalkPlan}
 use Rattle.sink.specs.Written.{IsWritten}
 use Rattle.apexmake.specs.declared.ending.Ending.{Ending}
 use Rattle.apexmake.specs.declared.ending.Ending.TheVariants as ending

@@ -5,7 +5,7 @@ use Rattle.recording_maker.specs.declared.fault.MakeFault.TheVariants as fault
 use Rattle.recording_maker.specs.declared.made.MadeRun.{MadeRun}
 use Rattle.recording_maker.specs.Made.{IsMade}
 use Rattle.module_config.specs.Reading.{configuration_of}
-use Rattle.recording_maker.specs.declared.walking.WalkPlan.{WalkPlan}
+use Rattle.recording_walk.specs.declared.walking.WalkPlan.{WalkPlan}
 use Rattle.sink.specs.Written.{IsWritten}
 use Rattle.verdict_merge.specs.declared.verdict.Verdict.{Verdict}
 use Rattle.apexmake.specs.declared.ending.Ending.{Ending}

@@ -1,5 +1,4 @@
 mod Begins
 mod Making
 mod Outcomes
-mod Rising
 mod Shown

@@ -4,7 +4,7 @@ use Rattle.report.specs.declared.fault.CheckFault.{CheckFault}
 use Rattle.report.specs.Text.{report_of}
 use Rattle.verdict_merge.specs.declared.verdict.Verdict.{Verdict}
 use Rattle.recording_maker.specs.declared.made.MadeRun.{MadeRun}
-use Rattle.recording_maker.specs.declared.walking.WalkPlan.{WalkPlan}
+use Rattle.recording_walk.specs.declared.walking.WalkPlan.{WalkPlan}
 use Rattle.recording_maker.specs.Formats.{IsInFormat}
 use Rattle.recording_maker.specs.Made.{IsAnswerTo, IsMade, IsWanted, texts_made}
 

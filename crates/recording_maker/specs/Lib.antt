@@ -2,4 +2,3 @@ pub mod Formats
 pub mod Made
 pub mod Outcome
 pub mod Refused
-pub mod Rising

@@ -1,7 +1,7 @@
 -- What a run that is made is.
 use Rattle.std.specs.Prelude.{◌≡◌, ℕ, [], false, All, List, Option, Some, None, Result, Ok, map}
 use Rattle.placement.specs.Reading.{CanFail}
-use Rattle.recording_maker.specs.declared.walking.WalkPlan.{WalkPlan}
+use Rattle.recording_walk.specs.declared.walking.WalkPlan.{WalkPlan}
 use Rattle.report.specs.declared.fault.CheckFault.{CheckFault}
 use Rattle.report.specs.declared.last.LastItem.{LastItem}
 use Rattle.report.specs.declared.settings.Settings.{Settings}

@@ -6,7 +6,7 @@ use Rattle.report.specs.No.{NoMeansRefusal}
 use Rattle.report.specs.Outcome.{IsOutcome, argument_fault_of}
 use Rattle.report.specs.Yes.{YesMeansRun}
 use Rattle.recording_maker.specs.declared.made.MadeRun.{MadeRun}
-use Rattle.recording_maker.specs.declared.walking.WalkPlan.{WalkPlan}
+use Rattle.recording_walk.specs.declared.walking.WalkPlan.{WalkPlan}
 use Rattle.recording_maker.specs.Made.{IsMade, texts_made}
 
 -- the verdict of a run that is made is what a check of its texts answers under no rules, whatever its settings if they are not refused,

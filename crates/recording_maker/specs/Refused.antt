@@ -3,9 +3,9 @@ use Rattle.std.specs.Prelude.{◌≡◌, ℕ, List, IsSome, Err}
 use Rattle.module_config.specs.Reading.{configuration_of}
 use Rattle.recording_maker.specs.declared.fault.MakeFault.{MakeFault}
 use Rattle.recording_maker.specs.declared.fault.MakeFault.TheVariants as make
-use Rattle.recording_maker.specs.declared.walk_fault.WalkFault.{WalkFault}
-use Rattle.recording_maker.specs.declared.walk_fault.WalkFault.TheVariants as walk
-use Rattle.recording_maker.specs.declared.walking.WalkPlan.{WalkPlan}
+use Rattle.recording_walk.specs.declared.walk_fault.WalkFault.{WalkFault}
+use Rattle.recording_walk.specs.declared.walk_fault.WalkFault.TheVariants as walk
+use Rattle.recording_walk.specs.declared.walking.WalkPlan.{WalkPlan}
 
 -- the fault that a fault of the walk means
 abbrev pub fault_of_walk : WalkFault → MakeFault

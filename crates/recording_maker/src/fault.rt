@@ -1,7 +1,7 @@
 // Why no recording was made.
 
-use crate::walk_fault::WalkFault;
 use module_config::ConfigFault;
+use recording_walk::WalkFault;
 use report::{CheckFault, Verdict};
 use std::alloc::AllocError;
 use thiserror::Error;

@@ -1,4 +1,4 @@
-// Why no recording was made.
+// Why a walk ends early.
 
 use std::alloc::AllocError;
 use thiserror::Error;
