@@ -8,7 +8,7 @@
 # orders, the walkthrough of the guide, the pictures and traces of apexview, and the recorder in C; each allocation refused in turn
 # that a waiting set makes for its first entry; and so each of the program's, without rules, with options that ask for rules, with a
 # rules file, with so many rules that several threads test them, with a message between partitions, and with several who wait at a
-# blackboard; and each of apexview's, for a page, a picture and a trace, and of apexmake's. Every part runs, also after one that
+# blackboard; and each of apexview's, for a page, a picture, a trace and figures, and of apexmake's. Every part runs, also after one that
 # fails. At the end come the costs of each crate and the counts of each part. The last line is their sum, `N passed, 0 failed`.
 #
 # `bash test.sh quick` shows without a proof, in minutes, that everything works. `bash audit.sh` tries all wrong bodies.
@@ -42,21 +42,21 @@ link_programs() {
 # Each allocation of a check of an example is refused in turn: NAME EXAMPLE [OPTION..].
 allocations() {
     local example=examples/$2
-    single "allocations, $1" bash .ci/refuse_allocations "$programs/apexcheck" --config "$example/config.toml" --order "$example/order.csv" \
+    beside single "allocations, $1" bash .ci/refuse_allocations "$programs/apexcheck" --config "$example/config.toml" --order "$example/order.csv" \
         --workers 2 "${@:3}" "$example"/core*.csv
 }
 
-# Each allocation of a view of an example is refused in turn: FORMAT.
+# Each allocation of a view of an example is refused in turn: FORMAT [OPTION..].
 allocations_of_view() {
     local example=examples/missed_wake
-    single "allocations of apexview, $1" bash .ci/refuse_allocations_of_view "$programs/apexview" --config "$example/config.toml" \
-        --order "$example/order.csv" --format "$1" "$example"/core*.csv
+    beside single "allocations of apexview, $*" bash .ci/refuse_allocations_of_view "$programs/apexview" --config "$example/config.toml" \
+        --order "$example/order.csv" --format "$@" "$example"/core*.csv
 }
 
 parts_of_allocations() {
     local slow=examples/partition_waits_too_long number format
-    single "allocations of a waiting set" bash .ci/refuse_in_test "$programs/part_tests_tests" queuing::a_refused_entry_comes_back 2
-    single "allocations, the stored run" bash .ci/refuse_allocations "$programs/apexcheck"
+    beside single "allocations of a waiting set" bash .ci/refuse_in_test "$programs/part_tests_tests" queuing::a_refused_entry_comes_back 2
+    beside single "allocations, the stored run" bash .ci/refuse_allocations "$programs/apexcheck"
     allocations "options" return_too_late --max-elapsed 1 --forbid STOP
     allocations "a rules file" partition_waits_too_long --rules $slow/rules.toml
     for number in {1..15}; do
@@ -66,11 +66,13 @@ parts_of_allocations() {
     allocations "a message between partitions" message_to_another_partition
     allocations "messages from and to the outside" telemetry_departs
     allocations "readers of a blackboard" blackboard_wakes_its_readers
-    for format in html svg trace; do
+    for format in html svg trace summary json; do
         allocations_of_view "$format"
     done
-    single "allocations of apexmake" bash .ci/refuse_allocations_of_maker "$programs/apexmake" --config examples/telemetry_departs/config.toml \
+    beside single "allocations of apexmake" bash .ci/refuse_allocations_of_maker "$programs/apexmake" --config examples/telemetry_departs/config.toml \
         --seed 1 --records 20
+    allocations_of_view trace --axis time
+    wait
 }
 
 parts_of_sources

@@ -9,7 +9,7 @@ import re
 LEAST = 4.5
 SVG = "{http://www.w3.org/2000/svg}"
 SCHEMES = ("light", "dark")
-COMPOUND = re.compile(r"(?P<tag>[a-z0-9]+)?(?P<marks>(?:[.#][\w-]+)*)(?P<state>(?:::?[\w-]+(?:\([^)]*\))?)*)")
+COMPOUND = re.compile(r"(?P<tag>[a-z0-9]+)?(?P<marks>(?:[.#][\w-]+)*)(?P<state>(?:::?[\w-]+(?:\([^)]*\))?|\[\w+\])*)")
 
 
 class Rule:
@@ -18,7 +18,7 @@ class Rule:
     def __init__(self, scheme, selector, declared, order):
         self.scheme, self.declared, self.order = scheme, declared, order
         self.parts = [COMPOUND.fullmatch(part) for part in selector.split()]
-        names = [name for part in self.parts for name in re.findall(r"[.#][\w-]+|:[\w-]+", part["marks"] + part["state"])]
+        names = [name for part in self.parts for name in re.findall(r"[.#][\w-]+|:[\w-]+|\[\w+\]", part["marks"] + part["state"])]
         self.weight = (sum(name[0] == "#" for name in names), sum(name[0] != "#" for name in names),
                        sum(bool(part["tag"]) for part in self.parts))
 
@@ -34,10 +34,11 @@ class Rule:
 
 
 def fits(part, element):
-    """Whether a part of a selector is of an element: its name, its classes with a dot, its id with a hash, and its states with a colon."""
+    """Whether a part of a selector is of an element: its name, its classes with a dot, its id with a hash, its states with a colon, and its
+    attributes in brackets."""
     tag, marks = element
     wanted = re.findall(r"[.#][\w-]+", part["marks"])
-    states = re.findall(r":[\w-]+(?:\([^)]*\))?", part["state"])
+    states = re.findall(r":[\w-]+(?:\([^)]*\))?|\[\w+\]", part["state"])
     return part["tag"] in (None, tag) and all(mark in marks for mark in wanted + states) and "::" not in part["state"]
 
 
@@ -49,6 +50,11 @@ def rules_of(style):
         for selectors, body in re.findall(r"([^{}]+)\{([^{}]*)\}", text):
             declared = dict(re.findall(r"([\w-]+):\s*([^;]+)", body))
             for selector in selectors.split(","):
+                if "~" in selector:
+                    # what an element before another one does to it: its size alone
+                    if set(declared) != {"zoom"}:
+                        raise ValueError(f"{selector.strip()} sets more than a size")
+                    continue
                 rules.append(Rule(scheme, selector.strip(), declared, len(rules)))
 
     position = 0
@@ -140,6 +146,8 @@ def named(element, *states):
     marks = {f".{name}" for name in element.get("class", "").split()}
     if element.get("id"):
         marks.add("#" + element.get("id"))
+    if element.get("open"):
+        marks.add("[open]")
     return element.tag.removeprefix(SVG), frozenset(marks | set(states))
 
 
@@ -253,8 +261,12 @@ def names_of_all():
 def page_of_all(definitions):
     """A page that has every text, with these definitions of patterns."""
     rows = "".join(f"<tr{status}><td>x</td></tr>" for status in ("", ' class="rejected"', ' class="broken"', ' class="after"'))
+    sizes = "".join(f'<details class="size {size}"{state}><summary>x</summary></details>'
+                    for size, state in [("half", ""), ("whole", ' open="open"'), ("more", ""), ("twice", "")])
+    figures = "".join(f'<details class="figures"{state}><summary>x</summary><pre>x</pre></details>' for state in ("", ' open="open"'))
     return (f'<html><body class="page"><h1>x<a>x</a></h1><p>x</p><pre>x</pre><h2>x</h2><svg class="hidden">{definitions}</svg>'
-            f'<div class="piece"><h3>x</h3><div class="scrolled"><div class="beside"><svg class="strip names">{names_of_all()}</svg>'
+            f'<p class="size">x</p>{sizes}{figures}'
+            f'<div class="piece"><h2>x</h2><h3>x</h3><div class="scrolled"><div class="beside"><svg class="strip names">{names_of_all()}</svg>'
             f'<svg class="strip">{strip_of_all()}</svg></div></div><details class="elsewhere"><summary>x</summary></details></div>'
             f'<ul class="key"><li>x</li><li><code>x</code></li></ul>'
             f'<table><caption>x</caption><thead><tr><th>x</th></tr></thead><tbody>{rows}</tbody></table></body></html>')

@@ -1,6 +1,7 @@
 """Recordings that apexmake makes, rules for them, and faults in them. A seed gives the same ones each time.
 
-.ci/run_views imports it. What a check answers to such a recording under such rules, or with such a fault, is known only from apexcheck.
+.ci/run_views, .ci/run_traces and .ci/run_numbers import it. What a check answers to such a recording under such rules, or with such a
+fault, is known only from apexcheck.
 """
 import csv
 import random

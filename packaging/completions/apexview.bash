@@ -44,7 +44,8 @@ _apexview() {
     case $option in
         --config | --rules) _apexview_files .toml "$word" ;;
         --order) _apexview_files .csv "$word" ;;
-        --format) _apexview_words "html svg trace" "$word" ;;
+        --format) _apexview_words "html svg trace summary json" "$word" ;;
+        --axis) _apexview_words "place time" "$word" ;;
         --at | --max-elapsed) ;;
         --span) _apexview_words "50 100 200 500 1000 5000" "$word" ;;
         --forbid) _apexview_words "$_apexview_services" "$word" ;;
@@ -55,7 +56,7 @@ _apexview() {
                 return
             fi
             # Each option may be given at most once, and --version and --help only alone.
-            for given in --config --order --format --at --span --max-elapsed --forbid --rules; do
+            for given in --config --order --format --axis --at --span --max-elapsed --forbid --rules; do
                 [[ " ${COMP_WORDS[*]:1:COMP_CWORD - 1} " == *" $given"[\ =]* ]] || options="$options $given"
             done
             [ "$COMP_CWORD" != 1 ] || options="$options --version --help"

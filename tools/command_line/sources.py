@@ -7,6 +7,8 @@ from table import Operand, Option, Program, Section, Word
 WIDTH = 79
 # The greatest length of a line that `rt fmt` leaves whole.
 LINE = 100
+# The most that it has of the list in a pair of parentheses.
+LIST = 60
 # What options.rt calls these numbers.
 NAMED = {2**32 - 1: "MOST", 2**62 - 1: "LAST_PLACE"}
 
@@ -28,9 +30,12 @@ def takes_of(option: Option) -> str:
 def row_of(program: Program, option: Option) -> str:
     """The row of an option in options.rt, as `rt fmt` lays it out."""
     mark = "required " if option in program.required else "alone " if option in program.alone else ""
-    row = f'    row!({mark}"{option.word}", {takes_of(option)}),\n'
-    if len(row) <= LINE or option.takes != "word":
-        return row
+    both = f'{mark}"{option.word}", {takes_of(option)}'
+    if len(both) <= LIST or option.takes != "word":
+        return f"    row!({both}),\n"
+    taken = f"        {takes_of(option)}\n"
+    if len(taken) <= LINE:
+        return f'    row!(\n        "{option.word}",\n{taken}    ),\n'
     words = ",\n".join(f'            "{word}"' for word in option.words)
     return f'    row!(\n        "{option.word}",\n        Takes::OneOf(&[\n{words}\n        ])\n    ),\n'
 

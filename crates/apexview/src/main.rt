@@ -87,7 +87,7 @@ where
     }
 }
 
-// The end of a run whose picture or trace this writer still must write out: the same end, or that it could not be written.
+// The end of a run whose output this writer still must write out: the same end, or that it could not be written.
 fn conclude<W: Write + Drop>(output: &mut WriterSink<W>, ending: Ending<ViewEnd>) -> Ending<ViewEnd>
     ensures same { result ≢ Own Unwritten → result ≡ ending }
     ensures bytes { output.new.bytes ≡ output.old.bytes }

@@ -10,7 +10,7 @@ use shown_run::FilesAsked;
 use std::alloc::{AllocError, Global};
 use std::rt::Env;
 use std::{env, io};
-use view_drawing::{Format, ViewAsked};
+use view_drawing::{Axis, Format, ViewAsked};
 
 /// How many records a picture shows before its end: if `--span` is omitted, and at most.
 const USUAL_SPAN: usize = 200;
@@ -82,6 +82,7 @@ fn files_of(alloc: Global, matches: &ArgMatches<'_>) -> Result<FilesAsked, Usage
 fn view_of(matches: &ArgMatches<'_>) -> Result<ViewAsked, UsageFault> {
     Ok(ViewAsked {
         format: format_of(matches)?,
+        axis: axis_of(matches)?,
         at: at_of(matches)?,
         span: span_of(matches)?,
     })
@@ -100,6 +101,16 @@ fn format_of(matches: &ArgMatches<'_>) -> Result<Format, UsageFault> {
         None | Some("html") => Ok(Format::Html),
         Some("svg") => Ok(Format::Svg),
         Some("trace") => Ok(Format::Trace),
+        Some("summary") => Ok(Format::Summary),
+        Some("json") => Ok(Format::Json),
+        Some(_) => Err(UsageFault::Usage),
+    }
+}
+
+fn axis_of(matches: &ArgMatches<'_>) -> Result<Axis, UsageFault> {
+    match matches.get_str("axis") {
+        None | Some("place") => Ok(Axis::Place),
+        Some("time") => Ok(Axis::Time),
         Some(_) => Err(UsageFault::Usage),
     }
 }
@@ -156,6 +167,7 @@ fn command<'a>(alloc: Global) -> Result<Command<'a>, AllocError> {
         .arg(option(alloc, "config").required(true))?
         .arg(option(alloc, "order").required(true))?
         .arg(option(alloc, "format"))?
+        .arg(option(alloc, "axis"))?
         .arg(option(alloc, "at"))?
         .arg(option(alloc, "span"))?
         .arg(option(alloc, "max-elapsed"))?

@@ -8,7 +8,7 @@ ghost use Rattle.verdict_merge.specs.Rounds.{AllRun, AreGoing, cold_parts, parts
 ghost use Rattle.shown_run.specs.Judged.{IsFollowed, followed_by};
 
 use crate::fault::FollowFault;
-use crate::round::next_round;
+use crate::round::{Round, next_round};
 use crate::run::Run;
 use apex_types::{Cause, Ordered};
 use csv_rows::TextSource;
@@ -27,6 +27,9 @@ pub trait Follower {
 
     /// These are the pieces before the first record.
     fn begin(&mut self, pieces: &[Piece]) -> Result<(), Self::Stop>;
+
+    /// These pieces are about to judge the next record.
+    fn meet(&mut self, pieces: &[Piece], ordered: &Ordered) -> Result<(), Self::Stop>;
 
     /// These pieces have taken the next record. If its view breaks a rule, it is the last one.
     fn accept(&mut self, pieces: &[Piece], ordered: &Ordered) -> Result<(), Self::Stop>;
@@ -83,6 +86,9 @@ fn follow_all<R: Wait, S: TextSource, C: TextSource, V: Witness, F: Follower>(
         let Ok(round) = next_round(rt, alloc, placer, first, 1) else {
             return Err(out_of_memory());
         };
+        if let Err(stop) = meet(follower, run.walk.pieces(), &round) {
+            return Err(FollowFault::Stopped(stop));
+        }
         let Ok(verdict) = run.judge(first, &round.records, witness) else {
             return Err(out_of_memory());
         };
@@ -112,6 +118,14 @@ fn out_of_memory<Stop>() -> FollowFault<Stop>
     ensures { result ≡ FollowFault.Refused CheckFault.Memory }
 {
     FollowFault::Refused(CheckFault::Memory)
+}
+
+// Shows the follower a round of at most one record before it is judged.
+fn meet<F: Follower>(follower: &mut F, pieces: &[Piece], round: &Round) -> Result<(), F::Stop> {
+    for ordered in round.records.iter() {
+        follower.meet(pieces, ordered)?;
+    }
+    Ok(())
 }
 
 // Shows the follower a round of at most one record, over which this is the verdict, if one decides.

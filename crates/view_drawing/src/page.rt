@@ -22,10 +22,12 @@ use answer_words::{Explainer, InputNames, RunFiles, note_broken};
 use apex_types::Ordered;
 use csv_rows::TextSource;
 use module_config::Config;
+use numbers_text::text_of;
 use piece_check::Piece;
 use placement::Placer;
 use program_ends::{Ending, Line, out_of_memory};
 use report::{CheckFault, Verdict};
+use run_numbers::Numbers;
 use run_view::{Change, Followed, LastSeen, Lawful, MessageLinks, Received, Sent};
 use sarif_report::name_of_cause;
 use shown_run::{Asked, Shown, Stretch, ViewEnd, Walk, gather};
@@ -35,8 +37,9 @@ use std::collections::VecDeque;
 use std::fs::{File, Files};
 use std::sync::Wait;
 use user_rules::Rule;
-use view_page::{PageFault, PageTexts, Strip, strips_of, write_html, write_svg};
+use view_page::{PageFault, PageTexts, Scale, Strip, strips_of, write_html, write_svg};
 use view_picture::{Added, Picture, Status};
+use view_trace::Axis;
 use wording::{Count, Look, Words};
 
 /// Shows the requested stretch of a run. Nothing is written if an input is refused.
@@ -144,19 +147,23 @@ where
     let explanation = explanation_of(alloc, &files, &outcome, explainer)?;
     let ending = Ending::Own(ViewEnd::Checked(outcome));
     let line = Line::of(&ending);
-    let picture = picture_of(rt, alloc, shown, gathered)?;
-    let strips = strips_of(&picture)?;
+    let Drawn { picture, numbers } = drawn_of(rt, alloc, shown, gathered)?;
+    let figures = figures_of(alloc, shown.config, &numbers)?;
+    let scale = scale_of(asked.axis);
+    let strips = strips_of(&picture, scale)?;
     let files = files_in_words(alloc, names)?;
     let texts = PageTexts {
         heading: heading.as_str(),
         line: line.text(),
         explanation: explanation.as_str(),
         files: files.as_str(),
+        figures: figures.as_str(),
     };
     write_in(
         alloc,
         asked.format,
         &picture,
+        scale,
         strips.as_slice(),
         &texts,
         output,
@@ -168,6 +175,7 @@ fn write_in<W: Sink>(
     alloc: Global,
     format: Format,
     picture: &Picture,
+    scale: Scale,
     strips: &[Strip],
     texts: &PageTexts<'_>,
     output: &mut W,
@@ -175,8 +183,18 @@ fn write_in<W: Sink>(
     ensures failed { result ≡ Err PageFault.Unwritten → W.failures output.old < W.failures output.new }
 {
     match format {
-        Format::Svg => write_svg(alloc, picture, strips, texts, output),
-        Format::Html | Format::Trace => write_html(alloc, picture, strips, texts, output),
+        Format::Svg => write_svg(alloc, picture, scale, strips, texts, output),
+        Format::Html | Format::Trace | Format::Summary | Format::Json => {
+            write_html(alloc, picture, scale, strips, texts, output)
+        }
+    }
+}
+
+// What the width of a picture counts.
+fn scale_of(axis: Axis) -> Scale {
+    match axis {
+        Axis::Place => Scale::Places,
+        Axis::Time => Scale::Ticks,
     }
 }
 
@@ -208,8 +226,8 @@ fn heading_of(
     }
 }
 
-// Why the answer is not Yes, as apexcheck explains it; empty if it is.
-fn explanation_of<R: Files<File = File>>(
+/// Why the answer is not Yes, as apexcheck explains it; empty if it is.
+pub fn explanation_of<R: Files<File = File>>(
     alloc: Global,
     files: &RunFiles<'_, R>,
     outcome: &Result<Verdict, CheckFault>,
@@ -238,13 +256,28 @@ fn files_in_words(alloc: Global, names: &InputNames) -> Result<String, AllocErro
     Ok(text)
 }
 
-// The picture of a stretch.
-fn picture_of<R: Files<File = File>>(
+// The figures of the records that were accepted, in words; empty if none was.
+fn figures_of(alloc: Global, config: &Config, numbers: &Numbers) -> Result<String, AllocError> {
+    if numbers.records() == 0 {
+        return Ok(String::new(alloc));
+    }
+    text_of(alloc, config.cores(), numbers)
+}
+
+// A picture, and the figures of the records in it that were accepted.
+#[derive(Drop)]
+struct Drawn {
+    picture: Picture,
+    numbers: Numbers,
+}
+
+// The picture of a stretch, and its figures.
+fn drawn_of<R: Files<File = File>>(
     rt: &R,
     alloc: Global,
     shown: &Shown<'_>,
     gathered: Gathered,
-) -> Result<Picture, AllocError>
+) -> Result<Drawn, AllocError>
     requires { IsWhole shown.now.config.now gathered.stretch }
 {
     let Gathered {
@@ -262,14 +295,17 @@ fn picture_of<R: Files<File = File>>(
     } = stretch;
     let mut drawing = Drawing::begin(alloc, shown.config, before)?;
     drawing.accept_all(&rows, kept, is_broken)?;
-    let mut picture = drawing.end();
+    let Drawn {
+        mut picture,
+        numbers,
+    } = drawing.end();
     let is_judged = rejected.is_none() && !is_broken;
     if let Some(rejected) = rejected {
         let added = added(&rows, &rejected.ordered, Status::Rejected);
         picture.reject(&added, name_of_cause(rejected.cause), lawful.as_slice())?;
     }
     follow_all(&mut picture, &rows, after.as_slice(), is_judged)?;
-    Ok(picture)
+    Ok(Drawn { picture, numbers })
 }
 
 // Adds the records after those that were judged, or after the one that decided.
@@ -310,7 +346,7 @@ fn rows_of<'a, R: Files<File = File>>(
     ShownRows::find(rt, alloc, shown.names, records.as_slice())
 }
 
-// A picture that grows record by record, and the pieces that take the records.
+// A picture and figures that grow record by record, and the pieces that take the records.
 #[derive(Drop)]
 struct Drawing<'a> {
     config: &'a Config,
@@ -319,6 +355,7 @@ struct Drawing<'a> {
     links: MessageLinks,
     changes: Vec<Change>,
     picture: Picture,
+    numbers: Numbers,
 }
 
 impl<'a> Drawing<'a> {
@@ -329,7 +366,7 @@ impl<'a> Drawing<'a> {
     {
         let mut seen = LastSeen::new(alloc);
         let mut changes = Vec::new(alloc);
-        let mut picture = Picture::new(alloc);
+        let mut picture = Picture::new(alloc, config.frame());
         let pieces = walk.pieces();
         seen.look(config, pieces, None, &mut changes)?;
         picture.begin(pieces, changes.as_slice())?;
@@ -340,11 +377,12 @@ impl<'a> Drawing<'a> {
             links: MessageLinks::new(alloc),
             changes,
             picture,
+            numbers: Numbers::new(alloc),
         })
     }
 
-    // The picture of the records so far.
-    fn end(self) -> Picture {
+    // The picture and the figures of the records so far.
+    fn end(self) -> Drawn {
         let Drawing {
             config: _,
             walk: _,
@@ -352,8 +390,9 @@ impl<'a> Drawing<'a> {
             links: _,
             changes: _,
             picture,
+            numbers,
         } = self;
-        picture
+        Drawn { picture, numbers }
     }
 
     // Adds records that follow one another and were accepted. The last of them may break a rule.
@@ -390,10 +429,12 @@ impl<'a> Drawing<'a> {
         ensures going { OnOk result (AreGoing self.old.config.now (ordered.now.pos + 1) self.new.walk) }
         ensures taken { OnOk result (AllRun self.old.config.now (parts_in self.old.walk) (ordered.now ∷ []) (parts_in self.new.walk)) }
     {
+        self.numbers.meet(self.config, self.walk.pieces(), ordered)?;
         let Ok(()) = self.walk.take_again(self.config, ordered) else {
             return Err(AllocError);
         };
         let pieces = self.walk.pieces();
+        self.numbers.accept(pieces, ordered)?;
         self.changes.clear();
         self.seen
             .look(self.config, pieces, Some(ordered), &mut self.changes)?;

@@ -6,6 +6,7 @@ ghost use Rattle.placement.specs.Lanes.{AreHonest};
 ghost use Rattle.user_rules.specs.Rules.{relations_of};
 ghost use Rattle.shown_run.specs.Shown.{IsShown};
 
+use crate::counted::show_numbers;
 use crate::page::show_picture;
 use crate::traced::show_trace;
 use answer_words::Explainer;
@@ -18,6 +19,7 @@ use std::alloc::Global;
 use std::fs::{File, Files};
 use std::sync::Wait;
 use user_rules::Rule;
+use view_trace::Axis;
 
 /// What is written.
 #[derive(Clone, Copy, Debug, PartialEq, Eq)]
@@ -25,13 +27,18 @@ pub enum Format {
     Html,
     Svg,
     Trace,
+    /// The figures of the run as text.
+    Summary,
+    /// The figures of the run as JSON.
+    Json,
 }
 
 /// How a run should be shown.
 #[derive(Clone, Copy, Debug)]
 pub struct ViewAsked {
     pub format: Format,
-    /// The last place that the picture may show with its states.
+    pub axis: Axis,
+    /// The last place that the picture may show with its states, and whose record a trace or the figures may include.
     pub at: Option<u64>,
     /// How many records before its end it shows.
     pub span: usize,
@@ -55,8 +62,9 @@ impl Viewer for ViewAsked {
             Format::Html | Format::Svg => show_picture(
                 rt, alloc, *self, shown, rules, placer, explainer, output,
             ),
-            Format::Trace => show_trace(
-                rt, alloc, self.at, shown, rules, placer, explainer, output,
+            Format::Trace => show_trace(rt, alloc, *self, shown, rules, placer, explainer, output),
+            Format::Summary | Format::Json => show_numbers(
+                rt, alloc, *self, shown, rules, placer, explainer, output,
             ),
         }
     }

@@ -77,6 +77,30 @@ pub(crate) fn class_of_status(status: Status) -> &'static str
     }
 }
 
+// The classes of a record in the lane of its core.
+pub(crate) fn class_of_slot(status: Status) -> &'static str
+    ensures { is_own result.now ≡ true }
+{
+    match status {
+        Status::Accepted => "record accepted",
+        Status::Rejected => "record rejected",
+        Status::Broken => "record broken",
+        Status::After | Status::Beyond => "record after",
+    }
+}
+
+// The classes of a record in the lane of its core in a major frame, which a strip shows too.
+pub(crate) fn class_of_again(status: Status) -> &'static str
+    ensures { is_own result.now ≡ true }
+{
+    match status {
+        Status::Accepted => "again accepted",
+        Status::Rejected => "again rejected",
+        Status::Broken => "again broken",
+        Status::After | Status::Beyond => "again after",
+    }
+}
+
 // The class of the ground of a record, if it has one of its own.
 pub(crate) fn class_of_ground(status: Status) -> Option<&'static str>
     ensures { IfSome result (λ class. is_own class.now ≡ true) }

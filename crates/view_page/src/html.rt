@@ -1,7 +1,7 @@
 // The page around a picture.
 
 use crate::classes::{classes_of_look, pattern_of};
-use crate::layout::Strip;
+use crate::layout::{Layout, Strip};
 use crate::style::{DEFINITIONS, PAGE_STYLE, STYLE};
 use sink::Markup;
 use std::alloc::AllocError;
@@ -18,6 +18,8 @@ pub struct PageTexts<'a> {
     pub explanation: &'a str,
     /// The files, in words.
     pub files: &'a str,
+    /// The figures of the records that were accepted; empty if none was.
+    pub figures: &'a str,
 }
 
 /// Begins a page, up to its picture.
@@ -100,6 +102,65 @@ pub fn strip_heading(out: &mut Markup, picture: &Picture, strip: Strip) -> Resul
         out.mark("</h3>\n")?;
     }
     Ok(())
+}
+
+/// How many records a picture has at most whose size a page does not let a reader choose.
+const FEW_RECORDS: usize = 60;
+
+/// Adds the sizes that a reader can choose for the pictures, of which one at a time is open, if there are many records.
+pub fn tell_sizes(out: &mut Markup, picture: &Picture) -> Result<(), AllocError> {
+    if picture.len() <= FEW_RECORDS {
+        return Ok(());
+    }
+    out.mark(SIZES)
+}
+
+const SIZES: &str = "<p class=\"size\">Size of the pictures:</p>
+<details class=\"size half\" name=\"size\"><summary>50 %</summary></details>
+<details class=\"size whole\" name=\"size\" open=\"open\"><summary>100 %</summary></details>
+<details class=\"size more\" name=\"size\"><summary>150 %</summary></details>
+<details class=\"size twice\" name=\"size\"><summary>200 %</summary></details>
+";
+
+/// Begins a major frame with its heading.
+pub fn frame_heading(
+    out: &mut Markup,
+    picture: &Picture,
+    layout: &Layout,
+) -> Result<(), AllocError> {
+    let Some(ticks) = layout.edges.ticks() else {
+        return Ok(());
+    };
+    let frame = picture.frame().max(1);
+    out.mark("<h2>")?;
+    if ticks.len() == frame {
+        out.say(format_args!("Major frame {} by time", ticks.from / frame))?;
+    } else {
+        out.say(format_args!("A part of major frame {} by time", ticks.from / frame))?;
+    }
+    out.mark("</h2>\n<h3>")?;
+    out.say(format_args!(
+        "times {} to {} of the cores; a major frame has {frame} ticks",
+        ticks.from,
+        ticks.to.saturating_sub(1)
+    ))?;
+    out.mark("</h3>\n")
+}
+
+/// Adds the figures of the records that were accepted, if there are any. Where the recording is lawful they are unfolded.
+pub fn tell_figures(out: &mut Markup, texts: &PageTexts<'_>) -> Result<(), AllocError> {
+    if texts.figures.is_empty() {
+        return Ok(());
+    }
+    out.mark("<h2>In numbers</h2>\n<details class=\"figures\"")?;
+    if texts.explanation.is_empty() {
+        out.mark(" open=\"open\"")?;
+    }
+    out.mark(
+        "><summary>The accepted records on this page; apexview --format summary counts the whole recording</summary>\n<pre>",
+    )?;
+    out.say(texts.figures)?;
+    out.mark("</pre>\n</details>\n")
 }
 
 /// Ends a page.

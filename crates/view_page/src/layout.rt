@@ -4,33 +4,45 @@ ghost use Rattle.std.specs.Prelude.{IfOk};
 ghost use Rattle.view_page.specs.Strips.{Cover};
 ghost use Rattle.view_picture.specs.Records.{record_count};
 
-use crate::groups::{Group, all_groups, near_groups};
+use crate::edges::Edges;
+use crate::frames::ticks_of_frame;
+use crate::groups::{Group, all_groups, has_fault, near_groups};
 use crate::rows::{Heading, Row, Rows};
+use crate::scale::{Scale, Ticks};
+use crate::shares::{Share, Times, most_of_a_tick, shares_of, times_in};
 use std::alloc::AllocError;
-use view_picture::{Column, LaneKey, Picture, Status};
+use view_picture::{Column, Lane, LaneKey, Picture, Status};
 
 /// The width of the labels of lanes, in pixels like all lengths here.
 pub const LABELS: u64 = 186;
 
 /// The greatest width of the columns of a strip, and the free width to their right.
-const COLUMNS: u64 = 938;
+pub const COLUMNS: u64 = 938;
 
 pub const RIGHT: u64 = 96;
 
 /// The width of a record in a picture of several strips. In a picture of one strip it is between the other two.
-const STEP: u64 = 26;
+pub const STEP: u64 = 26;
 
 const LEAST_STEP: u64 = 20;
 
-const GREATEST_STEP: u64 = 62;
+pub const GREATEST_STEP: u64 = 62;
+
+/// The least width of a tick in a picture of one strip by ticks.
+const LEAST_TICK: u64 = 18;
 
 /// The width of a record that is rejected, and of one whose states are not shown.
 const WIDE_STEP: u64 = 168;
 
 const NARROW_STEP: u64 = 11;
 
-/// The height of the numbers of places below the labels of records.
+/// The height of the numbers of places below the labels of records, or of the times.
 const PLACES: u64 = 16;
+
+/// The height of the label of a record that is rejected or breaks a rule, and of the major frames, above the times.
+const FAULT_LABEL: u64 = 20;
+
+const FRAMES: u64 = 16;
 
 /// The free height below the last lane.
 const BELOW: u64 = 8;
@@ -43,17 +55,20 @@ pub struct Strip {
 }
 
 /// The strips of a picture, which have all its records in their order. The last strip is full.
-pub fn strips_of(picture: &Picture) -> Result<Vec<Strip>, AllocError>
+pub fn strips_of(picture: &Picture, scale: Scale) -> Result<Vec<Strip>, AllocError>
     ensures { IfOk result (λ strips. Cover strips.items 0 (record_count picture.now)) }
 {
     let count = picture.len();
     let mut strips = Vec::new(picture.alloc());
-    let step = step_of(picture);
+    let widths = widths_of(picture, scale)?;
     let mut to = count;
     let mut width = 0u64;
     for index in 0..count {
         let from = count - index;
-        let more = width_of(picture.columns().get(from - 1), step);
+        let more = match widths.get(from - 1) {
+            Some(more) => *more,
+            None => 0,
+        };
         if width.saturating_add(more) > COLUMNS {
             strips.push(Strip { from, to })?;
             to = from;
@@ -64,6 +79,82 @@ pub fn strips_of(picture: &Picture) -> Result<Vec<Strip>, AllocError>
     strips.push(Strip { from: 0, to })?;
     strips.reverse();
     Ok(strips)
+}
+
+// By how much each record of a picture makes its strip wider.
+fn widths_of(picture: &Picture, scale: Scale) -> Result<Vec<u64>, AllocError> {
+    match scale {
+        Scale::Places => widths_by_places(picture),
+        Scale::Ticks => widths_by_ticks(picture),
+    }
+}
+
+fn widths_by_places(picture: &Picture) -> Result<Vec<u64>, AllocError> {
+    let mut widths = Vec::new(picture.alloc());
+    let step = step_of(picture);
+    for column in picture.columns().iter() {
+        widths.push(width_of(Some(column), step))?;
+    }
+    Ok(widths)
+}
+
+// A record makes its strip a tick wider if a tick begins with the next one on the first of the cores, so that a strip begins with a tick.
+fn widths_by_ticks(picture: &Picture) -> Result<Vec<u64>, AllocError> {
+    let mut widths = Vec::new(picture.alloc());
+    let tick = width_of_tick(picture, shares_of(picture)?.as_slice());
+    let mut last = None;
+    for (index, column) in picture.columns().iter().enumerate() {
+        if is_later(column.time, last) {
+            last = column.time;
+        }
+        let next = match picture.columns().get(index.saturating_add(1)) {
+            Some(next) => next.time,
+            None => None,
+        };
+        let is_end = next.is_none() || is_later(next, last);
+        widths.push(width_of(Some(column), if is_end { tick } else { 0 }))?;
+    }
+    Ok(widths)
+}
+
+// Whether a time is later than the last one, if there was one.
+fn is_later(time: Option<u64>, last: Option<u64>) -> bool {
+    match (time, last) {
+        (Some(time), Some(last)) => time > last,
+        (Some(_), None) => true,
+        (None, _) => false,
+    }
+}
+
+// The width of a tick, by the number of ticks and by the most records of a tick.
+fn width_of_tick(picture: &Picture, shares: &[Share]) -> u64 {
+    let strip = Strip {
+        from: 0,
+        to: picture.len(),
+    };
+    let times = times_in(picture, shares, strip);
+    let rest = width_of_rest(picture);
+    let tick = COLUMNS.saturating_sub(rest) / times.to.saturating_sub(times.from).max(1);
+    if tick < LEAST_TICK {
+        STEP
+    } else {
+        tick.min(greatest_tick(shares))
+    }
+}
+
+/// The greatest width of a tick: that of its records by places.
+pub(crate) fn greatest_tick(shares: &[Share]) -> u64 {
+    STEP.saturating_mul(most_of_a_tick(shares))
+        .max(GREATEST_STEP)
+}
+
+// The width of all records at no time.
+fn width_of_rest(picture: &Picture) -> u64 {
+    let mut width = 0u64;
+    for column in picture.columns().iter() {
+        width = width.saturating_add(width_of(Some(column), 0));
+    }
+    width
 }
 
 // The width of a record, by the number of records.
@@ -84,8 +175,8 @@ fn step_of(picture: &Picture) -> u64 {
     }
 }
 
-// The width of a column, if a record has this width.
-fn width_of(column: Option<&Column>, step: u64) -> u64 {
+/// The width of a column, if a record at a time has this width.
+pub(crate) fn width_of(column: Option<&Column>, step: u64) -> u64 {
     match column {
         Some(column) => match column.status {
             Status::Accepted => step,
@@ -97,12 +188,18 @@ fn width_of(column: Option<&Column>, step: u64) -> u64 {
     }
 }
 
+/// The left edge and the right edge of a record.
+#[derive(Clone, Copy, Debug)]
+pub struct Sides {
+    pub left: u64,
+    pub right: u64,
+}
+
 /// Where everything is in a strip.
 #[derive(Drop)]
 pub struct Layout {
     pub strip: Strip,
-    /// The left edge of each column, and the right edge of the last.
-    pub edges: Vec<u64>,
+    pub edges: Edges,
     pub rows: Vec<Row>,
     pub(crate) headings: Vec<Heading>,
     /// Where the labels of the records end, and where the first lane begins.
@@ -115,43 +212,60 @@ pub struct Layout {
 
 impl Layout {
     /// Where everything is in a strip that has all its lanes.
-    pub fn whole(picture: &Picture, strip: Strip) -> Result<Layout, AllocError> {
+    pub fn whole(picture: &Picture, scale: Scale, strip: Strip) -> Result<Layout, AllocError> {
         let groups = all_groups(picture, strip)?;
-        Layout::of_groups(picture, strip, groups.as_slice())
+        Layout::of_groups(picture, scale, strip, groups.as_slice())
     }
 
     /// Where everything is in a strip without those lanes that have nothing to do with a fault in it.
-    pub fn near(picture: &Picture, strip: Strip) -> Result<Layout, AllocError> {
+    pub fn near(picture: &Picture, scale: Scale, strip: Strip) -> Result<Layout, AllocError> {
         let groups = near_groups(picture, strip)?;
-        Layout::of_groups(picture, strip, groups.as_slice())
+        Layout::of_groups(picture, scale, strip, groups.as_slice())
     }
 
     // Where everything is in a strip that has the lanes of these groups.
-    fn of_groups(picture: &Picture, strip: Strip, groups: &[Group]) -> Result<Layout, AllocError> {
-        let foot_of_labels = height_of_labels(picture, strip);
+    fn of_groups(
+        picture: &Picture,
+        scale: Scale,
+        strip: Strip,
+        groups: &[Group],
+    ) -> Result<Layout, AllocError> {
+        let foot_of_labels = match scale {
+            Scale::Places => height_of_labels(picture, strip),
+            Scale::Ticks if has_fault(picture, strip) => FAULT_LABEL + FRAMES,
+            Scale::Ticks => FRAMES,
+        };
         let top = foot_of_labels.saturating_add(PLACES);
         let mut rows = Rows::from(picture.alloc(), top);
         for group in groups {
             rows.add_group(picture, strip, group)?;
         }
-        Layout::of_rows(picture, strip, foot_of_labels, rows)
+        let edges = edges_of(picture, scale, strip)?;
+        Ok(Layout::of_rows(strip, edges, foot_of_labels, rows))
     }
 
     /// Where everything is in a strip that has only those lanes, and no labels of records.
-    pub fn elsewhere(picture: &Picture, strip: Strip) -> Result<Layout, AllocError> {
+    pub fn elsewhere(picture: &Picture, scale: Scale, strip: Strip) -> Result<Layout, AllocError> {
         let mut rows = Rows::from(picture.alloc(), PLACES);
         rows.add_lanes(picture, strip, &Group::Elsewhere)?;
-        Layout::of_rows(picture, strip, 0, rows)
+        let edges = edges_of(picture, scale, strip)?;
+        Ok(Layout::of_rows(strip, edges, 0, rows))
+    }
+
+    /// Where everything is in one major frame: the lanes that change in it. None if the picture has no record at a time.
+    pub fn of_frame(picture: &Picture) -> Result<Option<Layout>, AllocError> {
+        let shares = shares_of(picture)?;
+        let Some((strip, ticks)) = ticks_of_frame(picture, shares.as_slice()) else {
+            return Ok(None);
+        };
+        let mut rows = Rows::from(picture.alloc(), FRAMES + PLACES);
+        rows.add_group(picture, strip, &Group::InStrip)?;
+        let edges = Edges::by_ticks(picture, strip, shares.as_slice(), ticks)?;
+        Ok(Some(Layout::of_rows(strip, edges, FRAMES, rows)))
     }
 
     // Where everything is if the lanes are in these rows.
-    fn of_rows(
-        picture: &Picture,
-        strip: Strip,
-        foot_of_labels: u64,
-        rows: Rows,
-    ) -> Result<Layout, AllocError> {
-        let edges = edges_of(picture, strip)?;
+    fn of_rows(strip: Strip, edges: Edges, foot_of_labels: u64, rows: Rows) -> Layout {
         let top = foot_of_labels.saturating_add(PLACES);
         let Rows {
             rows,
@@ -162,11 +276,8 @@ impl Layout {
             Some(row) => row.foot(),
             None => top,
         };
-        let right = match edges.last() {
-            Some(right) => *right,
-            None => LABELS,
-        };
-        Ok(Layout {
+        let width = edges.right().saturating_add(RIGHT);
+        Layout {
             strip,
             edges,
             rows,
@@ -174,34 +285,49 @@ impl Layout {
             foot_of_labels,
             top,
             bottom,
-            width: right.saturating_add(RIGHT),
+            width,
             height: bottom.saturating_add(BELOW),
-        })
-    }
-
-    /// The left edge of a column, or the nearest edge of the strip.
-    pub fn left(&self, column: usize) -> u64 {
-        let index = column.saturating_sub(self.strip.from);
-        match self.edges.get(index) {
-            Some(edge) => *edge,
-            None => match self.edges.last() {
-                Some(edge) => *edge,
-                None => LABELS,
-            },
         }
     }
 
-    /// Whether a column is in the strip.
-    pub fn has(&self, column: usize) -> bool {
-        self.strip.from <= column && column < self.strip.to
+    /// Where a column begins in a lane, or the nearest edge of the strip.
+    pub fn left(&self, lane: &Lane, column: usize) -> u64 {
+        self.edges.left(lane.core, column)
     }
 
-    /// The row of the lane of this key, if the strip shows it.
-    pub fn row(&self, picture: &Picture, key: &LaneKey) -> Option<Row> {
+    /// Whether a column is in the strip, at a time that it shows.
+    pub fn has(&self, picture: &Picture, column: usize) -> bool {
+        if column < self.strip.from || column >= self.strip.to {
+            return false;
+        }
+        let (Some(ticks), Some(one)) = (self.edges.ticks(), picture.columns().get(column)) else {
+            return true;
+        };
+        match one.time {
+            Some(time) => ticks.has(time),
+            None => true,
+        }
+    }
+
+    /// Where what ends before a column ends in a lane, or the nearest edge of the strip.
+    pub fn end(&self, lane: &Lane, column: usize) -> u64 {
+        self.edges.end(lane.core, column)
+    }
+
+    /// Where the record of a column is.
+    pub fn sides(&self, record: &Column, column: usize) -> Sides {
+        Sides {
+            left: self.edges.left(Some(record.core), column),
+            right: self.edges.end(Some(record.core), column.saturating_add(1)),
+        }
+    }
+
+    /// The row of the lane of this key with the lane, if the strip shows it.
+    pub fn row<'a>(&self, picture: &'a Picture, key: &LaneKey) -> Option<(Row, &'a Lane)> {
         for row in self.rows.iter() {
             if let Some(lane) = picture.lanes().get(row.lane) {
                 if lane.key == *key {
-                    return Some(*row);
+                    return Some((*row, lane));
                 }
             }
         }
@@ -209,16 +335,17 @@ impl Layout {
     }
 }
 
-fn edges_of(picture: &Picture, strip: Strip) -> Result<Vec<u64>, AllocError> {
-    let mut edges = Vec::new(picture.alloc());
-    let step = step_of(picture);
-    let mut x = LABELS;
-    edges.push(x)?;
-    for column in strip.from..strip.to {
-        x = x.saturating_add(width_of(picture.columns().get(column), step));
-        edges.push(x)?;
+// Where the columns of a strip are by this scale.
+fn edges_of(picture: &Picture, scale: Scale, strip: Strip) -> Result<Edges, AllocError> {
+    match scale {
+        Scale::Places => Edges::by_places(picture, strip, step_of(picture)),
+        Scale::Ticks => {
+            let shares = shares_of(picture)?;
+            let Times { from, to } = times_in(picture, shares.as_slice(), strip);
+            let width = width_of_tick(picture, shares.as_slice());
+            Edges::by_ticks(picture, strip, shares.as_slice(), Ticks { from, to, width })
+        }
     }
-    Ok(edges)
 }
 
 /// How many characters of a record's label are shown.

@@ -7,22 +7,28 @@
 #![tactic(auto)]
 
 mod classes;
+mod edges;
 mod fault;
+mod frames;
 mod groups;
 mod html;
 mod layout;
 mod names;
 mod rows;
+mod scale;
 mod shapes;
+mod shares;
 mod strip;
 mod strip_bars;
 mod strip_marks;
 mod style;
 mod table;
+mod times;
 mod wrapped;
 mod written;
 
 pub use fault::PageFault;
 pub use html::PageTexts;
 pub use layout::{Strip, strips_of};
+pub use scale::Scale;
 pub use written::{write_html, write_svg};

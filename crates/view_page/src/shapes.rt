@@ -104,6 +104,23 @@ pub(crate) fn tell_line(out: &mut Markup, x: u64, top: u64, bottom: u64) -> Resu
     tell_ends(out, x, top, bottom)
 }
 
+// A line of this class from top to bottom.
+pub(crate) fn tell_line_of(
+    out: &mut Markup,
+    class: &'static str,
+    x: u64,
+    top: u64,
+    bottom: u64,
+) -> Result<(), AllocError>
+    requires { is_own class.now ≡ true }
+{
+    out.mark("<line class=\"")?;
+    out.mark(class)?;
+    out.mark("\" x1=\"")?;
+    tell_ends(out, x, top, bottom)?;
+    out.mark("\n")
+}
+
 fn tell_ends(out: &mut Markup, x: u64, top: u64, bottom: u64) -> Result<(), AllocError> {
     out.say(x)?;
     out.mark("\" x2=\"")?;
@@ -153,5 +170,15 @@ impl Display for Shortened<'_> {
             f.write_char(character)?;
         }
         Ok(())
+    }
+}
+
+// A number after a word that says what it counts.
+#[derive(Clone, Copy)]
+pub(crate) struct Numbered(pub &'static str, pub u64);
+
+impl Display for Numbered {
+    fn fmt<W: std::fmt::Write>(&self, f: &mut std::fmt::Formatter<W>) -> std::fmt::Result {
+        write!(f, "{} {}", self.0, self.1)
     }
 }

@@ -3,12 +3,14 @@
 use crate::classes::{class_of_ground, class_of_status};
 use crate::groups::count_elsewhere;
 use crate::html::{PageTexts, tell_heading};
-use crate::layout::{LABELS, LONGEST_LABEL, Layout, Strip};
+use crate::layout::{LABELS, LONGEST_LABEL, Layout, Sides, Strip};
 use crate::names::{begin_lane, tell_names};
-use crate::shapes::{Shortened, tell_rect, tell_size, tell_text};
+use crate::scale::Scale;
+use crate::shapes::{CHARACTER, Numbered, Shortened, tell_rect, tell_size, tell_text};
 use crate::strip_bars::{tell_bar_texts, tell_bars};
 use crate::strip_marks::{tell_arrow, tell_boxes, tell_points};
 use crate::style::{DEFINITIONS, STYLE};
+use crate::times::{tell_again, tell_bounds, tell_record, tell_slots, tell_times};
 use crate::wrapped::{longest, wrapped_lines};
 use sink::Markup;
 use std::alloc::AllocError;
@@ -23,10 +25,14 @@ const ANSWER_CHARACTER: u64 = 8;
 /// The space before such a line.
 const BEFORE_ANSWER: u64 = 8;
 
+/// The width of the longest label of a record, with its sign.
+const LABEL_WIDTH: u64 = (LONGEST_LABEL as u64 + 2) * CHARACTER;
+
 /// Begins a picture by itself, with these strips one below the other.
 pub fn svg_head(
     out: &mut Markup,
     picture: &Picture,
+    scale: Scale,
     strips: &[Strip],
     texts: &PageTexts<'_>,
 ) -> Result<(), AllocError> {
@@ -34,7 +40,7 @@ pub fn svg_head(
     let mut width = width_of_lines(&lines);
     let mut height = TEXT_LINE.saturating_mul((lines.len() as u64).saturating_add(1));
     for strip in strips {
-        let layout = Layout::whole(picture, *strip)?;
+        let layout = Layout::whole(picture, scale, *strip)?;
         width = width.max(layout.width);
         height = height.saturating_add(layout.height);
     }
@@ -75,10 +81,11 @@ fn width_of_lines(lines: &[String]) -> u64 {
 pub fn tell_strip(
     out: &mut Markup,
     picture: &Picture,
+    scale: Scale,
     strip: Strip,
     y: u64,
 ) -> Result<u64, AllocError> {
-    let layout = Layout::whole(picture, strip)?;
+    let layout = Layout::whole(picture, scale, strip)?;
     out.mark("<svg class=\"strip\" y=\"")?;
     out.say(y)?;
     out.mark("\"")?;
@@ -87,30 +94,54 @@ pub fn tell_strip(
     tell_places(out, picture, strip)?;
     out.mark("</title>\n")?;
     tell_names(out, picture, &layout)?;
-    tell_grounds(out, picture, &layout)?;
-    tell_columns(out, picture, &layout)?;
-    tell_lanes(out, picture, &layout)?;
+    tell_near_parts(out, picture, &layout)?;
     out.mark("</svg>\n")?;
     Ok(y.saturating_add(layout.height))
 }
 
 /// Adds a strip to a page, without those lanes that have nothing to do with a fault in it.
-pub fn tell_near(out: &mut Markup, picture: &Picture, strip: Strip) -> Result<(), AllocError> {
-    let layout = Layout::near(picture, strip)?;
+pub fn tell_near(
+    out: &mut Markup,
+    picture: &Picture,
+    scale: Scale,
+    strip: Strip,
+) -> Result<(), AllocError> {
+    let layout = Layout::near(picture, scale, strip)?;
     begin_box(out, picture, &layout)?;
-    tell_grounds(out, picture, &layout)?;
-    tell_columns(out, picture, &layout)?;
-    tell_lanes(out, picture, &layout)?;
+    tell_near_parts(out, picture, &layout)?;
+    end_box(out)
+}
+
+// What is in a strip that has the labels of its records, except for the names of the lanes.
+fn tell_near_parts(out: &mut Markup, picture: &Picture, layout: &Layout) -> Result<(), AllocError> {
+    tell_grounds(out, picture, layout)?;
+    tell_times(out, picture, layout)?;
+    tell_columns(out, picture, layout)?;
+    tell_lanes(out, picture, layout)
+}
+
+/// Adds a major frame to a page.
+pub fn tell_frame(out: &mut Markup, picture: &Picture, layout: &Layout) -> Result<(), AllocError> {
+    begin_box(out, picture, layout)?;
+    tell_grounds(out, picture, layout)?;
+    tell_times(out, picture, layout)?;
+    tell_again(out, picture, layout)?;
+    tell_lanes(out, picture, layout)?;
     end_box(out)
 }
 
 /// Adds the lanes of a strip that have nothing to do with a fault in it, folded, if there are any.
-pub fn tell_elsewhere(out: &mut Markup, picture: &Picture, strip: Strip) -> Result<(), AllocError> {
+pub fn tell_elsewhere(
+    out: &mut Markup,
+    picture: &Picture,
+    scale: Scale,
+    strip: Strip,
+) -> Result<(), AllocError> {
     let count = count_elsewhere(picture, strip);
     if count == 0 {
         return Ok(());
     }
-    let layout = Layout::elsewhere(picture, strip)?;
+    let layout = Layout::elsewhere(picture, scale, strip)?;
     out.mark("<details class=\"elsewhere\">\n<summary>")?;
     out.say(count)?;
     out.say(if count == 1 {
@@ -152,18 +183,28 @@ fn end_box(out: &mut Markup) -> Result<(), AllocError> {
     out.mark("</svg>\n</div></div>\n")
 }
 
-// The labels and numbers of the records, and what each says when a person points at it.
+// The labels and numbers of the records, and what each says when a person points at it. By ticks, the records at a time have neither.
 fn tell_columns(out: &mut Markup, picture: &Picture, layout: &Layout) -> Result<(), AllocError> {
+    let is_by_ticks = layout.edges.ticks().is_some();
+    if is_by_ticks {
+        tell_slots(out, picture, layout)?;
+    }
     for column in layout.strip.from..layout.strip.to {
         if let Some(one) = picture.columns().get(column) {
-            tell_column(out, layout, column, one)?;
+            if !is_by_ticks || one.time.is_none() {
+                tell_column(out, layout, column, one)?;
+            }
         }
     }
     Ok(())
 }
 
-// The numbers of the records alone.
+// The numbers of the records alone, or the times and the records that are at one.
 fn tell_numbers(out: &mut Markup, picture: &Picture, layout: &Layout) -> Result<(), AllocError> {
+    if layout.edges.ticks().is_some() {
+        tell_times(out, picture, layout)?;
+        return tell_slots(out, picture, layout);
+    }
     for column in layout.strip.from..layout.strip.to {
         if let Some(one) = picture.columns().get(column) {
             tell_number(out, layout, column, one)?;
@@ -181,6 +222,7 @@ fn tell_lanes(out: &mut Markup, picture: &Picture, layout: &Layout) -> Result<()
             out.mark("</g>\n")?;
         }
     }
+    tell_bounds(out, picture, layout)?;
     tell_frames(out, picture, layout)?;
     for arrow in picture.arrows().iter() {
         tell_arrow(out, picture, layout, arrow)?;
@@ -196,7 +238,7 @@ fn tell_lanes(out: &mut Markup, picture: &Picture, layout: &Layout) -> Result<()
         if let Some(lane) = picture.lanes().get(row.lane) {
             begin_lane(out, lane)?;
             tell_bar_texts(out, layout, *row, lane)?;
-            tell_boxes(out, layout, *row, lane)?;
+            tell_boxes(out, picture, layout, *row, lane)?;
             out.mark("</g>\n")?;
         }
     }
@@ -221,7 +263,7 @@ fn tell_grounds(out: &mut Markup, picture: &Picture, layout: &Layout) -> Result<
             "ground",
             LABELS,
             row.y,
-            layout.left(layout.strip.to),
+            layout.edges.right(),
             row.height,
         )?;
     }
@@ -233,7 +275,7 @@ fn tell_grounds(out: &mut Markup, picture: &Picture, layout: &Layout) -> Result<
         let Some(class) = class_of_ground(one.status) else {
             continue;
         };
-        let (left, right) = (layout.left(column), layout.left(column.saturating_add(1)));
+        let Sides { left, right } = layout.sides(one, column);
         tell_rect(out, class, left, layout.top, right, height)?;
     }
     Ok(())
@@ -247,7 +289,7 @@ fn tell_frames(out: &mut Markup, picture: &Picture, layout: &Layout) -> Result<(
         let Some(one) = picture.columns().get(column) else {
             continue;
         };
-        let (left, right) = (layout.left(column), layout.left(column.saturating_add(1)));
+        let Sides { left, right } = layout.sides(one, column);
         match one.status {
             Status::Accepted => {}
             Status::Rejected | Status::Broken => {
@@ -276,44 +318,45 @@ fn tell_column(
     index: usize,
     column: &Column,
 ) -> Result<(), AllocError> {
-    let (left, right) = (layout.left(index), layout.left(index.saturating_add(1)));
+    let Sides { left, right } = layout.sides(column, index);
     out.mark("<g class=\"record ")?;
     out.mark(class_of_status(column.status))?;
     out.mark("\" data-place=\"")?;
     out.say(column.place.number())?;
     out.mark("\"><title>")?;
-    out.say(format_args!(
-        "place {}, core {}: {}\n{}",
-        column.place.number(),
-        column.core.number(),
-        column.words,
-        column.source
-    ))?;
+    tell_record(out, column)?;
     out.mark("</title>\n")?;
     let height = layout.bottom.saturating_sub(layout.foot_of_labels);
     tell_rect(out, "hit", left, layout.foot_of_labels, right, height)?;
     if column.status.is_judged() {
-        tell_label(out, layout, left, column)?;
+        tell_label_at(out, layout, left, column)?;
     }
     tell_number(out, layout, index, column)?;
     out.mark("</g>\n")
 }
 
-fn tell_label(
+/// Adds the label of a record at this left edge: slanted, or by ticks, where it is the only one, above the major frames.
+pub fn tell_label_at(
     out: &mut Markup,
     layout: &Layout,
     left: u64,
     column: &Column,
 ) -> Result<(), AllocError> {
-    let (x, y) = (
-        left.saturating_add(9),
-        layout.foot_of_labels.saturating_sub(5),
-    );
     out.mark("<text class=\"label\" transform=\"translate(")?;
-    out.say(x)?;
-    out.mark(",")?;
-    out.say(y)?;
-    out.mark(") rotate(-62)\">")?;
+    if layout.edges.ticks().is_some() {
+        let most = layout.width.saturating_sub(LABEL_WIDTH);
+        out.say(left.min(most).max(LABELS))?;
+        out.mark(",13)\">")?;
+    } else {
+        out.say(left.saturating_add(9))?;
+        out.mark(",")?;
+        out.say(layout.foot_of_labels.saturating_sub(5))?;
+        out.mark(") rotate(-62)\">")?;
+    }
+    tell_label(out, column)
+}
+
+fn tell_label(out: &mut Markup, column: &Column) -> Result<(), AllocError> {
     if column.status.is_fault() {
         out.mark("✗ ")?;
     }
@@ -328,10 +371,16 @@ fn tell_number(
     index: usize,
     column: &Column,
 ) -> Result<(), AllocError> {
+    if !column.status.is_judged() {
+        return Ok(());
+    }
     let place = column.place.number();
-    if column.status.is_judged() && (place < 10_000 || index % 3 == 0) {
-        let y = layout.foot_of_labels.saturating_add(11);
-        tell_text(out, "place", layout.left(index).saturating_add(2), y, place)?;
+    let x = layout.sides(column, index).left.saturating_add(2);
+    let y = layout.foot_of_labels.saturating_add(11);
+    if layout.edges.ticks().is_some() {
+        tell_text(out, "place", x, y, Numbered("place", place))?;
+    } else if place < 10_000 || index % 3 == 0 {
+        tell_text(out, "place", x, y, place)?;
     }
     Ok(())
 }

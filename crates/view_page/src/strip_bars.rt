@@ -4,7 +4,7 @@ ghost use Rattle.std.specs.Prelude.{◌≡◌, true};
 ghost use Rattle.sink.specs.Own.{is_own};
 
 use crate::classes::{classes_of_look, pattern_of};
-use crate::layout::Layout;
+use crate::layout::{Layout, Sides};
 use crate::rows::{MARKS, Row};
 use crate::shapes::{BAND, BEFORE_TEXT, CHARACTER, Fitted, INSIDE, tell_box, tell_text};
 use sink::Markup;
@@ -51,10 +51,10 @@ pub fn tell_bars(
         height: BAND,
     };
     for bar in lane.windows.as_slice() {
-        tell_bar(out, picture, layout, bar, windows)?;
+        tell_bar(out, picture, layout, lane, bar, windows)?;
     }
     for bar in lane.bars.as_slice() {
-        tell_bar(out, picture, layout, bar, places_of(row, lane))?;
+        tell_bar(out, picture, layout, lane, bar, places_of(row, lane))?;
     }
     Ok(())
 }
@@ -71,22 +71,26 @@ pub fn tell_bar_texts(
         height: BAND,
     };
     for bar in lane.windows.as_slice() {
-        tell_bar_text(out, layout, bar, windows)?;
+        tell_bar_text(out, layout, lane, bar, windows)?;
     }
     for bar in lane.bars.as_slice() {
-        tell_bar_text(out, layout, bar, places_of(row, lane))?;
+        tell_bar_text(out, layout, lane, bar, places_of(row, lane))?;
     }
     Ok(())
 }
 
-// Where a bar begins and ends in a strip. None if it is not in it.
-fn ends_of(layout: &Layout, bar: &Bar) -> Option<(u64, u64)> {
+// Where a bar of a lane begins and ends in a strip. None if it is not in it, or takes no time.
+fn ends_of(layout: &Layout, lane: &Lane, bar: &Bar) -> Option<Sides> {
     let from = bar.from.max(layout.strip.from);
     let to = bar.to.min(layout.strip.to);
     if from >= to {
         return None;
     }
-    Some((layout.left(from), layout.left(to)))
+    let (left, right) = (layout.left(lane, from), layout.end(lane, to));
+    if left >= right {
+        return None;
+    }
+    Some(Sides { left, right })
 }
 
 // A bar, as far as it is in the strip.
@@ -94,10 +98,11 @@ fn tell_bar(
     out: &mut Markup,
     picture: &Picture,
     layout: &Layout,
+    lane: &Lane,
     bar: &Bar,
     places: Places,
 ) -> Result<(), AllocError> {
-    let Some((left, right)) = ends_of(layout, bar) else {
+    let Some(Sides { left, right }) = ends_of(layout, lane, bar) else {
         return Ok(());
     };
     out.mark("<g class=\"")?;
@@ -122,10 +127,11 @@ fn tell_bar(
 fn tell_bar_text(
     out: &mut Markup,
     layout: &Layout,
+    lane: &Lane,
     bar: &Bar,
     places: Places,
 ) -> Result<(), AllocError> {
-    let Some((left, right)) = ends_of(layout, bar) else {
+    let Some(Sides { left, right }) = ends_of(layout, lane, bar) else {
         return Ok(());
     };
     let room = (right.saturating_sub(left).saturating_sub(INSIDE) / CHARACTER) as usize;

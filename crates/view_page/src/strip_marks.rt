@@ -20,8 +20,8 @@ pub(crate) fn tell_points(
     lane: &Lane,
 ) -> Result<(), AllocError> {
     for mark in lane.marks.iter() {
-        if layout.has(mark.column) && !mark.kind.is_box() {
-            tell_point_mark(out, picture, layout, mark, row)?;
+        if layout.has(picture, mark.column) && !mark.kind.is_box() {
+            tell_point_mark(out, picture, layout, lane, mark, row)?;
         }
     }
     Ok(())
@@ -30,6 +30,7 @@ pub(crate) fn tell_points(
 // The marks of a lane that have their texts beside them, one below the other.
 pub(crate) fn tell_boxes(
     out: &mut Markup,
+    picture: &Picture,
     layout: &Layout,
     row: Row,
     lane: &Lane,
@@ -38,8 +39,8 @@ pub(crate) fn tell_boxes(
     let height = row.height / boxes.max(1);
     let mut y = row.y;
     for mark in lane.marks.iter() {
-        if layout.has(mark.column) && mark.kind.is_box() {
-            tell_box_mark(out, layout, mark, y, height)?;
+        if layout.has(picture, mark.column) && mark.kind.is_box() {
+            tell_box_mark(out, layout, lane, mark, y, height)?;
             y = y.saturating_add(height);
         }
     }
@@ -50,13 +51,16 @@ pub(crate) fn tell_boxes(
 fn tell_box_mark(
     out: &mut Markup,
     layout: &Layout,
+    lane: &Lane,
     mark: &Mark,
     y: u64,
     height: u64,
 ) -> Result<(), AllocError> {
     let (left, right) = (
-        layout.left(mark.column).saturating_add(3),
-        layout.left(mark.column.saturating_add(1)).saturating_sub(3),
+        layout.left(lane, mark.column).saturating_add(3),
+        layout
+            .left(lane, mark.column.saturating_add(1))
+            .saturating_sub(3),
     );
     out.mark("<g class=\"")?;
     out.mark(classes_of_box(mark.kind))?;
@@ -84,6 +88,7 @@ fn tell_point_mark(
     out: &mut Markup,
     picture: &Picture,
     layout: &Layout,
+    lane: &Lane,
     mark: &Mark,
     row: Row,
 ) -> Result<(), AllocError> {
@@ -96,7 +101,7 @@ fn tell_point_mark(
         out.say(column.source.as_str())?;
     }
     out.mark("</title>")?;
-    tell_point(out, picture, layout, mark, row)?;
+    tell_point(out, picture, layout, lane, mark, row)?;
     out.mark("</g>\n")
 }
 
@@ -105,10 +110,11 @@ fn tell_point(
     out: &mut Markup,
     picture: &Picture,
     layout: &Layout,
+    lane: &Lane,
     mark: &Mark,
     row: Row,
 ) -> Result<(), AllocError> {
-    let x = layout.left(mark.column);
+    let x = layout.left(lane, mark.column);
     match mark.kind {
         MarkKind::Tick => tell_line(out, x, row.foot().saturating_sub(MARKS), row.foot()),
         MarkKind::Restart => {
@@ -160,27 +166,17 @@ pub(crate) fn tell_arrow(
     layout: &Layout,
     arrow: &Arrow,
 ) -> Result<(), AllocError> {
-    let (Some((left, begins)), Some((right, ends))) = (
-        x_of(layout, &arrow.from),
-        x_of(layout, &arrow.to),
-    ) else {
-        return Ok(());
-    };
-    if !begins && !ends {
+    if !is_at(picture, layout, &arrow.from) && !is_at(picture, layout, &arrow.to) {
         return Ok(());
     }
     let (Some(from), Some(to)) = (
-        layout.row(picture, &arrow.from.lane),
-        layout.row(picture, &arrow.to.lane),
+        point_of(picture, layout, &arrow.from),
+        point_of(picture, layout, &arrow.to),
     ) else {
         return Ok(());
     };
-    let way = Way {
-        kind: arrow.kind,
-        from: (left, from.end_of_arrow(&arrow.from.lane)),
-        to: (right, to.end_of_arrow(&arrow.to.lane)),
-    };
-    tell_way(out, arrow, way)
+    let kind = arrow.kind;
+    tell_way(out, arrow, Way { kind, from, to })
 }
 
 // An arrow along this path.
@@ -213,8 +209,8 @@ impl Display for Way {
         let ((left, top), (right, bottom)) = (self.from, self.to);
         match self.kind {
             ArrowKind::Wake => {
-                let x = left.saturating_add(3);
-                write!(f, "M{x},{top}L{x},{bottom}")
+                let (left, right) = (left.saturating_add(3), right.saturating_add(3));
+                write!(f, "M{left},{top}L{right},{bottom}")
             }
             ArrowKind::Message => {
                 let middle = left.saturating_add(right) / 2;
@@ -227,12 +223,22 @@ impl Display for Way {
     }
 }
 
-// Where an end of an arrow is, and whether it is in the strip; otherwise it is at the nearer edge. None if it is further away.
-fn x_of(layout: &Layout, end: &ArrowEnd) -> Option<(u64, bool)> {
+// Whether an end of an arrow is in the strip.
+fn is_at(picture: &Picture, layout: &Layout, end: &ArrowEnd) -> bool {
     match end.column {
-        None => Some((LABELS, false)),
-        Some(column) if column < layout.strip.from => Some((LABELS, false)),
-        Some(column) if column >= layout.strip.to => { Some((layout.left(layout.strip.to), false)) }
-        Some(column) => Some((layout.left(column), true)),
+        Some(column) => layout.has(picture, column),
+        None => false,
     }
+}
+
+// Where an end of an arrow is; at the nearer edge, if it is not in the strip. None if the strip does not show its lane.
+fn point_of(picture: &Picture, layout: &Layout, end: &ArrowEnd) -> Option<(u64, u64)> {
+    let (row, lane) = layout.row(picture, &end.lane)?;
+    let x = match end.column {
+        None => LABELS,
+        Some(column) if column < layout.strip.from => LABELS,
+        Some(column) if column >= layout.strip.to => layout.edges.right(),
+        Some(column) => layout.left(lane, column),
+    };
+    Some((x, row.end_of_arrow(&end.lane)))
 }

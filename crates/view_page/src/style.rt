@@ -18,7 +18,10 @@ pub const STYLE: &str = "
 .frame { fill: none; stroke: #b84300; stroke-width: 2; }
 .ground-after { fill: url(#after); }
 .hit { fill: transparent; }
-.record:hover .hit { fill: #5b6570; fill-opacity: .18; }
+.slot { stroke: #c3cad1; stroke-width: .7; }
+.record:hover .hit, .again:hover .hit { fill: #5b6570; fill-opacity: .18; }
+.short { stroke: #57616b; stroke-width: 1; }
+.bound { stroke: #57616b; stroke-width: 1.5; stroke-dasharray: 2 2; }
 .bar .fill { stroke: #ffffff; stroke-width: 1; }
 .bar .said { fill: #000000; pointer-events: none; }
 .plate { pointer-events: none; }
@@ -71,7 +74,9 @@ pub const STYLE: &str = "
 .ground { fill: #20262d; }
 .ground-rejected { fill: #ff9a57; }
 .frame { stroke: #ff9a57; }
-.record:hover .hit { fill: #a3adb8; }
+.slot { stroke: #46505b; }
+.record:hover .hit, .again:hover .hit { fill: #a3adb8; }
+.short, .bound { stroke: #a3adb8; }
 .bar .fill { stroke: #14181d; }
 .raised .fill { stroke: #d55e00; }
 .dormant .fill { stroke: #46505b; }
@@ -120,6 +125,7 @@ p { margin: 0; overflow-wrap: anywhere; }
 code, pre { font: 13px/1.45 ui-monospace, 'DejaVu Sans Mono', monospace; }
 pre { margin: 8px 0; padding: 10px 12px; border-left: 4px solid var(--fault); background: var(--ground); white-space: pre-wrap; overflow-wrap: anywhere; }
 .lawful-run pre { border-left-color: var(--right); }
+.figures pre { border-left-color: var(--line); }
 .strips { display: flex; flex-wrap: wrap; gap: 14px 18px; align-items: flex-start; }
 .piece { max-width: 100%; }
 .strip { display: block; flex: none; }
@@ -128,6 +134,12 @@ pre { margin: 8px 0; padding: 10px 12px; border-left: 4px solid var(--fault); ba
 .names { position: sticky; left: 0; z-index: 1; }
 .elsewhere { margin: 8px 0 0; color: var(--soft); font-size: 13px; }
 summary { cursor: pointer; }
+.size { display: inline-block; margin: 0 4px 8px 0; font-size: 13px; }
+.size summary { list-style: none; padding: 0 8px; border: 1px solid var(--line); border-radius: 3px; }
+.size[open] summary { background: var(--ground); font-weight: 700; border-color: var(--soft); }
+.half[open] ~ .piece .beside, .half[open] ~ .strips .beside { zoom: .5; }
+.more[open] ~ .piece .beside, .more[open] ~ .strips .beside { zoom: 1.5; }
+.twice[open] ~ .piece .beside, .twice[open] ~ .strips .beside { zoom: 2; }
 a { color: inherit; }
 tr:target td { border-color: var(--fault); }
 .key { display: flex; flex-wrap: wrap; gap: 6px 16px; margin: 10px 0 18px; padding: 0; list-style: none; font-size: 12px; }
@@ -157,5 +169,5 @@ td:nth-child(5):empty { display: none; }
 td:nth-child(5), td:nth-child(6) { border-top: 1px solid var(--line); }
 }
 @page { size: A4 landscape; margin: 10mm; }
-@media print { body.page { padding: 0; font-size: 11px; } .piece { break-inside: avoid; } .scrolled { overflow: visible; zoom: .8; } tr { break-inside: avoid; } .strip, .key svg { print-color-adjust: exact; -webkit-print-color-adjust: exact; } }
+@media print { body.page { padding: 0; font-size: 11px; } .size { display: none; } .piece { break-inside: avoid; } .scrolled { overflow: visible; zoom: .8; } tr { break-inside: avoid; } .strip, .key svg { print-color-adjust: exact; -webkit-print-color-adjust: exact; } }
 ";

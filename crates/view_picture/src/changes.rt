@@ -2,10 +2,12 @@
 
 use crate::labels::{add_words, process_name, quoted};
 use crate::lane_key::LaneKey;
+use crate::look::Look;
 use crate::picture::{Picture, ProcessNow};
 use crate::process_bars::{
     Hold, mode_saying, occupant_saying, process_saying, verb_of, window_saying,
 };
+use crate::role::Role;
 use crate::thing_bars::{KeyName, thing_saying};
 use apex_machine::Mode;
 use apex_types::{PartId, Who};
@@ -240,15 +242,39 @@ impl Picture {
             &process.view,
             now,
         )?;
-        let key = LaneKey::Process(process.who);
+        let who = process.who;
+        let core = process.view.affinity;
         if let Some(process) = self.processes.get_mut(index) {
             process.hold = now;
         }
-        let lane = self.lane(key, "")?;
+        if who.proc.number() == 0 {
+            self.name_first_process(&who, saying.look)?;
+        }
+        let lane = self.lane(LaneKey::Process(who), "")?;
+        lane.core = Some(core);
         if before != now {
             lane.concerned.push(column)?;
         }
         lane.bars.say(column, saying)
+    }
+
+    // Labels the lane of process 0 of a partition, which now looks like this. It has a role from the first on, and then each time that it is
+    // not dormant.
+    fn name_first_process(&mut self, who: &Who, look: Look) -> Result<(), AllocError> {
+        let alloc = self.alloc;
+        let mode = self.lane(LaneKey::Partition(who.part), "")?.bars.look();
+        let now = Role::of(mode == Some(Look::Normal));
+        let lane = self.lane(LaneKey::Process(*who), "")?;
+        let role = match lane.role {
+            None => now,
+            Some(before) if look == Look::Dormant => before,
+            Some(before) => before.then(now),
+        };
+        if lane.role != Some(role) {
+            lane.label = String::from_str(alloc, role.label())?;
+            lane.role = Some(role);
+        }
+        Ok(())
     }
 
     // What a process now has of its core.

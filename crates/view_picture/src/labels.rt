@@ -2,6 +2,7 @@
 
 use crate::lane_key::LaneKey;
 use crate::process_bars::Short;
+use crate::role::Role;
 use crate::thing_bars::KeyName;
 use apex_types::{Body, Code, Ordered, Out, Who};
 use piece_check::{Piece, Seen};
@@ -28,7 +29,7 @@ pub fn label_of_lane(alloc: Global, key: &LaneKey, name: &str) -> Result<String,
         LaneKey::Core(core) => format!(in alloc; "core {}", core.number()),
         LaneKey::Partition(part) => format!(in alloc; "partition {}", part.number()),
         LaneKey::Process(who) if who.proc.number() == 0 => {
-            String::from_str(alloc, "0, initialising process")
+            String::from_str(alloc, Role::Initialising.label())
         }
         LaneKey::Process(who) => format!(in alloc; "process {}{name}", who.proc.number()),
         LaneKey::Thing(key) => format!(in alloc; "{}{name}", KeyName(*key)),

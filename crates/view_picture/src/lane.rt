@@ -2,6 +2,8 @@
 
 use crate::bars::Bars;
 use crate::lane_key::LaneKey;
+use crate::role::Role;
+use apex_types::CoreId;
 use std::alloc::Global;
 
 /// What is in a lane at a column.
@@ -54,6 +56,10 @@ pub struct Mark {
 pub struct Lane {
     pub key: LaneKey,
     pub label: String,
+    /// The core whose time it has: itself, or that of a process; none for a partition, an object, a lock or a channel.
+    pub core: Option<CoreId>,
+    // What process 0 is, in its lane.
+    pub(crate) role: Option<Role>,
     pub windows: Bars,
     pub bars: Bars,
     pub marks: Vec<Mark>,
@@ -69,6 +75,11 @@ impl Lane {
         Lane {
             key,
             label,
+            core: match key {
+                LaneKey::Core(core) => Some(core),
+                LaneKey::Partition(_) | LaneKey::Process(_) | LaneKey::Thing(_) => None,
+            },
+            role: None,
             windows: Bars::new(alloc),
             bars: Bars::new(alloc),
             marks: Vec::new(alloc),

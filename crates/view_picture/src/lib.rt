@@ -23,6 +23,7 @@ mod look;
 mod marks;
 mod picture;
 mod process_bars;
+mod role;
 mod saying;
 mod thing_bars;
 mod touched;

@@ -20,11 +20,15 @@ use std::alloc::{AllocError, Global};
 #[derive(Drop)]
 pub struct Picture {
     pub(crate) alloc: Global,
+    // How many ticks a major frame has.
+    frame: u64,
     pub(crate) columns: Vec<Column>,
     // In the order in which they are shown.
     pub(crate) lanes: Vec<Lane>,
     pub(crate) arrows: Vec<Arrow>,
     pub(crate) cores: Vec<CoreView>,
+    // The cores before the first record.
+    first_cores: Vec<CoreView>,
     pub(crate) processes: Vec<ProcessNow>,
 }
 
@@ -46,14 +50,16 @@ pub struct Added<'a> {
 }
 
 impl Picture {
-    /// A picture without a record.
-    pub fn new(alloc: Global) -> Picture {
+    /// A picture without a record, of a module whose major frame has this many ticks.
+    pub fn new(alloc: Global, frame: u64) -> Picture {
         Picture {
             alloc,
+            frame,
             columns: Vec::new(alloc),
             lanes: Vec::new(alloc),
             arrows: Vec::new(alloc),
             cores: Vec::new(alloc),
+            first_cores: Vec::new(alloc),
             processes: Vec::new(alloc),
         }
     }
@@ -64,6 +70,9 @@ impl Picture {
         self.apply(pieces, changes, 0, &mut told)?;
         for lane in self.lanes.iter_mut() {
             lane.concerned.clear();
+        }
+        for core in self.cores.iter() {
+            self.first_cores.push(*core)?;
         }
         Ok(())
     }
@@ -138,6 +147,16 @@ impl Picture {
     /// The arrows between lanes.
     pub fn arrows(&self) -> &[Arrow] {
         self.arrows.as_slice()
+    }
+
+    /// The cores before the first record.
+    pub fn first_cores(&self) -> &[CoreView] {
+        self.first_cores.as_slice()
+    }
+
+    /// How many ticks a major frame has.
+    pub fn frame(&self) -> u64 {
+        self.frame
     }
 
     /// Where its memory comes from.

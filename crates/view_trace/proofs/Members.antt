@@ -1,10 +1,11 @@
 -- Members that are added to an object one after another.
-use Rattle.std.proofs.Common.{◌≡◌, ℕ, Bool, true, false, List, [], ◌∷◌, ◌++◌, Result, Ok, Err, cond, subst, refl, sym, ap, ◌∙◌, append_assoc}
+use Rattle.std.proofs.Common.{◌≡◌, ℕ, Bool, true, false, List, [], ◌∷◌, ◌++◌, Option, Result, Ok, Err, cond, subst, refl, sym, ap, ◌∙◌, append_assoc}
 use Rattle.std.specs.Prelude.{OnOk, codes, is_ok}
 use Rattle.serde_json.specs.Data.{Members, no_members, member, object, string}
 use Rattle.serde_json.specs.Written.{comma_if, compact_text, members_text}
-use Rattle.view_trace.specs.Event.{details, letter_of, phase_members}
+use Rattle.view_trace.specs.Event.{arguments_if, details, letter_of, number_if, phase_members}
 use Rattle.view_trace.specs.ObjectText.{AddsMembers}
+use Rattle.view_trace.specs.declared.event.Arguments.{Arguments}
 use Rattle.view_trace.specs.declared.event.Phase.{Phase}
 use Rattle.view_trace.specs.declared.object_text.ObjectText.{ObjectText}
 
@@ -40,3 +41,11 @@ pub phase_then : (phase : Phase) (letter : List ℕ) {a b c : ObjectText} → le
 phase_then phase letter {a} {b} e h k =
     let P : List ℕ → Type 0 = λ l. AddsMembers (member (codes "ph") (string l)) a b in
     AddsMembers-then (subst P e h) k
+
+-- a number that is another one
+pub number_is : (key : List ℕ) {m n : Option ℕ} {a b : ObjectText} → m ≡ n → AddsMembers (number_if key m) a b → AddsMembers (number_if key n) a b
+number_is key {m} {n} {a} {b} e h = let P : Option ℕ → Type 0 = λ value. AddsMembers (number_if key value) a b in subst P e h
+
+-- arguments after a place that is another one
+pub arguments_after : (arguments : Option Arguments) {m n : Option ℕ} {a b : ObjectText} → m ≡ n → AddsMembers (arguments_if m arguments) a b → AddsMembers (arguments_if n arguments) a b
+arguments_after arguments {m} {n} {a} {b} e h = let P : Option ℕ → Type 0 = λ place. AddsMembers (arguments_if place arguments) a b in subst P e h

@@ -1,5 +1,5 @@
 -- A text without a character that JSON escapes is a string between quotation marks as it is.
-use Rattle.std.proofs.Common.{◌≡◌, ℕ, Bool, true, false, ◌||◌, eqb, cond, List, [], ◌∷◌, ◌++◌, refl, ap, ◌∙◌, flat_map, arith}
+use Rattle.std.proofs.Common.{◌≡◌, ℕ, Bool, true, false, ◌||◌, eqb, cond, List, [], ◌∷◌, ◌++◌, refl, ap, ◌∙◌, append_assoc, flat_map, arith}
 use Rattle.std.specs.Prelude.{nat_lt}
 use Rattle.std.specs.List.{list_any}
 use Rattle.std.proofs.lemmas.Bool.Decides.{nat_tests}
@@ -30,3 +30,7 @@ plain_text (b ∷ bs) h =
     let here = plain_byte b (first_false (is_escaped b) (list_any is_escaped bs) h) in
     let later = plain_text bs (second_false (is_escaped b) (list_any is_escaped bs) h) in
     rw (here, later)
+
+-- such a text as a key, with the colon after it
+pub key_text : (name : List ℕ) → list_any is_escaped name ≡ false → 34 ∷ (name ++ 34 ∷ 58 ∷ []) ≡ 34 ∷ ((flat_map escape_byte name ++ 34 ∷ []) ++ 58 ∷ [])
+key_text name h = rw (plain_text name h) (simp append_assoc)

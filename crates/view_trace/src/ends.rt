@@ -1,88 +1,89 @@
-// The end of a trace: what is open ends with it.
+// What ends: slices and waits that are open.
 
 ghost use Rattle.std.specs.Prelude.{OnOk};
-ghost use Rattle.view_trace.specs.Trace.{AddsOthers, trace_of};
+ghost use Rattle.view_trace.specs.Trace.{AddsOthers};
+ghost use Rattle.view_trace.specs.Traced.{timed};
 
-use crate::event::{Event, FlowKind, Phase, Track};
-use crate::events::Events;
 use crate::fault::TraceFault;
 use crate::known::TracedProcess;
-use crate::tracks::{CHANNELS, core_track, mode_track, process_track};
+use crate::said::wait_name;
+use crate::timeline::Timeline;
+use crate::tracks::{core_track, mode_track, process_track};
+use apex_machine::Wait;
 use apex_types::PartId;
 use run_view::CoreView;
 use sink::Sink;
-
-/// Ends the flows of messages that nobody received.
-pub fn end_messages<W: Sink>(
-    events: &mut Events<'_, W>,
-    messages: &[u64],
-    place: u64,
-) -> Result<(), TraceFault>
-    ensures { OnOk result (AddsOthers (trace_of W.bytes events.old) (trace_of W.bytes events.new)) }
-{
-    let track = Track {
-        process: CHANNELS,
-        thread: 0,
-    };
-    for number in messages {
-        let phase = Phase::EndFlow(*number);
-        events.add_mark(&Event::flow(FlowKind::Message, phase, track, place))?;
-    }
-    Ok(())
-}
+use std::alloc::Global;
 
 /// Ends the slices of cores.
 pub fn end_cores<W: Sink>(
-    events: &mut Events<'_, W>,
+    timeline: &mut Timeline<'_, W>,
     cores: &[CoreView],
-    place: u64,
 ) -> Result<(), TraceFault>
-    ensures { OnOk result (AddsOthers (trace_of W.bytes events.old) (trace_of W.bytes events.new)) }
+    ensures { OnOk result (AddsOthers (timed W.bytes timeline.old) (timed W.bytes timeline.new)) }
 {
     for core in cores {
-        events.add_mark(&Event::slice_end(core_track(core.core), place))?;
+        timeline.end_slice(core_track(core.core))?;
     }
     Ok(())
 }
 
 /// Ends the slices of modes.
 pub fn end_modes<W: Sink>(
-    events: &mut Events<'_, W>,
+    timeline: &mut Timeline<'_, W>,
     modes: &[PartId],
-    place: u64,
 ) -> Result<(), TraceFault>
-    ensures { OnOk result (AddsOthers (trace_of W.bytes events.old) (trace_of W.bytes events.new)) }
+    ensures { OnOk result (AddsOthers (timed W.bytes timeline.old) (timed W.bytes timeline.new)) }
 {
     for part in modes {
-        events.add_mark(&Event::slice_end(mode_track(*part), place))?;
+        timeline.end_slice(mode_track(*part))?;
     }
     Ok(())
 }
 
-/// Ends the slices of processes.
+/// Ends the slices and the waits of processes.
 pub fn end_processes<W: Sink>(
-    events: &mut Events<'_, W>,
+    timeline: &mut Timeline<'_, W>,
+    alloc: Global,
     processes: &[TracedProcess],
-    place: u64,
 ) -> Result<(), TraceFault>
-    ensures { OnOk result (AddsOthers (trace_of W.bytes events.old) (trace_of W.bytes events.new)) }
+    ensures { OnOk result (AddsOthers (timed W.bytes timeline.old) (timed W.bytes timeline.new)) }
 {
     for process in processes {
-        end_if_open(events, process, place)?;
+        end_process(timeline, alloc, process)?;
     }
     Ok(())
 }
 
-#[tactic(auto, using(crate::proofs::Traces::others_none))]
-fn end_if_open<W: Sink>(
-    events: &mut Events<'_, W>,
+/// Ends the slice and the wait of a process, if they are open.
+#[tactic(auto, using(crate::proofs::Traces::others_none, crate::proofs::Traces::others_last))]
+pub fn end_process<W: Sink>(
+    timeline: &mut Timeline<'_, W>,
+    alloc: Global,
     process: &TracedProcess,
-    place: u64,
 ) -> Result<(), TraceFault>
-    ensures { OnOk result (AddsOthers (trace_of W.bytes events.old) (trace_of W.bytes events.new)) }
+    ensures { OnOk result (AddsOthers (timed W.bytes timeline.old) (timed W.bytes timeline.new)) }
 {
     if !process.is_open {
         return Ok(());
     }
-    events.add_mark(&Event::slice_end(process_track(process.who), place))
+    end_wait(timeline, alloc, process)?;
+    timeline.end_slice(process_track(process.who))
+}
+
+/// Ends the wait of a process, if it waits.
+#[tactic(auto, using(crate::proofs::Traces::others_none))]
+pub fn end_wait<W: Sink>(
+    timeline: &mut Timeline<'_, W>,
+    alloc: Global,
+    process: &TracedProcess,
+) -> Result<(), TraceFault>
+    ensures { OnOk result (AddsOthers (timed W.bytes timeline.old) (timed W.bytes timeline.new)) }
+{
+    let wait = process.waits_for();
+    if wait == Wait::Nothing {
+        return Ok(());
+    }
+    let name = wait_name(alloc, wait)?;
+    timeline.end_wait(process.wait, process_track(process.who), name.as_str())
 }

@@ -2,11 +2,20 @@
 
 ghost use Rattle.std.specs.Prelude.{◌≡◌, Some, true, false};
 
+use crate::axis::Axis;
+
 /// Where an event is: the number of a process and of a thread of the trace.
-#[derive(Clone, Copy, Debug, PartialEq, Eq)]
+#[derive(Clone, Copy, Debug, PartialEq, Eq, Hash)]
 pub struct Track {
     pub process: u64,
     pub thread: u64,
+}
+
+/// When an event is: the place of its record, and its time on the axis of times.
+#[derive(Clone, Copy, Debug, PartialEq, Eq)]
+pub struct Moment {
+    pub place: u64,
+    pub time: u64,
 }
 
 /// An event.
@@ -14,12 +23,12 @@ pub struct Track {
 pub struct Event<'a> {
     /// What a viewer shows of it. The end of a slice has none.
     pub name: Option<&'a str>,
-    /// What it belongs to. Flows have one.
+    /// What it belongs to. Flows and waits have one.
     pub category: Option<&'static str>,
     pub phase: Phase,
     pub track: Track,
-    /// The place of its record, which is its time in microseconds. A name has none.
-    pub place: Option<u64>,
+    /// A name of a process or a thread has none.
+    pub moment: Option<Moment>,
     pub arguments: Option<Arguments<'a>>,
 }
 
@@ -30,12 +39,16 @@ pub enum Phase {
     Metadata,
     BeginSlice,
     EndSlice,
-    /// Something at one time, on one thread.
+    /// A record, at one time and on one thread.
     Instant,
+    /// What ends the run before its last record, at one time of the whole trace.
+    Fault,
     /// The flow with this number begins.
     BeginFlow(u64),
-    StepFlow(u64),
     EndFlow(u64),
+    /// The wait with this number begins.
+    BeginWait(u64),
+    EndWait(u64),
     Counter,
 }
 
@@ -50,10 +63,11 @@ impl Phase {
             Phase::Metadata => "M",
             Phase::BeginSlice => "B",
             Phase::EndSlice => "E",
-            Phase::Instant => "i",
+            Phase::Instant | Phase::Fault => "i",
             Phase::BeginFlow(_) => "s",
-            Phase::StepFlow(_) => "t",
             Phase::EndFlow(_) => "f",
+            Phase::BeginWait(_) => "b",
+            Phase::EndWait(_) => "e",
             Phase::Counter => "C",
         }
     }
@@ -64,10 +78,12 @@ impl Phase {
 pub enum Arguments<'a> {
     /// The name of a process or a thread.
     Name(&'a str),
-    /// Of a slice: the time of the core that it concerns, and a detail.
+    /// Of a slice or a wait: the time of the core that it concerns, and a detail.
     Slice { time: u64, detail: &'a str },
-    /// Of an instant: the time of the core, and the record in words.
+    /// Of a record: the time of its core, and the record in words.
     Record { time: u64, words: &'a str },
+    /// Of a fault: why the answer is not a Yes.
+    Explanation(&'a str),
     /// The priority of a process.
     Priority(u64),
     /// How many are held, and how many wait.
@@ -90,12 +106,36 @@ impl FlowKind {
     }
 }
 
+/// The category of waits.
+const WAIT: &str = "wait";
+
 impl<'a> Event<'a> {
-    ghost use Rattle.view_trace.specs.Event.{is_instant};
+    ghost use Rattle.view_trace.specs.Event.{place_of, place_shown, shows_record, stamp_of};
+
+    /// Its time on this axis.
+    pub fn stamp(&self, axis: Axis) -> Option<u64>
+        ensures { result ≡ stamp_of axis self.now.moment }
+    {
+        let moment = self.moment?;
+        match axis {
+            Axis::Place => Some(moment.place),
+            Axis::Time => Some(moment.time),
+        }
+    }
+
+    /// Its place, if its time on this axis does not say it.
+    pub fn place_shown(&self, axis: Axis) -> Option<u64>
+        ensures { result ≡ place_shown axis self.now.moment }
+    {
+        match axis {
+            Axis::Place => None,
+            Axis::Time => Some(self.moment?.place),
+        }
+    }
 
     /// Names a process of the trace.
     pub fn process_name(process: u64, name: &'a str) -> Event<'a>
-        ensures { is_instant result.phase ≡ false }
+        ensures { shows_record result.phase ≡ false }
     {
         let track = Track { process, thread: 0 };
         Event::naming("process_name", track, name)
@@ -103,71 +143,100 @@ impl<'a> Event<'a> {
 
     /// Names a thread of the trace.
     pub fn thread_name(track: Track, name: &'a str) -> Event<'a>
-        ensures { is_instant result.phase ≡ false }
+        ensures { shows_record result.phase ≡ false }
     {
         Event::naming("thread_name", track, name)
     }
 
     fn naming(what: &'static str, track: Track, name: &'a str) -> Event<'a>
-        ensures { is_instant result.phase ≡ false }
+        ensures { shows_record result.phase ≡ false }
     {
         Event {
             name: Some(what),
             category: None,
             phase: Phase::Metadata,
             track,
-            place: None,
+            moment: None,
             arguments: Some(Arguments::Name(name)),
         }
     }
 
-    /// Begins a slice: at this place, and at this time of the core that it concerns.
-    pub fn slice(track: Track, place: u64, name: &'a str, time: u64, detail: &'a str) -> Event<'a>
-        ensures { is_instant result.phase ≡ false }
+    /// Begins a slice, at this time of the core that it concerns.
+    pub fn slice(
+        track: Track,
+        moment: Moment,
+        name: &'a str,
+        time: u64,
+        detail: &'a str,
+    ) -> Event<'a>
+        ensures { shows_record result.phase ≡ false }
     {
         Event {
             name: Some(name),
             category: None,
             phase: Phase::BeginSlice,
             track,
-            place: Some(place),
+            moment: Some(moment),
             arguments: Some(Arguments::Slice { time, detail }),
         }
     }
 
     /// Ends the slice of a track that was begun last.
-    pub fn slice_end(track: Track, place: u64) -> Event<'a>
-        ensures { is_instant result.phase ≡ false }
+    pub fn slice_end(track: Track, moment: Moment) -> Event<'a>
+        ensures { shows_record result.phase ≡ false }
     {
         Event {
             name: None,
             category: None,
             phase: Phase::EndSlice,
             track,
-            place: Some(place),
+            moment: Some(moment),
             arguments: None,
         }
     }
 
-    /// Something that a record does.
-    pub fn instant(track: Track, place: u64, name: &'a str, time: u64, words: &'a str) -> Event<'a>
-        ensures is_instant { is_instant result.phase ≡ true }
-        ensures place { result.place ≡ Some place }
+    /// A record, after which its core has this time.
+    pub fn record(
+        track: Track,
+        moment: Moment,
+        name: &'a str,
+        time: u64,
+        words: &'a str,
+    ) -> Event<'a>
+        ensures record { shows_record result.phase ≡ true }
+        ensures place { place_of result ≡ Some moment.place }
     {
         Event {
             name: Some(name),
             category: None,
             phase: Phase::Instant,
             track,
-            place: Some(place),
+            moment: Some(moment),
             arguments: Some(Arguments::Record { time, words }),
         }
     }
 
-    /// A flow that begins, goes on or ends, as the phase says.
-    pub fn flow(kind: FlowKind, phase: Phase, track: Track, place: u64) -> Event<'a>
-        requires { is_instant phase ≡ false }
-        ensures { is_instant result.phase ≡ false }
+    /// What ends the run before its last record: the line of the answer, and why it is not a Yes.
+    pub fn fault(track: Track, moment: Moment, answer: &'a str, explanation: &'a str) -> Event<'a>
+        ensures fault { result.phase ≡ Phase.Fault }
+        ensures place { place_of result ≡ Some moment.place }
+        ensures answer { result.name ≡ Some answer.entry }
+        ensures explanation { result.arguments ≡ Some (Arguments.Explanation explanation.entry) }
+    {
+        Event {
+            name: Some(answer),
+            category: None,
+            phase: Phase::Fault,
+            track,
+            moment: Some(moment),
+            arguments: Some(Arguments::Explanation(explanation)),
+        }
+    }
+
+    /// A flow that begins or ends, as the phase says.
+    pub fn flow(kind: FlowKind, phase: Phase, track: Track, moment: Moment) -> Event<'a>
+        requires { shows_record phase ≡ false }
+        ensures { shows_record result.phase ≡ false }
     {
         let name = kind.name();
         Event {
@@ -175,21 +244,61 @@ impl<'a> Event<'a> {
             category: Some(name),
             phase,
             track,
-            place: Some(place),
+            moment: Some(moment),
+            arguments: None,
+        }
+    }
+
+    /// The wait with this number begins, at this time of the core that it concerns.
+    pub fn wait(
+        number: u64,
+        track: Track,
+        moment: Moment,
+        name: &'a str,
+        time: u64,
+        detail: &'a str,
+    ) -> Event<'a>
+        ensures { shows_record result.phase ≡ false }
+    {
+        Event {
+            name: Some(name),
+            category: Some(WAIT),
+            phase: Phase::BeginWait(number),
+            track,
+            moment: Some(moment),
+            arguments: Some(Arguments::Slice { time, detail }),
+        }
+    }
+
+    /// The wait with this number, and of this name, ends.
+    pub fn wait_end(number: u64, track: Track, moment: Moment, name: &'a str) -> Event<'a>
+        ensures { shows_record result.phase ≡ false }
+    {
+        Event {
+            name: Some(name),
+            category: Some(WAIT),
+            phase: Phase::EndWait(number),
+            track,
+            moment: Some(moment),
             arguments: None,
         }
     }
 
     /// Something that a process of the trace counts.
-    pub fn counter(process: u64, place: u64, name: &'a str, arguments: Arguments<'a>) -> Event<'a>
-        ensures { is_instant result.phase ≡ false }
+    pub fn counter(
+        track: Track,
+        moment: Moment,
+        name: &'a str,
+        arguments: Arguments<'a>,
+    ) -> Event<'a>
+        ensures { shows_record result.phase ≡ false }
     {
         Event {
             name: Some(name),
             category: None,
             phase: Phase::Counter,
-            track: Track { process, thread: 0 },
-            place: Some(place),
+            track,
+            moment: Some(moment),
             arguments: Some(arguments),
         }
     }

@@ -5,8 +5,12 @@ ghost use Rattle.std.specs.List.{list_any};
 ghost use Rattle.serde_json.specs.Data.{member, no_members, string, number, unsigned, object};
 ghost use Rattle.serde_json.specs.Written.{comma_if, compact_text};
 ghost use Rattle.view_trace.specs.Escapes.{is_escaped};
+ghost use Rattle.view_trace.specs.Keys.{name_of};
 
+use crate::axis::Axis;
 use crate::event::{Arguments, Event, Phase};
+use crate::key::Key;
+use itoa::Buffer;
 use serde_json::Value;
 use std::alloc::{AllocError, Global};
 
@@ -20,7 +24,7 @@ pub struct ObjectText {
 }
 
 impl ObjectText {
-    ghost use Rattle.view_trace.specs.Event.{argument_members, arguments_if, details, event_text, members_of, number_if, phase_members, text_if};
+    ghost use Rattle.view_trace.specs.Event.{argument_members, arguments_if, details, event_text, members_of, number_if, phase_members, text_if, timed_members};
     ghost use Rattle.view_trace.specs.ObjectText.{AddsMembers, text_of};
 
     /// No text. Takes no memory.
@@ -55,34 +59,34 @@ impl ObjectText {
         self.text.push_str(text)
     }
 
-    /// Adds an event: an object with the members of the event.
-    pub fn add_event(&mut self, event: &Event<'_>) -> Result<(), AllocError>
-        ensures { OnOk result (text_of self.new ≡ text_of self.old ++ event_text event.now) }
+    /// Adds an event: an object with the members that the event has on this axis.
+    pub fn add_event(&mut self, axis: Axis, event: &Event<'_>) -> Result<(), AllocError>
+        ensures { OnOk result (text_of self.new ≡ text_of self.old ++ event_text axis event.now) }
     {
         self.text.push_str("{")?;
         self.has_member = false;
-        self.add_members(event)?;
+        self.add_members(axis, event)?;
         self.text.push_str("}")
     }
 
     // Adds the members of an event.
-    fn add_members(&mut self, event: &Event<'_>) -> Result<(), AllocError>
-        ensures { OnOk result (AddsMembers (members_of event.now) self.old self.new) }
+    fn add_members(&mut self, axis: Axis, event: &Event<'_>) -> Result<(), AllocError>
+        ensures { OnOk result (AddsMembers (members_of axis event.now) self.old self.new) }
     {
-        self.add_text_if("name", event.name)?;
-        self.add_text_if("cat", event.category)?;
+        self.add_text_if(Key::Name, event.name)?;
+        self.add_text_if(Key::Category, event.category)?;
         self.add_phase(event.phase)?;
-        self.add_number("pid", event.track.process)?;
-        self.add_number("tid", event.track.thread)?;
-        self.add_number_if("ts", event.place)?;
-        self.add_arguments_if(&event.arguments)
+        self.add_number(Key::Process, event.track.process)?;
+        self.add_number(Key::Thread, event.track.thread)?;
+        self.add_number_if(Key::Stamp, event.stamp(axis))?;
+        self.add_arguments_if(event.place_shown(axis), &event.arguments)
     }
 
     // Adds what an event is, and what the format has of such an event beside it.
     fn add_phase(&mut self, phase: Phase) -> Result<(), AllocError>
         ensures { OnOk result (AddsMembers (phase_members phase) self.old self.new) }
     {
-        self.add_text("ph", phase.letter())?;
+        self.add_text(Key::Phase, phase.letter())?;
         self.add_details(phase)
     }
 
@@ -90,8 +94,11 @@ impl ObjectText {
         ensures { OnOk result (AddsMembers (details phase) self.old self.new) }
     {
         match phase {
-            Phase::Instant => self.add_text("s", "t"),
-            Phase::BeginFlow(number) | Phase::StepFlow(number) => self.add_number("id", number),
+            Phase::Instant => self.add_text(Key::Scope, "t"),
+            Phase::Fault => self.add_text(Key::Scope, "g"),
+            Phase::BeginFlow(number) | Phase::BeginWait(number) | Phase::EndWait(number) => {
+                self.add_number(Key::Number, number)
+            }
             Phase::EndFlow(number) => self.add_end_of_flow(number),
             Phase::Metadata | Phase::BeginSlice | Phase::EndSlice | Phase::Counter => Ok(()),
         }
@@ -100,54 +107,79 @@ impl ObjectText {
     fn add_end_of_flow(&mut self, number: u64) -> Result<(), AllocError>
         ensures { OnOk result (AddsMembers (details (Phase.EndFlow number)) self.old self.new) }
     {
-        self.add_text("bp", "e")?;
-        self.add_number("id", number)
+        self.add_text(Key::Binding, "e")?;
+        self.add_number(Key::Number, number)
     }
 
-    fn add_arguments_if(&mut self, arguments: &Option<Arguments<'_>>) -> Result<(), AllocError>
-        ensures { OnOk result (AddsMembers (arguments_if arguments.now) self.old self.new) }
+    fn add_arguments_if(
+        &mut self,
+        place: Option<u64>,
+        arguments: &Option<Arguments<'_>>,
+    ) -> Result<(), AllocError>
+        ensures { OnOk result (AddsMembers (arguments_if place arguments.now) self.old self.new) }
     {
         match arguments {
-            Some(arguments) => self.add_arguments(arguments),
+            Some(arguments) => self.add_arguments(place, arguments),
             None => Ok(()),
         }
     }
 
     // Adds what an event says besides, as an object.
-    fn add_arguments(&mut self, arguments: &Arguments<'_>) -> Result<(), AllocError>
-        ensures { OnOk result (AddsMembers (member (codes "args") (object (argument_members arguments.now no_members))) self.old self.new) }
+    fn add_arguments(
+        &mut self,
+        place: Option<u64>,
+        arguments: &Arguments<'_>,
+    ) -> Result<(), AllocError>
+        ensures { OnOk result (AddsMembers (member (codes "args") (object (argument_members place arguments.now no_members))) self.old self.new) }
     {
-        self.add_key("args")?;
+        self.add_key(Key::Arguments)?;
         self.text.push_str("{")?;
         self.has_member = false;
-        self.add_each_argument(arguments)?;
+        self.add_each_argument(place, arguments)?;
         self.has_member = true;
         self.text.push_str("}")
     }
 
-    fn add_each_argument(&mut self, arguments: &Arguments<'_>) -> Result<(), AllocError>
-        ensures { OnOk result (AddsMembers (argument_members arguments.now) self.old self.new) }
+    fn add_each_argument(
+        &mut self,
+        place: Option<u64>,
+        arguments: &Arguments<'_>,
+    ) -> Result<(), AllocError>
+        ensures { OnOk result (AddsMembers (argument_members place arguments.now) self.old self.new) }
     {
         match arguments {
-            Arguments::Name(name) => self.add_text("name", name),
-            Arguments::Slice { time, detail } => {
-                self.add_number("time", *time)?;
-                self.add_text("detail", detail)
+            Arguments::Name(name) => self.add_text(Key::Name, name),
+            Arguments::Slice { time, detail } => self.add_timed(place, *time, Key::Detail, detail),
+            Arguments::Record { time, words } => self.add_timed(place, *time, Key::Record, words),
+            Arguments::Explanation(words) => {
+                self.add_number_if(Key::Place, place)?;
+                self.add_text(Key::Explanation, words)
             }
-            Arguments::Record { time, words } => {
-                self.add_number("time", *time)?;
-                self.add_text("record", words)
-            }
-            Arguments::Priority(priority) => self.add_number("priority", *priority),
+            Arguments::Priority(priority) => self.add_number(Key::Priority, *priority),
             Arguments::Held { held, waiting } => {
-                self.add_number("held", *held)?;
-                self.add_number("waiting", *waiting)
+                self.add_number(Key::Held, *held)?;
+                self.add_number(Key::Waiting, *waiting)
             }
         }
     }
 
-    fn add_text_if(&mut self, key: &'static str, value: Option<&str>) -> Result<(), AllocError>
-        ensures { OnOk result (AddsMembers (text_if key.now value.entry) self.old self.new) }
+    // Adds the place, if it is shown, a time of a core, and a text.
+    fn add_timed(
+        &mut self,
+        place: Option<u64>,
+        time: u64,
+        key: Key,
+        text: &str,
+    ) -> Result<(), AllocError>
+        ensures { OnOk result (AddsMembers (timed_members place time (name_of key) text.now) self.old self.new) }
+    {
+        self.add_number_if(Key::Place, place)?;
+        self.add_number(Key::Time, time)?;
+        self.add_text(key, text)
+    }
+
+    fn add_text_if(&mut self, key: Key, value: Option<&str>) -> Result<(), AllocError>
+        ensures { OnOk result (AddsMembers (text_if (name_of key) value.entry) self.old self.new) }
     {
         match value {
             Some(text) => self.add_text(key, text),
@@ -155,8 +187,8 @@ impl ObjectText {
         }
     }
 
-    fn add_number_if(&mut self, key: &'static str, value: Option<u64>) -> Result<(), AllocError>
-        ensures { OnOk result (AddsMembers (number_if key.now value) self.old self.new) }
+    fn add_number_if(&mut self, key: Key, value: Option<u64>) -> Result<(), AllocError>
+        ensures { OnOk result (AddsMembers (number_if (name_of key) value) self.old self.new) }
     {
         match value {
             Some(number) => self.add_number(key, number),
@@ -165,32 +197,32 @@ impl ObjectText {
     }
 
     // Adds a member that is a text.
-    fn add_text(&mut self, key: &'static str, value: &str) -> Result<(), AllocError>
-        ensures { OnOk result (AddsMembers (member key.now (string value.now)) self.old self.new) }
+    fn add_text(&mut self, key: Key, value: &str) -> Result<(), AllocError>
+        ensures { OnOk result (AddsMembers (member (name_of key) (string value.now)) self.old self.new) }
     {
         self.add_key(key)?;
         self.add_string(value)
     }
 
     // Adds a member that is a number.
-    fn add_number(&mut self, key: &'static str, value: u64) -> Result<(), AllocError>
-        ensures { OnOk result (AddsMembers (member key.now (number (unsigned value))) self.old self.new) }
+    fn add_number(&mut self, key: Key, value: u64) -> Result<(), AllocError>
+        ensures { OnOk result (AddsMembers (member (name_of key) (number (unsigned value))) self.old self.new) }
     {
         self.add_key(key)?;
-        write!(self.text, "{value}")
+        let mut digits = Buffer::new();
+        self.text.push_str(digits.format(value))
     }
 
     // Begins a member. It comes after a comma, unless it is the first of its object.
-    fn add_key(&mut self, key: &'static str) -> Result<(), AllocError>
-        ensures text { OnOk result (text_of self.new ≡ text_of self.old ++ (comma_if self.old.has_member ++ (compact_text (string key.now) ++ 58 ∷ []))) }
+    fn add_key(&mut self, key: Key) -> Result<(), AllocError>
+        ensures text { OnOk result (text_of self.new ≡ text_of self.old ++ (comma_if self.old.has_member ++ (compact_text (string (name_of key)) ++ 58 ∷ []))) }
         ensures member { OnOk result (self.new.has_member ≡ true) }
     {
         if self.has_member {
             self.text.push_str(",")?;
         }
         self.has_member = true;
-        self.add_string(key)?;
-        self.text.push_str(":")
+        self.text.push_str(key.text())
     }
 
     // Adds a text as JSON. One without a character that JSON escapes is added between quotation marks as it is.

@@ -1,10 +1,12 @@
-// What slices and counters say.
+// What events say: the names of slices, waits, counters and records, and their details.
 
 use apex_machine::{Mode, Wait};
+use apex_types::{Body, Ordered, Who};
+use piece_check::{Piece, Seen};
 use run_view::{Contents, ProcessState, ProcessView, ThingKey};
 use std::alloc::{AllocError, Global};
 use std::fmt;
-use wording::{Set, kind_name};
+use wording::{Ascii, Look, Numbered, Set, Words, kind_name, tell_record};
 
 /// What a process does, as the name of its slice.
 pub fn state_name(alloc: Global, view: &ProcessView, runs: bool) -> Result<String, AllocError> {
@@ -12,7 +14,7 @@ pub fn state_name(alloc: Global, view: &ProcessView, runs: bool) -> Result<Strin
         ProcessState::Dormant => String::from_str(alloc, "dormant"),
         ProcessState::Ready if runs => String::from_str(alloc, "running"),
         ProcessState::Ready => String::from_str(alloc, "ready"),
-        ProcessState::Waiting(wait) => format!(in alloc; "{}", Waits(wait)),
+        ProcessState::Waiting(wait) => wait_name(alloc, wait),
         ProcessState::Suspended(_) => String::from_str(alloc, "suspended"),
         ProcessState::Faulted(_) => String::from_str(alloc, "faulted"),
     }
@@ -38,13 +40,13 @@ impl fmt::Display for Waits {
     }
 }
 
-/// When the wait of a process is over at the latest, in words; empty if no time is known.
-pub fn due_text(alloc: Global, view: &ProcessView) -> Result<String, AllocError> {
-    let wait = match view.state {
-        ProcessState::Waiting(wait) | ProcessState::Suspended(wait) | ProcessState::Faulted(wait) =>
-            wait,
-        ProcessState::Dormant | ProcessState::Ready => Wait::Nothing,
-    };
+/// What a process waits for, as the name of its wait.
+pub fn wait_name(alloc: Global, wait: Wait) -> Result<String, AllocError> {
+    format!(in alloc; "{}", Waits(wait))
+}
+
+/// When a wait is over at the latest, in words; empty if no time is known.
+pub fn due_text(alloc: Global, wait: Wait) -> Result<String, AllocError> {
     let due = match wait {
         Wait::Nothing | Wait::NormalMode(_) | Wait::ForLock => None,
         Wait::FirstRelease(time)
@@ -93,4 +95,62 @@ pub fn held_number(contents: &Contents) -> u64 {
         Contents::Mutex { count, .. } => *count,
         Contents::Lock { level, .. } => u64::from(*level),
     }
+}
+
+/// The name of the message of a record: whose it is.
+pub fn message_name(alloc: Global, ordered: &Ordered) -> Result<String, AllocError> {
+    match &ordered.rec.body {
+        Body::Call(call) => format!(in alloc; "message of {}", Numbered(call.who)),
+        _ => String::from_str(alloc, "message from outside"),
+    }
+}
+
+/// The name of a process.
+pub fn name_of(alloc: Global, pieces: &[Piece], who: &Who) -> Result<String, AllocError> {
+    let number = who.proc.number();
+    for piece in pieces {
+        if let Some(name) = name_in(piece, who) {
+            return format!(in alloc; "process {number} {}", Ascii(name));
+        }
+    }
+    format!(in alloc; "process {number}")
+}
+
+// The name that a piece gives a process, if it is of its partition and has one.
+fn name_in<'a>(piece: &'a Piece, who: &Who) -> Option<&'a [u8]> {
+    let Seen::Partition { number, state, .. } = piece.seen() else {
+        return None;
+    };
+    if number != who.part {
+        return None;
+    }
+    let name = state.processes().proc(who.proc)?.name.as_bytes();
+    if name.is_empty() { None } else { Some(name) }
+}
+
+/// The name of a record that is accepted.
+pub fn record_name(alloc: Global, ordered: &Ordered) -> Result<String, AllocError> {
+    match &ordered.rec.body {
+        Body::Call(call) => format!(in alloc; "{}", Ascii(call.request.service().name())),
+        Body::Ret(ret) => format!(in alloc; "return {}", Ascii(ret.service.name())),
+        Body::Arrive(crossing) => {
+            format!(in alloc; "arrive at channel {}", crossing.chan.number())
+        }
+        Body::Depart(crossing) => {
+            format!(in alloc; "depart from channel {}", crossing.chan.number())
+        }
+        Body::Error(report) => format!(in alloc; "{}", Ascii(report.error.name())),
+        Body::Disp(_) => String::from_str(alloc, "dispatch"),
+        Body::Tick(_) => String::from_str(alloc, "tick"),
+    }
+}
+
+/// A record in words.
+pub fn words_of(alloc: Global, ordered: &Ordered) -> Result<String, AllocError> {
+    let mut words = Words::new(alloc);
+    tell_record(&mut words, ordered);
+    if words.lacks_memory() {
+        return Err(AllocError);
+    }
+    format!(in alloc; "{}", words.shown(Look::plain()))
 }

@@ -128,10 +128,14 @@ pub static ORDER_OPTIONS: [ProgramOption; 6] = [
 ];
 
 /// The options of `apexview`.
-pub static VIEW_OPTIONS: [ProgramOption; 8] = [
+pub static VIEW_OPTIONS: [ProgramOption; 9] = [
     row!(required "--config", Takes::File),
     row!(required "--order", Takes::File),
-    row!("--format", Takes::OneOf(&["html", "svg", "trace"])),
+    row!(
+        "--format",
+        Takes::OneOf(&["html", "svg", "trace", "summary", "json"])
+    ),
+    row!("--axis", Takes::OneOf(&["place", "time"])),
     row!("--at", number!("number", 0, LAST_PLACE)),
     row!("--span", number!("number", 1, 5_000)),
     row!("--max-elapsed", number!("number of ticks", 0, MOST)),

@@ -34,7 +34,7 @@ Shows a recording of the cores of an ARINC 653 module as a picture on standard
 output, up to the first record that is rejected or breaks a rule.
   inputs: --config FILE (the module), --order FILE (the order of the records),
           CORE... (one recording for each core)
-  shown:  --format html|svg|trace, --at PLACE (end there),
+  shown:  --format FORMAT, --axis place|time, --at PLACE (end there),
           --span N (records before the end, 1 to 5000; default 200)
   rules:  --max-elapsed TICKS, --forbid SERVICE, --rules FILE";
 

@@ -5,4 +5,4 @@ pub loop-core-init : goal.loop-core-init
 loop-core-init g c = others_none _
 
 pub loop-core-preserved : goal.loop-core-preserved
-loop-core-preserved g c = others_then c.loop-core.invariant c.in_ok-add_mark.ensures
+loop-core-preserved g c = others_then c.loop-core.invariant c.in_ok-end_slice.ensures

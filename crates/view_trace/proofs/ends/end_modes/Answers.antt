@@ -5,4 +5,4 @@ pub loop-part-init : goal.loop-part-init
 loop-part-init g c = others_none _
 
 pub loop-part-preserved : goal.loop-part-preserved
-loop-part-preserved g c = others_then c.loop-part.invariant c.in_ok-add_mark.ensures
+loop-part-preserved g c = others_then c.loop-part.invariant c.in_ok-end_slice.ensures

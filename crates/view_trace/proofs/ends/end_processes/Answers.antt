@@ -5,4 +5,4 @@ pub loop-process-init : goal.loop-process-init
 loop-process-init g c = others_none _
 
 pub loop-process-preserved : goal.loop-process-preserved
-loop-process-preserved g c = others_then c.loop-process.invariant c.in_ok-end_if_open.ensures
+loop-process-preserved g c = others_then c.loop-process.invariant c.in_ok-end_process.ensures

@@ -17,6 +17,6 @@ returns c =
     c.in_ok-push_str.ensures.bytes ∙ ap (λ l. l ++ 123 ∷ []) c.in_ok-add_key.ensures.text in
     on_ok_weaker c.push_str-2.result (λ goes_on. record { goes_on = goes_on })
     (closes c.push_str-2.result inner (string_bytes c.push_str-2.new.self)
-    (λ bytes. (more : Members) → bytes ++ members_text true more ≡ before ++ members_text later (member (codes "args") (object (argument_members c.args.arguments.now no_members)) more))
+    (λ bytes. (more : Members) → bytes ++ members_text true more ≡ before ++ members_text later (member (codes "args") (object (argument_members c.args.place c.args.arguments.now no_members)) more))
     c.push_str-2.ensures.bytes
-    (object_text (argument_members c.args.arguments.now) (codes "args") before (string_bytes c.push_str.new.self) inner later c.add_each_argument.new.self.has_member opened c.in_ok-add_each_argument.ensures.goes_on))
+    (object_text (argument_members c.args.place c.args.arguments.now) (codes "args") before (string_bytes c.push_str.new.self) inner later c.add_each_argument.new.self.has_member opened c.in_ok-add_each_argument.ensures.goes_on))

@@ -5,5 +5,5 @@ use Rattle.view_trace.proofs.tracer.Tracer.end.Goals as goal
 pub returns : goal.returns
 returns g c =
     on_ok_weaker c.end.result
-    (λ written. ends_after (others_then (others_then (others_then c.in_ok-end_messages.ensures c.in_ok-end_cores.ensures) c.in_ok-end_modes.ensures) c.in_ok-end_processes.ensures) written)
+    (λ written. ends_after (others_then (others_then c.in_ok-end_sent.ensures c.in_ok-end_shown.ensures) c.in_ok-end_open.ensures) written)
     c.end.ensures.written

@@ -1,0 +1,12 @@
+pub mod Added
+pub mod SameFigures
+pub mod Tallying
+pub mod Taking
+pub mod Outs
+pub mod Doing
+pub mod Ended
+pub mod Worked
+pub mod Given
+pub mod Using
+pub mod Joined
+pub mod Pieces

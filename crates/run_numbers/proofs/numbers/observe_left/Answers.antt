@@ -1,0 +1,19 @@
+-- What the record gives by one piece more each time.
+use Rattle.std.proofs.Common.{arith}
+use Rattle.piece_check.specs.Parts.{Holding}
+use Rattle.run_numbers.specs.Run.{left_by}
+use Rattle.run_numbers.proofs.Added.{all_of, none_added, one_more}
+use Rattle.run_numbers.proofs.numbers.observe_left.Goals as goal
+
+pub loop-piece-init : goal.loop-piece-init
+loop-piece-init c = none_added c.args.observed.now.items
+
+pub loop-piece-preserved : goal.loop-piece-preserved
+loop-piece-preserved c =
+    one_more (λ (holding : Holding). left_by holding.part c.args.ordered.now) c.args.pieces.now c.loop-piece.piece-index c.piece-item.result c.args.observed.now.items c.loop-piece.observed.items _
+    c.loop-piece-test.true c.piece-item.is c.loop-piece.invariant c.in_ok-observe_after.ensures
+
+pub returns : goal.returns
+returns c =
+    all_of (λ (holding : Holding). left_by holding.part c.args.ordered.now) c.args.pieces.now c.loop-piece.piece-index c.args.observed.now.items c.loop-piece.observed.items (omega arith)
+    c.loop-piece.invariant

@@ -1,0 +1,14 @@
+pub mod Figures
+pub mod Tallies
+pub mod Observed
+pub mod Cores
+pub mod Activities
+pub mod Releases
+pub mod Waits
+pub mod Mutexes
+pub mod Calls
+pub mod Held
+pub mod Partitions
+pub mod Channels
+pub mod Names
+pub mod Run
