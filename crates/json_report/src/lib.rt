@@ -10,6 +10,7 @@
 
 mod answer;
 mod digest;
+mod object;
 mod text;
 mod values;
 

@@ -1,12 +1,13 @@
 // The parts of an answer as values of JSON.
 
-ghost use Rattle.std.specs.Prelude.{◌≡◌, IfOk, map};
-ghost use Rattle.serde_json.specs.View.{view, items_of};
-ghost use Rattle.serde_json.specs.Data.{array, string};
+ghost use Rattle.std.specs.Prelude.{◌≡◌, IfOk, codes, map};
+ghost use Rattle.serde_json.specs.View.{items_of, members_view, view};
+ghost use Rattle.serde_json.specs.Data.{array, null, number, object, put, string, unsigned};
 ghost use Rattle.json_report.specs.Answer.{input_data, number_or_null, place_data, record_data, row_data, row_or_null, sentence_data, site_data, site_or_null, text_data, text_or_null};
 
-use crate::answer::{Input, LastRecord, NamedPlace, Row, Sentence, Site};
-use serde_json::{Value, json};
+use crate::answer::{Digest, Input, LastRecord, NamedPlace, Row, Sentence, Site};
+use crate::object::Object;
+use serde_json::Value;
 use std::alloc::{AllocError, Global};
 
 /// A number, or null.
@@ -29,10 +30,11 @@ pub fn text_or_null(alloc: Global, text: Option<&str>) -> Result<Value, AllocErr
     }
 }
 
-fn text_value(alloc: Global, text: &str) -> Result<Value, AllocError>
+/// A text.
+pub fn text_value(alloc: Global, text: &str) -> Result<Value, AllocError>
     ensures { IfOk result (λ value. view value ≡ string text.now) }
 {
-    json!(in alloc; text)
+    Value::try_from_str(alloc, text)
 }
 
 /// Texts in their order.
@@ -60,7 +62,11 @@ fn site_value(alloc: Global, site: &Site<'_>) -> Result<Value, AllocError>
     ensures { IfOk result (λ value. view value ≡ site_data site.now) }
 {
     let row = row_or_null(alloc, &site.row)?;
-    json!(in alloc; {"file": site.file, "line": number_or_null(site.line), "row": row})
+    let object = Object::new(alloc)
+        .with("row", row)?
+        .with_text("file", site.file)?
+        .with_number_or_null("line", site.line)?;
+    Ok(object.value())
 }
 
 // A row, or null.
@@ -77,7 +83,10 @@ fn row_value(alloc: Global, row: &Row) -> Result<Value, AllocError>
     ensures { IfOk result (λ value. view value ≡ row_data row.now) }
 {
     let fields = texts_value(alloc, row.fields.as_slice())?;
-    json!(in alloc; {"number": row.number, "fields": fields})
+    let object = Object::new(alloc)
+        .with("fields", fields)?
+        .with_number("number", row.number)?;
+    Ok(object.value())
 }
 
 /// Sentences in their order.
@@ -95,7 +104,10 @@ fn sentence_value(alloc: Global, sentence: &Sentence<'_>) -> Result<Value, Alloc
     ensures { IfOk result (λ value. view value ≡ sentence_data sentence.now) }
 {
     let places = places_value(alloc, sentence.places.as_slice())?;
-    json!(in alloc; {"text": sentence.text.as_str(), "places": places})
+    let object = Object::new(alloc)
+        .with("places", places)?
+        .with_text("text", sentence.text.as_str())?;
+    Ok(object.value())
 }
 
 // Places in their order.
@@ -112,11 +124,11 @@ fn places_value(alloc: Global, places: &[NamedPlace<'_>]) -> Result<Value, Alloc
 fn place_value(alloc: Global, place: &NamedPlace<'_>) -> Result<Value, AllocError>
     ensures { IfOk result (λ value. view value ≡ place_data place.now) }
 {
-    json!(in alloc; {
-        "place": place.place,
-        "file": place.file,
-        "line": number_or_null(place.line)
-    })
+    let object = Object::new(alloc)
+        .with_number("place", place.place)?
+        .with_text("file", place.file)?
+        .with_number_or_null("line", place.line)?;
+    Ok(object.value())
 }
 
 /// The last records, the earliest first.
@@ -133,14 +145,14 @@ pub fn last_value(alloc: Global, records: &[LastRecord<'_>]) -> Result<Value, Al
 fn record_value(alloc: Global, before: &LastRecord<'_>) -> Result<Value, AllocError>
     ensures { IfOk result (λ value. view value ≡ record_data before.now) }
 {
-    json!(in alloc; {
-        "place": before.place,
-        "core": before.core,
-        "seq": before.seq,
-        "kind": before.kind,
-        "file": before.file,
-        "line": number_or_null(before.line)
-    })
+    let object = Object::new(alloc)
+        .with_number("place", before.place)?
+        .with_number("core", u64::from(before.core))?
+        .with_number("seq", u64::from(before.seq))?
+        .with_text("kind", before.kind)?
+        .with_text("file", before.file)?
+        .with_number_or_null("line", before.line)?;
+    Ok(object.value())
 }
 
 /// The inputs in the order of their roles.
@@ -157,18 +169,31 @@ pub fn inputs_value(alloc: Global, inputs: &[Input<'_>]) -> Result<Value, AllocE
 fn input_value(alloc: Global, input: &Input<'_>) -> Result<Value, AllocError>
     ensures { IfOk result (λ value. view value ≡ input_data input.now) }
 {
+    let named = Object::new(alloc)
+        .with_text("role", input.role)?
+        .with_text("name", input.name)?;
     match &input.content {
-        Some(content) => json!(in alloc; {
-            "role": input.role,
-            "name": input.name,
-            "bytes": content.bytes,
-            "sha256": content.sha256.as_str()
-        }),
-        None => json!(in alloc; {
-            "role": input.role,
-            "name": input.name,
-            "bytes": null,
-            "sha256": null
-        }),
+        Some(content) => read_value(named, content),
+        None => unread_value(named),
     }
+}
+
+// An input that was read, with its name and what it holds.
+fn read_value(named: Object, content: &Digest) -> Result<Value, AllocError>
+    ensures { IfOk result (λ value. view value ≡ object (put (codes "sha256") (text_data content.now.sha256) (put (codes "bytes") (number (unsigned content.now.bytes)) (members_view named.members.entries)))) }
+{
+    let read = named
+        .with_number("bytes", content.bytes)?
+        .with_text("sha256", content.sha256.as_str())?;
+    Ok(read.value())
+}
+
+// An input that was not read again, with its name.
+fn unread_value(named: Object) -> Result<Value, AllocError>
+    ensures { IfOk result (λ value. view value ≡ object (put (codes "sha256") null (put (codes "bytes") null (members_view named.members.entries)))) }
+{
+    let unread = named
+        .with("bytes", Value::Null)?
+        .with("sha256", Value::Null)?;
+    Ok(unread.value())
 }

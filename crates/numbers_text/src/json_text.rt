@@ -1,13 +1,13 @@
 // The figures as JSON.
 
 use crate::fault::NumbersFault;
+use crate::object::Object;
 use crate::subjects::Subjects;
-use apex_types::{ChanId, CoreId, Name, PartId, SERVICES, Service, Who};
+use apex_types::{ChanId, CoreId, PartId, SERVICES, Service, Who};
 use run_numbers::{Activity, Extreme, Figure, Named, Numbers, Tally, Thing, WindowKey};
-use serde_json::{Value, json};
+use serde_json::Value;
 use sink::{Sink, put_all};
 use std::alloc::{AllocError, Global};
-use wording::Ascii;
 
 /// Writes the figures of a run over so many cores as one JSON object and a line feed.
 pub fn write_json<W: Sink>(
@@ -25,38 +25,22 @@ pub fn write_json<W: Sink>(
 
 fn value_of(alloc: Global, cores: u8, numbers: &Numbers) -> Result<Value, AllocError> {
     let subjects = Subjects::of(alloc, numbers)?;
-    let cores = cores_value(alloc, cores, numbers, &subjects)?;
-    let processes = processes_value(alloc, numbers, &subjects)?;
-    let objects = objects_value(alloc, numbers, &subjects)?;
-    let channels = channels_value(alloc, numbers, &subjects)?;
-    json!(in alloc; {
-        "records": numbers.records(),
-        "cores": cores,
-        "processes": processes,
-        "objects": objects,
-        "channels": channels
-    })
+    run_value(alloc, cores, numbers, &subjects)
 }
 
-// A greatest or a least value with its place, or null if there is none.
-fn extreme_value(alloc: Global, extreme: &Option<Extreme>) -> Result<Value, AllocError> {
-    match extreme {
-        Some(extreme) => {
-            json!(in alloc; {"value": extreme.value, "place": extreme.place.number()})
-        }
-        None => Ok(Value::Null),
-    }
-}
-
-// A name as text, or null if there is none.
-fn name_value(alloc: Global, name: Option<&Name>) -> Result<Value, AllocError> {
-    match name {
-        Some(name) => {
-            let text = format!(in alloc; "{}", Ascii(name.as_bytes()))?;
-            Ok(Value::String(text))
-        }
-        None => Ok(Value::Null),
-    }
+fn run_value(
+    alloc: Global,
+    cores: u8,
+    numbers: &Numbers,
+    subjects: &Subjects,
+) -> Result<Value, AllocError> {
+    let object = Object::new(alloc)
+        .with_number("records", numbers.records())?
+        .with_list("cores", cores_value(alloc, cores, numbers, subjects))?
+        .with_list("processes", processes_value(alloc, numbers, subjects))?
+        .with_list("objects", objects_value(alloc, numbers, subjects))?
+        .with_list("channels", channels_value(alloc, numbers, subjects))?;
+    Ok(object.value())
 }
 
 fn tally_of(numbers: &Numbers, figure: Figure) -> Tally {
@@ -69,8 +53,8 @@ fn count_of(numbers: &Numbers, figure: Figure) -> u64 {
 }
 
 // The greatest value of a figure.
-fn greatest_of(alloc: Global, numbers: &Numbers, figure: Figure) -> Result<Value, AllocError> {
-    extreme_value(alloc, &tally_of(numbers, figure).greatest)
+fn greatest_of(numbers: &Numbers, figure: Figure) -> Option<Extreme> {
+    tally_of(numbers, figure).greatest
 }
 
 fn cores_value(
@@ -92,32 +76,39 @@ fn core_value(
     numbers: &Numbers,
     subjects: &Subjects,
 ) -> Result<Value, AllocError> {
-    let mut windows = Vec::new(alloc);
+    let object = Object::new(alloc)
+        .with_number("core", u64::from(core.number()))?
+        .with_number("ticks", count_of(numbers, Figure::CoreTicks(core)))?
+        .with_number("idle", count_of(numbers, Figure::IdleTicks(core)))?
+        .with_list("windows", windows_value(alloc, core, numbers, subjects))?;
+    Ok(object.value())
+}
+
+fn windows_value(
+    alloc: Global,
+    core: CoreId,
+    numbers: &Numbers,
+    subjects: &Subjects,
+) -> Result<Vec<Value>, AllocError> {
+    let mut values = Vec::new(alloc);
     for window in subjects.windows.iter() {
         if window.core == core {
-            windows.push(window_value(alloc, window, numbers)?)?;
+            values.push(window_value(alloc, window, numbers)?)?;
         }
     }
-    json!(in alloc; {
-        "core": core.number(),
-        "ticks": count_of(numbers, Figure::CoreTicks(core)),
-        "idle": count_of(numbers, Figure::IdleTicks(core)),
-        "windows": windows
-    })
+    Ok(values)
 }
 
 fn window_value(alloc: Global, window: &WindowKey, numbers: &Numbers) -> Result<Value, AllocError> {
     let ticks = tally_of(numbers, Figure::WindowTicks(*window));
-    let first = extreme_value(alloc, &ticks.least)?;
-    let last = extreme_value(alloc, &ticks.greatest)?;
-    json!(in alloc; {
-        "window": window.number as u64,
-        "partition": window.part.number(),
-        "first_offset": first,
-        "last_offset": last,
-        "ticks": ticks.count,
-        "busy": count_of(numbers, Figure::BusyTicks(*window))
-    })
+    let object = Object::new(alloc)
+        .with_number("window", window.number as u64)?
+        .with_number("partition", u64::from(window.part.number()))?
+        .with_extreme("first_offset", ticks.least)?
+        .with_extreme("last_offset", ticks.greatest)?
+        .with_number("ticks", ticks.count)?
+        .with_number("busy", count_of(numbers, Figure::BusyTicks(*window)))?;
+    Ok(object.value())
 }
 
 fn processes_value(
@@ -133,35 +124,42 @@ fn processes_value(
 }
 
 fn process_value(alloc: Global, who: &Who, numbers: &Numbers) -> Result<Value, AllocError> {
-    let name = name_value(alloc, numbers.names().of(&Named::Process(*who)))?;
-    let ticks = activities_value(alloc, who, numbers)?;
-    let services = services_value(alloc, who, numbers)?;
-    let lateness = greatest_of(alloc, numbers, Figure::Lateness(*who))?;
-    let response = greatest_of(alloc, numbers, Figure::Response(*who))?;
-    let slack = extreme_value(alloc, &tally_of(numbers, Figure::Slack(*who)).least)?;
-    json!(in alloc; {
-        "partition": who.part.number(),
-        "process": who.proc.number(),
-        "name": name,
-        "ticks": ticks,
-        "services": services,
-        "releases": count_of(numbers, Figure::Releases(*who)),
-        "greatest_lateness": lateness,
-        "greatest_response": response,
-        "missed_deadlines": count_of(numbers, Figure::Missed(*who)),
-        "least_slack": slack
-    })
+    let name = numbers.names().of(&Named::Process(*who));
+    let object = Object::new(alloc)
+        .with_number("partition", u64::from(who.part.number()))?
+        .with_number("process", u64::from(who.proc.number()))?
+        .with_name(name)?
+        .with("ticks", activities_value(alloc, who, numbers))?
+        .with_list("services", services_value(alloc, who, numbers))?;
+    Ok(with_releases(object, who, numbers)?.value())
+}
+
+// Adds the releases of a process, and how it met its deadlines.
+fn with_releases(object: Object, who: &Who, numbers: &Numbers) -> Result<Object, AllocError> {
+    let slack = tally_of(numbers, Figure::Slack(*who));
+    object
+        .with_number("releases", count_of(numbers, Figure::Releases(*who)))?
+        .with_extreme(
+            "greatest_lateness",
+            greatest_of(numbers, Figure::Lateness(*who)),
+        )?
+        .with_extreme(
+            "greatest_response",
+            greatest_of(numbers, Figure::Response(*who)),
+        )?
+        .with_number("missed_deadlines", count_of(numbers, Figure::Missed(*who)))?
+        .with_extreme("least_slack", slack.least)
 }
 
 fn activities_value(alloc: Global, who: &Who, numbers: &Numbers) -> Result<Value, AllocError> {
-    json!(in alloc; {
-        "running": spent(numbers, who, Activity::Running),
-        "ready": spent(numbers, who, Activity::Ready),
-        "waiting": spent(numbers, who, Activity::Waiting),
-        "suspended": spent(numbers, who, Activity::Suspended),
-        "faulted": spent(numbers, who, Activity::Faulted),
-        "dormant": spent(numbers, who, Activity::Dormant)
-    })
+    let object = Object::new(alloc)
+        .with_number("running", spent(numbers, who, Activity::Running))?
+        .with_number("ready", spent(numbers, who, Activity::Ready))?
+        .with_number("waiting", spent(numbers, who, Activity::Waiting))?
+        .with_number("suspended", spent(numbers, who, Activity::Suspended))?
+        .with_number("faulted", spent(numbers, who, Activity::Faulted))?
+        .with_number("dormant", spent(numbers, who, Activity::Dormant))?;
+    Ok(object.value())
 }
 
 fn spent(numbers: &Numbers, who: &Who, activity: Activity) -> u64 {
@@ -186,17 +184,18 @@ fn service_value(
 ) -> Result<Value, AllocError> {
     let number = service.number();
     let waited = tally_of(numbers, Figure::Waited(*who, number));
-    let longest = extreme_value(alloc, &waited.greatest)?;
-    let name = format!(in alloc; "{}", Ascii(service.name()))?;
-    json!(in alloc; {
-        "service": name,
-        "calls": count_of(numbers, Figure::Calls(*who, number)),
-        "waits": count_of(numbers, Figure::Waits(*who, number)),
-        "ended": waited.count,
-        "timed_out": count_of(numbers, Figure::TimeOuts(*who, number)),
-        "waited": waited.total,
-        "longest_wait": longest
-    })
+    let object = Object::new(alloc)
+        .with_ascii("service", service.name())?
+        .with_number("calls", count_of(numbers, Figure::Calls(*who, number)))?
+        .with_number("waits", count_of(numbers, Figure::Waits(*who, number)))?
+        .with_number("ended", waited.count)?
+        .with_number(
+            "timed_out",
+            count_of(numbers, Figure::TimeOuts(*who, number)),
+        )?
+        .with_number("waited", waited.total)?
+        .with_extreme("longest_wait", waited.greatest)?;
+    Ok(object.value())
 }
 
 fn objects_value(
@@ -212,31 +211,37 @@ fn objects_value(
 }
 
 fn object_value(alloc: Global, thing: &Thing, numbers: &Numbers) -> Result<Value, AllocError> {
-    let name = name_value(alloc, numbers.names().of(&Named::Object(*thing)))?;
-    let waiters = greatest_of(alloc, numbers, Figure::Waiters(*thing))?;
     let Some((kind, part, number)) = described(thing) else {
         return Ok(Value::Null);
     };
+    let name = numbers.names().of(&Named::Object(*thing));
+    let object = Object::new(alloc)
+        .with_number("partition", u64::from(part.number()))?
+        .with_text("kind", kind)?
+        .with_number("number", u64::from(number))?
+        .with_name(name)?
+        .with_extreme(
+            "most_waiting",
+            greatest_of(numbers, Figure::Waiters(*thing)),
+        )?;
+    Ok(with_own(object, thing, numbers)?.value())
+}
+
+// Adds what only buffers or only mutexes have.
+fn with_own(object: Object, thing: &Thing, numbers: &Numbers) -> Result<Object, AllocError> {
     match thing {
         Thing::Buffer(..) => {
-            let messages = greatest_of(alloc, numbers, Figure::Messages(*thing))?;
-            json!(in alloc; {
-                "partition": part.number(), "kind": kind, "number": number, "name": name,
-                "most_waiting": waiters, "most_messages": messages
-            })
+            let messages = greatest_of(numbers, Figure::Messages(*thing));
+            object.with_extreme("most_messages", messages)
         }
         Thing::Mutex(..) => {
-            let hold = greatest_of(alloc, numbers, Figure::Hold(*thing))?;
-            let outranked = greatest_of(alloc, numbers, Figure::Outranked(*thing))?;
-            json!(in alloc; {
-                "partition": part.number(), "kind": kind, "number": number, "name": name,
-                "most_waiting": waiters, "longest_hold": hold, "longest_outranked_wait": outranked
-            })
+            let hold = greatest_of(numbers, Figure::Hold(*thing));
+            let outranked = greatest_of(numbers, Figure::Outranked(*thing));
+            object
+                .with_extreme("longest_hold", hold)?
+                .with_extreme("longest_outranked_wait", outranked)
         }
-        _ => json!(in alloc; {
-            "partition": part.number(), "kind": kind, "number": number, "name": name,
-            "most_waiting": waiters
-        }),
+        _ => Ok(object),
     }
 }
 
@@ -269,24 +274,28 @@ fn channels_value(
 }
 
 fn sampling_value(alloc: Global, channel: ChanId, numbers: &Numbers) -> Result<Value, AllocError> {
-    let age = greatest_of(alloc, numbers, Figure::Ages(channel))?;
-    json!(in alloc; {
-        "channel": channel.number(),
-        "kind": "sampling",
-        "writes": count_of(numbers, Figure::Writes(channel)),
-        "reads": count_of(numbers, Figure::Reads(channel)),
-        "invalid_reads": count_of(numbers, Figure::InvalidReads(channel)),
-        "greatest_age": age
-    })
+    let object = Object::new(alloc)
+        .with_number("channel", u64::from(channel.number()))?
+        .with_text("kind", "sampling")?
+        .with_number("writes", count_of(numbers, Figure::Writes(channel)))?
+        .with_number("reads", count_of(numbers, Figure::Reads(channel)))?
+        .with_number(
+            "invalid_reads",
+            count_of(numbers, Figure::InvalidReads(channel)),
+        )?
+        .with_extreme("greatest_age", greatest_of(numbers, Figure::Ages(channel)))?;
+    Ok(object.value())
 }
 
 fn queuing_value(alloc: Global, channel: ChanId, numbers: &Numbers) -> Result<Value, AllocError> {
-    let messages = greatest_of(alloc, numbers, Figure::Messages(Thing::Channel(channel)))?;
-    let waiters = greatest_of(alloc, numbers, Figure::Waiters(Thing::Channel(channel)))?;
-    json!(in alloc; {
-        "channel": channel.number(),
-        "kind": "queuing",
-        "most_waiting": waiters,
-        "most_messages": messages
-    })
+    let thing = Thing::Channel(channel);
+    let object = Object::new(alloc)
+        .with_number("channel", u64::from(channel.number()))?
+        .with_text("kind", "queuing")?
+        .with_extreme("most_waiting", greatest_of(numbers, Figure::Waiters(thing)))?
+        .with_extreme(
+            "most_messages",
+            greatest_of(numbers, Figure::Messages(thing)),
+        )?;
+    Ok(object.value())
 }

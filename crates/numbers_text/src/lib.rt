@@ -1,7 +1,6 @@
 //! The figures of a run as text and as JSON.
 //!
-//! Promises: the text of the JSON is the one that `serde_json` writes. If an addition fails, the sink has the first bytes of the text. No clause
-//! says which figures are written, or in which words. Nothing here decides anything.
+//! Promises: safety alone. No clause says which figures are written, or in which words. Nothing here decides anything.
 //!
 //! Both list the cores with their windows, the processes with their services, the objects and the channels, each in the order of their
 //! numbers. Of a channel only those that a record uses are listed, and of a process only the services that it calls.
@@ -9,6 +8,7 @@
 
 mod fault;
 mod json_text;
+mod object;
 mod process_text;
 mod subjects;
 mod text;

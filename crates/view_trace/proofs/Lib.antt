@@ -1,3 +1,3 @@
-pub mod Members
+pub mod Parts
 pub mod Plain
 pub mod Traces

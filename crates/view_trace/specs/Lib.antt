@@ -1,7 +1,7 @@
 pub mod Escapes
 pub mod Event
-pub mod Keys
 pub mod ObjectText
+pub mod Parts
 pub mod Stamps
 pub mod Trace
 pub mod Traced

@@ -53,22 +53,39 @@ pub enum Phase {
 }
 
 impl Phase {
-    ghost use Rattle.view_trace.specs.Event.{letter_of};
+    ghost use Rattle.view_trace.specs.Parts.{id_of, phase_head};
 
-    /// The letter of the format.
-    pub fn letter(self) -> &'static str
-        ensures { result.now ≡ letter_of self }
+    /// The letter of the format with what it has beside it, up to the number of a flow or a wait, or else to that of a process.
+    pub fn head(self) -> &'static str
+        ensures { result.now ≡ phase_head self }
     {
         match self {
-            Phase::Metadata => "M",
-            Phase::BeginSlice => "B",
-            Phase::EndSlice => "E",
-            Phase::Instant | Phase::Fault => "i",
-            Phase::BeginFlow(_) => "s",
-            Phase::EndFlow(_) => "f",
-            Phase::BeginWait(_) => "b",
-            Phase::EndWait(_) => "e",
-            Phase::Counter => "C",
+            Phase::Metadata => "\"ph\":\"M\",\"pid\":",
+            Phase::BeginSlice => "\"ph\":\"B\",\"pid\":",
+            Phase::EndSlice => "\"ph\":\"E\",\"pid\":",
+            Phase::Instant => "\"ph\":\"i\",\"s\":\"t\",\"pid\":",
+            Phase::Fault => "\"ph\":\"i\",\"s\":\"g\",\"pid\":",
+            Phase::BeginFlow(_) => "\"ph\":\"s\",\"id\":",
+            Phase::EndFlow(_) => "\"ph\":\"f\",\"bp\":\"e\",\"id\":",
+            Phase::BeginWait(_) => "\"ph\":\"b\",\"id\":",
+            Phase::EndWait(_) => "\"ph\":\"e\",\"id\":",
+            Phase::Counter => "\"ph\":\"C\",\"pid\":",
+        }
+    }
+
+    /// The number of a flow or a wait.
+    pub fn id(self) -> Option<u64>
+        ensures { result ≡ id_of self }
+    {
+        match self {
+            Phase::BeginFlow(id) | Phase::EndFlow(id) | Phase::BeginWait(id) | Phase::EndWait(id) =>
+                Some(id),
+            Phase::Metadata
+            | Phase::BeginSlice
+            | Phase::EndSlice
+            | Phase::Instant
+            | Phase::Fault
+            | Phase::Counter => None,
         }
     }
 }

@@ -1,31 +1,26 @@
-// The text of JSON objects, written one member after another.
+// The text of events, written one after another.
 
-ghost use Rattle.std.specs.Prelude.{◌≡◌, ◌++◌, ◌∷◌, [], OnOk, true, codes};
-ghost use Rattle.std.specs.List.{list_any};
-ghost use Rattle.serde_json.specs.Data.{member, no_members, string, number, unsigned, object};
-ghost use Rattle.serde_json.specs.Written.{comma_if, compact_text};
-ghost use Rattle.view_trace.specs.Escapes.{is_escaped};
-ghost use Rattle.view_trace.specs.Keys.{name_of};
+ghost use Rattle.std.specs.Prelude.{◌≡◌, ◌-◌, ◌≤◌, ◌++◌, [], OnOk, decimal, drop, length, take};
+ghost use Rattle.json.specs.Print.{escape};
 
 use crate::axis::Axis;
+use crate::escapes::has_escape;
 use crate::event::{Arguments, Event, Phase};
-use crate::key::Key;
 use itoa::Buffer;
 use serde_json::Value;
 use std::alloc::{AllocError, Global};
 
-/// The text of JSON objects, which grows member by member.
+/// The text of events, which grows part by part.
 #[derive(Drop)]
 pub struct ObjectText {
     alloc: Global,
-    text: String,
-    // Whether the object that is open has a member.
-    has_member: bool,
+    text: Vec<u8>,
 }
 
 impl ObjectText {
-    ghost use Rattle.view_trace.specs.Event.{argument_members, arguments_if, details, event_text, members_of, number_if, phase_members, text_if, timed_members};
-    ghost use Rattle.view_trace.specs.ObjectText.{AddsMembers, text_of};
+    ghost use Rattle.view_trace.specs.Event.{event_text};
+    ghost use Rattle.view_trace.specs.ObjectText.{text_of};
+    ghost use Rattle.view_trace.specs.Parts.{arguments_part, category_part, enclosed, end_part, explained_part, id_of, id_part, name_part, numbered, phase_head, stamp_part, time_part};
 
     /// No text. Takes no memory.
     pub fn new(alloc: Global) -> ObjectText
@@ -33,8 +28,7 @@ impl ObjectText {
     {
         ObjectText {
             alloc,
-            text: String::new(alloc),
-            has_member: false,
+            text: Vec::new(alloc),
         }
     }
 
@@ -42,7 +36,7 @@ impl ObjectText {
     pub fn as_bytes(&self) -> &[u8]
         ensures { result.now ≡ text_of self.now }
     {
-        self.text.as_bytes()
+        self.text.as_slice()
     }
 
     /// Forgets the text so far.
@@ -56,195 +50,187 @@ impl ObjectText {
     pub fn add_between(&mut self, text: &'static str) -> Result<(), AllocError>
         ensures { OnOk result (text_of self.new ≡ text_of self.old ++ text.now) }
     {
-        self.text.push_str(text)
+        self.put(text)
     }
 
     /// Adds an event: an object with the members that the event has on this axis.
     pub fn add_event(&mut self, axis: Axis, event: &Event<'_>) -> Result<(), AllocError>
         ensures { OnOk result (text_of self.new ≡ text_of self.old ++ event_text axis event.now) }
     {
-        self.text.push_str("{")?;
-        self.has_member = false;
-        self.add_members(axis, event)?;
-        self.text.push_str("}")
-    }
-
-    // Adds the members of an event.
-    fn add_members(&mut self, axis: Axis, event: &Event<'_>) -> Result<(), AllocError>
-        ensures { OnOk result (AddsMembers (members_of axis event.now) self.old self.new) }
-    {
-        self.add_text_if(Key::Name, event.name)?;
-        self.add_text_if(Key::Category, event.category)?;
+        self.add_name(event.name)?;
+        self.add_category(event.category)?;
         self.add_phase(event.phase)?;
-        self.add_number(Key::Process, event.track.process)?;
-        self.add_number(Key::Thread, event.track.thread)?;
-        self.add_number_if(Key::Stamp, event.stamp(axis))?;
-        self.add_arguments_if(event.place_shown(axis), &event.arguments)
+        self.add_digits(event.track.process)?;
+        self.add_number(",\"tid\":", event.track.thread)?;
+        self.add_stamp(event.stamp(axis))?;
+        self.add_end(event.place_shown(axis), &event.arguments)
     }
 
-    // Adds what an event is, and what the format has of such an event beside it.
-    fn add_phase(&mut self, phase: Phase) -> Result<(), AllocError>
-        ensures { OnOk result (AddsMembers (phase_members phase) self.old self.new) }
+    fn add_name(&mut self, name: Option<&str>) -> Result<(), AllocError>
+        ensures { OnOk result (text_of self.new ≡ text_of self.old ++ name_part name.entry) }
     {
-        self.add_text(Key::Phase, phase.letter())?;
-        self.add_details(phase)
-    }
-
-    fn add_details(&mut self, phase: Phase) -> Result<(), AllocError>
-        ensures { OnOk result (AddsMembers (details phase) self.old self.new) }
-    {
-        match phase {
-            Phase::Instant => self.add_text(Key::Scope, "t"),
-            Phase::Fault => self.add_text(Key::Scope, "g"),
-            Phase::BeginFlow(number) | Phase::BeginWait(number) | Phase::EndWait(number) => {
-                self.add_number(Key::Number, number)
-            }
-            Phase::EndFlow(number) => self.add_end_of_flow(number),
-            Phase::Metadata | Phase::BeginSlice | Phase::EndSlice | Phase::Counter => Ok(()),
+        match name {
+            Some(name) => self.add_text("{\"name\":\"", name, "\","),
+            None => self.put("{"),
         }
     }
 
-    fn add_end_of_flow(&mut self, number: u64) -> Result<(), AllocError>
-        ensures { OnOk result (AddsMembers (details (Phase.EndFlow number)) self.old self.new) }
+    fn add_category(&mut self, category: Option<&str>) -> Result<(), AllocError>
+        ensures { OnOk result (text_of self.new ≡ text_of self.old ++ category_part category.entry) }
     {
-        self.add_text(Key::Binding, "e")?;
-        self.add_number(Key::Number, number)
-    }
-
-    fn add_arguments_if(
-        &mut self,
-        place: Option<u64>,
-        arguments: &Option<Arguments<'_>>,
-    ) -> Result<(), AllocError>
-        ensures { OnOk result (AddsMembers (arguments_if place arguments.now) self.old self.new) }
-    {
-        match arguments {
-            Some(arguments) => self.add_arguments(place, arguments),
+        match category {
+            Some(category) => self.add_text("\"cat\":\"", category, "\","),
             None => Ok(()),
         }
     }
 
-    // Adds what an event says besides, as an object.
+    // Adds what an event is, with its number if it has one, up to the number of its process.
+    fn add_phase(&mut self, phase: Phase) -> Result<(), AllocError>
+        ensures { OnOk result (text_of self.new ≡ text_of self.old ++ (phase_head phase ++ id_part (id_of phase))) }
+    {
+        self.put(phase.head())?;
+        match phase.id() {
+            Some(id) => {
+                self.add_digits(id)?;
+                self.put(",\"pid\":")
+            }
+            None => Ok(()),
+        }
+    }
+
+    fn add_stamp(&mut self, stamp: Option<u64>) -> Result<(), AllocError>
+        ensures { OnOk result (text_of self.new ≡ text_of self.old ++ stamp_part stamp) }
+    {
+        match stamp {
+            Some(stamp) => self.add_number(",\"ts\":", stamp),
+            None => Ok(()),
+        }
+    }
+
+    // Adds what an event says besides, if it says anything, and its end.
+    fn add_end(
+        &mut self,
+        place: Option<u64>,
+        arguments: &Option<Arguments<'_>>,
+    ) -> Result<(), AllocError>
+        ensures { OnOk result (text_of self.new ≡ text_of self.old ++ end_part place arguments.now) }
+    {
+        match arguments {
+            Some(arguments) => self.add_arguments(place, arguments),
+            None => self.put("}"),
+        }
+    }
+
     fn add_arguments(
         &mut self,
         place: Option<u64>,
         arguments: &Arguments<'_>,
     ) -> Result<(), AllocError>
-        ensures { OnOk result (AddsMembers (member (codes "args") (object (argument_members place arguments.now no_members))) self.old self.new) }
-    {
-        self.add_key(Key::Arguments)?;
-        self.text.push_str("{")?;
-        self.has_member = false;
-        self.add_each_argument(place, arguments)?;
-        self.has_member = true;
-        self.text.push_str("}")
-    }
-
-    fn add_each_argument(
-        &mut self,
-        place: Option<u64>,
-        arguments: &Arguments<'_>,
-    ) -> Result<(), AllocError>
-        ensures { OnOk result (AddsMembers (argument_members place arguments.now) self.old self.new) }
+        ensures { OnOk result (text_of self.new ≡ text_of self.old ++ arguments_part place arguments.now) }
     {
         match arguments {
-            Arguments::Name(name) => self.add_text(Key::Name, name),
-            Arguments::Slice { time, detail } => self.add_timed(place, *time, Key::Detail, detail),
-            Arguments::Record { time, words } => self.add_timed(place, *time, Key::Record, words),
+            Arguments::Name(name) => self.add_text(",\"args\":{\"name\":\"", name, "\"}}"),
+            Arguments::Slice { time, detail } => {
+                self.add_time(place, *time)?;
+                self.add_text(",\"detail\":\"", detail, "\"}}")
+            }
+            Arguments::Record { time, words } => {
+                self.add_time(place, *time)?;
+                self.add_text(",\"record\":\"", words, "\"}}")
+            }
             Arguments::Explanation(words) => {
-                self.add_number_if(Key::Place, place)?;
-                self.add_text(Key::Explanation, words)
+                self.begin_explanation(place)?;
+                self.add_text("", words, "\"}}")
             }
-            Arguments::Priority(priority) => self.add_number(Key::Priority, *priority),
+            Arguments::Priority(priority) => {
+                self.add_number(",\"args\":{\"priority\":", *priority)?;
+                self.put("}}")
+            }
             Arguments::Held { held, waiting } => {
-                self.add_number(Key::Held, *held)?;
-                self.add_number(Key::Waiting, *waiting)
+                self.add_number(",\"args\":{\"held\":", *held)?;
+                self.add_number(",\"waiting\":", *waiting)?;
+                self.put("}}")
             }
         }
     }
 
-    // Adds the place, if it is shown, a time of a core, and a text.
-    fn add_timed(
+    // Begins the arguments with the place, if it is shown, and a time of a core.
+    fn add_time(&mut self, place: Option<u64>, time: u64) -> Result<(), AllocError>
+        ensures { OnOk result (text_of self.new ≡ text_of self.old ++ time_part place time) }
+    {
+        match place {
+            Some(place) => {
+                self.add_number(",\"args\":{\"place\":", place)?;
+                self.add_number(",\"time\":", time)
+            }
+            None => self.add_number(",\"args\":{\"time\":", time),
+        }
+    }
+
+    // Begins the arguments with the place, if it is shown, up to an explanation.
+    fn begin_explanation(&mut self, place: Option<u64>) -> Result<(), AllocError>
+        ensures { OnOk result (text_of self.new ≡ text_of self.old ++ explained_part place) }
+    {
+        match place {
+            Some(place) => {
+                self.add_number(",\"args\":{\"place\":", place)?;
+                self.put(",\"explanation\":\"")
+            }
+            None => self.put(",\"args\":{\"explanation\":\""),
+        }
+    }
+
+    // Adds a text in a string, after what leads to it and before what ends it.
+    fn add_text(
         &mut self,
-        place: Option<u64>,
-        time: u64,
-        key: Key,
+        before: &'static str,
         text: &str,
+        after: &'static str,
     ) -> Result<(), AllocError>
-        ensures { OnOk result (AddsMembers (timed_members place time (name_of key) text.now) self.old self.new) }
+        ensures { OnOk result (text_of self.new ≡ text_of self.old ++ enclosed before.now text.now after.now) }
     {
-        self.add_number_if(Key::Place, place)?;
-        self.add_number(Key::Time, time)?;
-        self.add_text(key, text)
+        self.put(before)?;
+        self.add_escaped(text)?;
+        self.put(after)
     }
 
-    fn add_text_if(&mut self, key: Key, value: Option<&str>) -> Result<(), AllocError>
-        ensures { OnOk result (AddsMembers (text_if (name_of key) value.entry) self.old self.new) }
-    {
-        match value {
-            Some(text) => self.add_text(key, text),
-            None => Ok(()),
-        }
-    }
-
-    fn add_number_if(&mut self, key: Key, value: Option<u64>) -> Result<(), AllocError>
-        ensures { OnOk result (AddsMembers (number_if (name_of key) value) self.old self.new) }
-    {
-        match value {
-            Some(number) => self.add_number(key, number),
-            None => Ok(()),
-        }
-    }
-
-    // Adds a member that is a text.
-    fn add_text(&mut self, key: Key, value: &str) -> Result<(), AllocError>
-        ensures { OnOk result (AddsMembers (member (name_of key) (string value.now)) self.old self.new) }
-    {
-        self.add_key(key)?;
-        self.add_string(value)
-    }
-
-    // Adds a member that is a number.
-    fn add_number(&mut self, key: Key, value: u64) -> Result<(), AllocError>
-        ensures { OnOk result (AddsMembers (member (name_of key) (number (unsigned value))) self.old self.new) }
-    {
-        self.add_key(key)?;
-        let mut digits = Buffer::new();
-        self.text.push_str(digits.format(value))
-    }
-
-    // Begins a member. It comes after a comma, unless it is the first of its object.
-    fn add_key(&mut self, key: Key) -> Result<(), AllocError>
-        ensures text { OnOk result (text_of self.new ≡ text_of self.old ++ (comma_if self.old.has_member ++ (compact_text (string (name_of key)) ++ 58 ∷ []))) }
-        ensures member { OnOk result (self.new.has_member ≡ true) }
-    {
-        if self.has_member {
-            self.text.push_str(",")?;
-        }
-        self.has_member = true;
-        self.text.push_str(key.text())
-    }
-
-    // Adds a text as JSON. One without a character that JSON escapes is added between quotation marks as it is.
-    fn add_string(&mut self, text: &str) -> Result<(), AllocError>
-        ensures text { OnOk result (text_of self.new ≡ text_of self.old ++ compact_text (string text.now)) }
-        ensures same { self.new.has_member ≡ self.old.has_member }
+    // Adds a text as it is in a string of JSON. One without a character that JSON escapes is added as it is.
+    fn add_escaped(&mut self, text: &str) -> Result<(), AllocError>
+        ensures { OnOk result (text_of self.new ≡ text_of self.old ++ escape text.now) }
     {
         if has_escape(text) {
             let json = Value::String(String::from_str(self.alloc, text)?).to_string(self.alloc)?;
-            return self.text.push_str(&json);
+            return self.put_inside(json.as_bytes());
         }
-        self.text.push_str("\"")?;
-        self.text.push_str(text)?;
-        self.text.push_str("\"")
+        self.put(text)
     }
-}
 
-// Whether JSON escapes a character of this text.
-fn has_escape(text: &str) -> bool
-    ensures { result ≡ list_any is_escaped text.now }
-{
-    text.as_bytes()
-        .iter()
-        .any(|byte| *byte < 32 || *byte == 34 || *byte == 92)
+    // Adds what is between the quotation marks of a string of JSON.
+    fn put_inside(&mut self, json: &[u8]) -> Result<(), AllocError>
+        requires { 2 ≤ length json.now }
+        ensures { OnOk result (text_of self.new ≡ text_of self.old ++ take (length json.now - 2) (drop 1 json.now)) }
+    {
+        self.text.extend_from_slice(&json[1..json.len() - 1])
+    }
+
+    // Adds a number, after what leads to it.
+    fn add_number(&mut self, before: &'static str, value: u64) -> Result<(), AllocError>
+        ensures { OnOk result (text_of self.new ≡ text_of self.old ++ numbered before.now value) }
+    {
+        self.put(before)?;
+        self.add_digits(value)
+    }
+
+    fn add_digits(&mut self, value: u64) -> Result<(), AllocError>
+        ensures { OnOk result (text_of self.new ≡ text_of self.old ++ decimal value) }
+    {
+        let mut digits = Buffer::new();
+        self.put(digits.format(value))
+    }
+
+    fn put(&mut self, text: &str) -> Result<(), AllocError>
+        ensures { OnOk result (text_of self.new ≡ text_of self.old ++ text.now) }
+    {
+        self.text.extend_from_slice(text.as_bytes())
+    }
 }

@@ -5,18 +5,34 @@ use apex_types::{Body, Ordered, Who};
 use piece_check::{Piece, Seen};
 use run_view::{Contents, ProcessState, ProcessView, ThingKey};
 use std::alloc::{AllocError, Global};
-use std::fmt;
+use std::{fmt, str};
 use wording::{Ascii, Look, Numbered, Set, Words, kind_name, tell_record};
 
+/// A name: one that is always the same, or one that was made.
+#[derive(Drop)]
+pub enum Named {
+    Always(&'static str),
+    Made(String),
+}
+
+impl Named {
+    pub fn as_str(&self) -> &str {
+        match self {
+            Named::Always(name) => name,
+            Named::Made(name) => name.as_str(),
+        }
+    }
+}
+
 /// What a process does, as the name of its slice.
-pub fn state_name(alloc: Global, view: &ProcessView, runs: bool) -> Result<String, AllocError> {
+pub fn state_name(alloc: Global, view: &ProcessView, runs: bool) -> Result<Named, AllocError> {
     match view.state {
-        ProcessState::Dormant => String::from_str(alloc, "dormant"),
-        ProcessState::Ready if runs => String::from_str(alloc, "running"),
-        ProcessState::Ready => String::from_str(alloc, "ready"),
-        ProcessState::Waiting(wait) => wait_name(alloc, wait),
-        ProcessState::Suspended(_) => String::from_str(alloc, "suspended"),
-        ProcessState::Faulted(_) => String::from_str(alloc, "faulted"),
+        ProcessState::Dormant => Ok(Named::Always("dormant")),
+        ProcessState::Ready if runs => Ok(Named::Always("running")),
+        ProcessState::Ready => Ok(Named::Always("ready")),
+        ProcessState::Waiting(wait) => Ok(Named::Made(wait_name(alloc, wait)?)),
+        ProcessState::Suspended(_) => Ok(Named::Always("suspended")),
+        ProcessState::Faulted(_) => Ok(Named::Always("faulted")),
     }
 }
 
@@ -129,20 +145,26 @@ fn name_in<'a>(piece: &'a Piece, who: &Who) -> Option<&'a [u8]> {
 }
 
 /// The name of a record that is accepted.
-pub fn record_name(alloc: Global, ordered: &Ordered) -> Result<String, AllocError> {
-    match &ordered.rec.body {
-        Body::Call(call) => format!(in alloc; "{}", Ascii(call.request.service().name())),
-        Body::Ret(ret) => format!(in alloc; "return {}", Ascii(ret.service.name())),
+pub fn record_name(alloc: Global, ordered: &Ordered) -> Result<Named, AllocError> {
+    let made = match &ordered.rec.body {
+        Body::Call(call) => return Ok(Named::Always(ascii(call.request.service().name()))),
+        Body::Disp(_) => return Ok(Named::Always("dispatch")),
+        Body::Tick(_) => return Ok(Named::Always("tick")),
+        Body::Ret(ret) => format!(in alloc; "return {}", ascii(ret.service.name()))?,
         Body::Arrive(crossing) => {
-            format!(in alloc; "arrive at channel {}", crossing.chan.number())
+            format!(in alloc; "arrive at channel {}", crossing.chan.number())?
         }
         Body::Depart(crossing) => {
-            format!(in alloc; "depart from channel {}", crossing.chan.number())
+            format!(in alloc; "depart from channel {}", crossing.chan.number())?
         }
-        Body::Error(report) => format!(in alloc; "{}", Ascii(report.error.name())),
-        Body::Disp(_) => String::from_str(alloc, "dispatch"),
-        Body::Tick(_) => String::from_str(alloc, "tick"),
-    }
+        Body::Error(report) => format!(in alloc; "{}", Ascii(report.error.name()))?,
+    };
+    Ok(Named::Made(made))
+}
+
+// The name of a service, which is ASCII.
+fn ascii(name: &'static [u8]) -> &'static str {
+    str::from_utf8(name).unwrap_or("?")
 }
 
 /// A record in words.

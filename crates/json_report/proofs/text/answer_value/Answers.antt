@@ -1,13 +1,11 @@
 use Rattle.std.proofs.Common.{◌∙◌}
-use Rattle.std.proofs.lemmas.Result.{IfOk-weaker}
-use Rattle.serde_json.specs.View.{view}
+use Rattle.serde_json.specs.View.{members_view}
 use Rattle.json_report.proofs.Parts.{answer_is}
 use Rattle.json_report.proofs.text.answer_value.Goals as goal
 
 pub returns : goal.returns
 returns c =
-    let told = c.in_ok-told.told in
-    let basis = c.in_ok-basis.basis in
-    let is = answer_is c.args.answer.now (view told.said) (view told.location) (view told.explanation) (view basis.last) (view basis.inputs) (view basis.options)
-    c.in_ok-told.ensures.said c.in_ok-told.ensures.location c.in_ok-told.ensures.explanation c.in_ok-basis.ensures.last c.in_ok-basis.ensures.inputs c.in_ok-basis.ensures.options in
-    IfOk-weaker c.answer_with.result _ _ (λ value with_parts. with_parts ∙ is) c.answer_with.ensures
+    let head = members_view c.in_ok-head.head.members.entries in
+    let told = members_view c.in_ok-told.told.members.entries in
+    let whole = members_view c.in_ok-whole.whole.members.entries in
+    c.value.ensures ∙ answer_is c.args.answer.now head told whole c.in_ok-head.ensures c.in_ok-told.ensures c.in_ok-whole.ensures
