@@ -7,9 +7,9 @@
 # of their outcomes and answers as JSON, at a terminal, installed and packed, in one command, and on many recordings; the search for
 # orders, the walkthrough of the guide, the pictures and traces of apexview, and the recorder in C; each allocation refused in turn
 # that a waiting set makes for its first entry; and so each of the program's, without rules, with options that ask for rules, with a
-# rules file, with so many rules that several threads test them, with a message between partitions, and with several who wait at a
-# blackboard; and each of apexview's, for a page, a picture, a trace and figures, and of apexmake's. Every part runs, also after one that
-# fails. At the end come the costs of each crate and the counts of each part. The last line is their sum, `N passed, 0 failed`.
+# rules file, with memories, with so many rules that several threads test them, with a message between partitions, and with several who
+# wait at a blackboard; and each of apexview's, for a page, a picture, a trace and figures, and of apexmake's. Every part runs, also after
+# one that fails. At the end come the costs of each crate and the counts of each part. The last line is their sum, `N passed, 0 failed`.
 #
 # `bash test.sh quick` shows without a proof, in minutes, that everything works. `bash audit.sh` tries all wrong bodies.
 set -euo pipefail
@@ -59,6 +59,7 @@ parts_of_allocations() {
     beside single "allocations, the stored run" bash .ci/refuse_allocations "$programs/apexcheck"
     allocations "options" return_too_late --max-elapsed 1 --forbid STOP
     allocations "a rules file" partition_waits_too_long --rules $slow/rules.toml
+    allocations "memories" command_answered_too_late --rules examples/command_answered_too_late/rules.toml
     for number in {1..15}; do
         printf '[[rule]]\nname = "rule %s"\nholds = { field = "elapsed", less = 100 }\n\n' "$number"
     done | cat - $slow/rules.toml > "$room/many_rules.toml"

@@ -4,15 +4,15 @@ use crate::names::InputNames;
 use crate::terminal::Terminal;
 use apex_types::{Cause, Ordered, View};
 use asked_rules::{RulesFault, RulesRefusal};
-use explanation::Explanation;
+use explanation::{Explanation, values_at};
 use input_explanation::{Foreign, tell_foreign};
 use module_config::Config;
 use piece_check::Piece;
-use report::{Last, LastItem, Witness};
+use report::{Asked, Last, LastItem, Witness};
 use std::alloc::Global;
 use std::fmt::Display;
 use toml_explanation::{RefusedRules, tell_rules, tell_unknown_keys, tell_warnings};
-use user_rules::{Relation, Rule};
+use user_rules::{Relation, RuleMemory};
 use wording::Words;
 
 /// What explains the end of a run. As the witness of a check it explains the record at the place of a No or of a broken rule.
@@ -167,14 +167,21 @@ impl Explainer {
         self.explanation.tell_refused(config, piece, ordered, cause);
     }
 
-    /// Explains the record that breaks a rule, by its view.
-    pub fn explain_broken(&mut self, ordered: &Ordered, view: &View) {
-        self.explanation.tell_broken(ordered, view);
+    /// Explains the record that breaks a rule, by its view and by what the memories have kept of the views before it.
+    pub fn explain_broken(&mut self, asked: &Asked<'_>, ordered: &Ordered, view: &View) {
+        match values_at(self.alloc, asked.memories, asked.recollection, view) {
+            Ok(values) => self.explanation.tell_broken(ordered, view, values),
+            Err(_) => {
+                self.explanation
+                    .tell_broken(ordered, view, Vec::new(self.alloc));
+                self.note.note_lack_of_memory();
+            }
+        }
     }
 
-    /// Adds the fields of the record's view that this relation mentions, if the record breaks a rule.
-    pub fn tell_fields(&mut self, relation: &Relation) {
-        self.explanation.tell_fields(relation);
+    /// Adds the fields of the record's view and the values of these memories that this relation mentions, if the record breaks a rule.
+    pub fn tell_fields(&mut self, memories: &[RuleMemory], relation: &Relation) {
+        self.explanation.tell_fields(memories, relation);
     }
 }
 
@@ -191,11 +198,11 @@ impl Witness for Explainer {
     fn broken(
         &mut self,
         _config: &Config,
-        _rules: &[Rule],
+        asked: &Asked<'_>,
         ordered: &Ordered,
         view: &View,
         _rule: usize,
     ) {
-        self.explain_broken(ordered, view);
+        self.explain_broken(asked, ordered, view);
     }
 }

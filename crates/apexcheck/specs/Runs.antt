@@ -11,6 +11,7 @@ use Rattle.report.specs.declared.fault.CheckFault.{CheckFault}
 use Rattle.report.specs.Answers.{Answers, given_by}
 use Rattle.sink.specs.Writer.{WriterView}
 use Rattle.sink.specs.Written.{IsCut, IsWritten}
+use Rattle.user_rules.specs.Remembered.{required_by}
 use Rattle.verdict_merge.specs.declared.verdict.Verdict.{Verdict}
 use Rattle.apexcheck.specs.declared.awaited.Observed.{Observed}
 use Rattle.apexcheck.specs.declared.ending.CheckEnd.{CheckEnd}
@@ -24,7 +25,7 @@ use Rattle.apexcheck.specs.RowsAlone.{IsOfRows}
 
 -- an outcome of the run that is stored in the program, with one worker and the usual depth
 abbrev pub IsOfStored : Result Verdict CheckFault → Type 0
-IsOfStored outcome = Answers (given_by CONFIG.now (Some RECORDING.now ∷ []) false (Some ORDER.now) false) [] SETTINGS outcome
+IsOfStored outcome = Answers (given_by CONFIG.now (Some RECORDING.now ∷ []) false (Some ORDER.now) false) (required_by [] []) SETTINGS outcome
 
 -- an end is written and becomes the status: its whole text went out and the status is its own; or the writer failed, the first bytes of the
 -- text went out and no others, and the status is that of unwritten output

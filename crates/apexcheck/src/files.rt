@@ -129,8 +129,8 @@ impl<S: TextSource + Drop + Send + 'static> Opened<S> {
             return out_of_memory();
         };
         let rules_text = rules.as_deref();
-        let rules = match read_rules(alloc, rules_text) {
-            Ok(rules) => rules,
+        let file = match read_rules(alloc, rules_text) {
+            Ok(file) => file,
             Err(refusal) => {
                 explainer.note_rules(&asked.names, &refusal, rules_text);
                 return refused_rules(refusal.fault);
@@ -145,11 +145,11 @@ impl<S: TextSource + Drop + Send + 'static> Opened<S> {
         let is_wanted = explainer.terminal().is_terminal && !asked.quiet;
         let course = Course::new(rt, is_wanted, copy_of(&awaited));
         let outcome = check_ruled(
-            *rt, alloc, inputs, &options, &rules, settings, &course, &mut last, explainer,
+            *rt, alloc, inputs, &options, &file, settings, &course, &mut last, explainer,
         );
         course.clear();
         end_watch(rt, &awaited, watching);
-        note_broken(explainer, alloc, &options, &rules, &outcome);
+        note_broken(explainer, alloc, &options, &file, &outcome);
         explainer.note_configuration(&config);
         if asked.writes_file() {
             explainer.keep_last(&last);

@@ -1,21 +1,22 @@
 //! The program: checks recordings against a configuration and a proposed order, and prints one line. After a No, the last records before
 //! its place follow if they are requested.
 //!
-//! Promises: a run ends as its words request. What is printed is the text of that end, and the exit status is that of the end; if the output
-//! could not be written, the status says so. A run over files opens each file in its role. With options that request rules and with a rules
-//! file, it ends with the file's first refusal, or with the outcome under relations that say what the options request and then what the
-//! rules of the file say. A Yes for fewer records than are required is refused. After the outcome come the last records before the place of a
-//! No, if they are requested, and otherwise nothing.
+//! Promises: a run ends as its words request. What is printed is the text of that end, and the exit status is that of the end; if the
+//! output could not be written, the status says so. A run over files opens each file in its role. With options that request rules and with
+//! a rules file, it ends with the file's first refusal, or with the outcome under the memories of the file and relations that say what the
+//! options request and then what the rules of the file say. A Yes for fewer records than are required is refused. After the outcome come
+//! the last records before the place of a No, if they are requested, and otherwise nothing.
 //!
 //! `run` makes these promises (`Runs.antt`). `main` passes to it the files, the terminal, the words and the output of the system, and ends
 //! with the status that it returns. `carry_out` first reserves the stack that a run may need. At the end `run` writes the line, then the
 //! explanation (`explain`), and then the log of `--sarif` and the answer of `--json`. No rule of the machine is here.
 //!
-//! `Opened` holds what was opened in a `Folder`. Its `check` judges the rules file (`read_rules`), then checks under the relations of the
-//! options, followed by clones of the file's relations (`check_ruled`). `check_files` opens the files and passes on the answer of `check`.
+//! `Opened` holds what was opened in a `Folder`. Its `check` judges the rules file (`read_rules`), then checks under the memories of the
+//! file and the relations of the options, followed by clones of the file's relations (`check_ruled`). `check_files` opens the files and
+//! passes on the answer of `check`.
 //!
-//! With `--rows` the recordings alone are read, each to its end or to its first fault (`check_rows`, over `rows_check`). A run ends with what
-//! is found in each.
+//! With `--rows` the recordings alone are read, each to its end or to its first fault (`check_rows`, over `rows_check`). A run ends with
+//! what is found in each.
 //!
 //! `Explainer` gathers what explains the end. It is the witness of the check, and notes which file cannot be opened, why a rules file is
 //! refused, which rule is broken, and which keys of the configuration are unknown. What a person sees while the check goes on is a
@@ -27,8 +28,8 @@
 //!
 //! Promises: no word requests the stored run, `--version` alone the version, `--rows` the rows of the recordings that the other words name,
 //! and other words a run over files, for which each file, option and setting is what the parser of command lines finds in the words. Words
-//! are refused only if the parser does not take them, if a file that a run needs is not named, if an option has a value that it cannot have,
-//! or if no recording follows `--rows`.
+//! are refused only if the parser does not take them, if a file that a run needs is not named, if an option has a value that it cannot
+//! have, or if no recording follows `--rows`.
 //!
 //! The options are a definition (`CommandLine.antt`), and so is what they request (`Words.antt`). Workers and depth are passed on as they
 //! are given; the check refuses what is out of range.

@@ -62,12 +62,13 @@ pub fn rule_of(
             "open",
             "a file cannot be opened, or the configuration or the rules file cannot be read.",
         ),
-        Ending::BadRules(fault) | Ending::BadRule { fault, .. } => rule_of_fault(
-            alloc,
-            "rules",
-            fault,
-            "docs/SPECIFICATION.md, part 14; docs/FORMATS.md, Rules",
-        ),
+        Ending::BadRules(fault) | Ending::BadMemory { fault, .. } | Ending::BadRule { fault, .. } =>
+            rule_of_fault(
+                alloc,
+                "rules",
+                fault,
+                "docs/SPECIFICATION.md, part 14; docs/FORMATS.md, Rules",
+            ),
         Ending::BadUsage | Ending::Own(CheckEnd::Rows(_) | CheckEnd::Version) => Ok(None),
     }
 }

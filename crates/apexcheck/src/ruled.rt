@@ -1,10 +1,10 @@
 // The check under the rules of options and of a rules file.
 
-ghost use Rattle.std.specs.Prelude.{[], ◌≡◌, map};
-ghost use Rattle.asked_rules.specs.Reading.{said};
+ghost use Rattle.std.specs.Prelude.{[], ◌≡◌};
+ghost use Rattle.asked_rules.specs.Reading.{said_file};
 ghost use Rattle.apexcheck.specs.Ruled.{AnswersRuled};
 
-use asked_rules::{NamedRule, RuleOption, all_relations};
+use asked_rules::{RuleOption, RulesFile, all_relations};
 use csv_rows::TextSource;
 use report::{
     CheckFault, Gate, Inputs, Last, Options, Settings, Verdict, Witness, check_relations,
@@ -13,8 +13,8 @@ use std::alloc::Global;
 use std::sync::Wait;
 use std::thread::Threads;
 
-/// Checks these inputs under rules: those that these options request, numbered in their order, and the named ones after them. The check is
-/// carried out as the settings say, and the gate sees its progress.
+/// Checks these inputs under rules: those that these options request, numbered in their order, and those of the file after them, with its
+/// memories. The check is carried out as the settings say, and the gate sees its progress.
 ///
 /// Leaves the last records before the place of a No or of a broken rule in `last`, if that was empty, and none after any other answer. The
 /// witness receives what is at that place.
@@ -23,7 +23,7 @@ pub fn check_ruled<T, R, C, G, V>(
     alloc: Global,
     inputs: Inputs<'_, R, C>,
     options: &[RuleOption],
-    rules: &[NamedRule],
+    file: &RulesFile,
     settings: Settings,
     gate: &G,
     last: &mut Last,
@@ -35,11 +35,20 @@ where
     T: Threads + Wait + Sync + Copy + Send + 'static,
     R: TextSource + Drop + Send + 'static,
     C: TextSource + Drop,
-    ensures { last.old ≡ [] → AnswersRuled inputs.entry options.now (map said rules.now) settings result last.new }
+    ensures { last.old ≡ [] → AnswersRuled inputs.entry options.now (said_file file.now) settings result last.new }
 {
-    let Ok(relations) = all_relations(alloc, options, rules) else {
+    let Ok(relations) = all_relations(alloc, options, &file.rules) else {
         return Err(CheckFault::Memory);
     };
     let options = Options::new(settings, gate);
-    check_relations(rt, alloc, inputs, relations, options, last, witness)
+    check_relations(
+        rt,
+        alloc,
+        inputs,
+        &file.memories,
+        relations,
+        options,
+        last,
+        witness,
+    )
 }

@@ -29,7 +29,7 @@ pub fn site_of<'a, R: Files<File = F>, F: Read + Drop>(
     let config = names.config.as_str();
     match ending {
         Ending::Unopened => in_file(explainer.unopened().unwrap_or(config), None),
-        Ending::BadRules(_) | Ending::BadRule { .. } => in_file(
+        Ending::BadRules(_) | Ending::BadMemory { .. } | Ending::BadRule { .. } => in_file(
             names.rules.as_deref().unwrap_or(config),
             explainer.rules_line(),
         ),

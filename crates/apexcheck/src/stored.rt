@@ -1,6 +1,7 @@
 // The run that is stored in the program, which is checked if the command line has no words.
 
 ghost use Rattle.std.specs.Prelude.{[], ◌∷◌, Some, false};
+ghost use Rattle.user_rules.specs.Remembered.{required_by};
 ghost use Rattle.report.specs.Answers.{Answers, given_by};
 
 use crate::settings::USUAL_DEPTH;
@@ -60,10 +61,10 @@ const SETTINGS: Settings = Settings {
 pub fn check_stored<T>(rt: T, alloc: Global) -> Result<Verdict, CheckFault>
 where
     T: Threads + Wait + Sync + Copy + Send + 'static,
-    ensures { Answers (given_by CONFIG.now (Some RECORDING.now ∷ []) false (Some ORDER.now) false) [] SETTINGS result }
+    ensures { Answers (given_by CONFIG.now (Some RECORDING.now ∷ []) false (Some ORDER.now) false) (required_by [] []) SETTINGS result }
 {
     let Ok(readers) = vec![in alloc; RECORDING] else {
         return Err(CheckFault::Memory);
     };
-    check(rt, alloc, CONFIG, readers, ORDER, &[], SETTINGS, &Open)
+    check(rt, alloc, CONFIG, readers, ORDER, &[], &[], SETTINGS, &Open)
 }

@@ -6,7 +6,7 @@ use Rattle.module_config.specs.declared.fault.ConfigFault.{ConfigFault}
 use Rattle.order_cert.specs.Order.{IsPrefixOfLawful}
 use Rattle.program_ends.specs.declared.ending.Ending.TheVariants.{Own}
 use Rattle.sink.specs.Written.{IsCut, IsWritten}
-use Rattle.user_rules.specs.declared.relation.Relation.{Relation}
+use Rattle.user_rules.specs.Remembered.{Requirements}
 use Rattle.order_run.specs.declared.proposal.Proposal.{Proposal}
 use Rattle.order_run.specs.declared.proposal.ProposalFault.{ProposalFault}
 use Rattle.order_run.specs.declared.proposal.ProposalFault.TheVariants.{Input, Memory, Output}
@@ -41,19 +41,19 @@ received reading configuration lefts before middle after result read same (pairs
 })
 
 -- a proposal for the configuration that was read
-pub certified : (reading : Result Configuration ConfigFault) (configuration given : Configuration) (relations : List Relation) (texts : List (List ℕ)) (before middle after : Option (List ℕ)) (proposal : Proposal)
+pub certified : (reading : Result Configuration ConfigFault) (configuration given : Configuration) (requirements : Requirements) (texts : List (List ℕ)) (before middle after : Option (List ℕ)) (proposal : Proposal)
     → reading ≡ Ok given → reading ≡ Ok configuration → after ≡ middle
-    → ((certificate : List ℕ) × IsWritten before certificate middle × IsProposed given relations texts certificate proposal) → IsCertifiedBy configuration relations texts before after (Own (Proposed proposal))
-certified reading configuration given relations texts before middle after proposal read is same (certificate, written, proposed) =
+    → ((certificate : List ℕ) × IsWritten before certificate middle × IsProposed given requirements texts certificate proposal) → IsCertifiedBy configuration requirements texts before after (Own (Proposed proposal))
+certified reading configuration given requirements texts before middle after proposal read is same (certificate, written, proposed) =
     let one : given ≡ configuration = cc in (
       certificate,
       subst (IsWritten before certificate) (sym same) written,
-      subst (λ found. IsProposed found relations texts certificate proposal) one proposed,
+      subst (λ found. IsProposed found requirements texts certificate proposal) one proposed,
     )
 
 -- where there is no proposal, nothing is certified
-pub none_is_certified : (configuration : Configuration) (relations : List Relation) (texts : List (List ℕ)) (before after : Option (List ℕ)) (fault : ProposalFault)
-    → IsCertifiedBy configuration relations texts before after (ending_of fault)
-none_is_certified configuration relations texts before after (Input input) = tt
-none_is_certified configuration relations texts before after Memory = tt
-none_is_certified configuration relations texts before after Output = tt
+pub none_is_certified : (configuration : Configuration) (requirements : Requirements) (texts : List (List ℕ)) (before after : Option (List ℕ)) (fault : ProposalFault)
+    → IsCertifiedBy configuration requirements texts before after (ending_of fault)
+none_is_certified configuration requirements texts before after (Input input) = tt
+none_is_certified configuration requirements texts before after Memory = tt
+none_is_certified configuration requirements texts before after Output = tt

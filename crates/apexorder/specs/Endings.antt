@@ -8,7 +8,7 @@ use Rattle.program_ends.specs.declared.ending.Ending.{Ending}
 use Rattle.program_ends.specs.declared.ending.Ending.TheVariants.{Own}
 use Rattle.program_ends.specs.Endings.{out_of_memory}
 use Rattle.sink.specs.Written.{IsCut, IsWritten}
-use Rattle.user_rules.specs.declared.relation.Relation.{Relation}
+use Rattle.user_rules.specs.Remembered.{Requirements}
 use Rattle.order_run.specs.declared.proposal.Proposal.TheVariants.{Found, NotFound}
 use Rattle.order_run.specs.declared.proposal.ProposalFault.{ProposalFault}
 use Rattle.order_run.specs.declared.proposal.ProposalFault.TheVariants as no_proposal
@@ -75,9 +75,9 @@ abbrev pub HasReceived : Result Configuration ConfigFault → Lefts → Option (
 HasReceived (Ok configuration) lefts before after = HasReceivedRows configuration.cores lefts before after
 HasReceived (Err fault) lefts before after = after ≡ before
 
--- if the end is a proposal, the output received its certificate, and the proposal says of these relations and of the recordings with these
+-- if the end is a proposal, the output received its certificate, and the proposal says of what is required and of the recordings with these
 -- texts what it means
-abbrev pub IsCertifiedBy : Configuration → List Relation → List (List ℕ) → Option (List ℕ) → Option (List ℕ) → Ending OrderEnd → Type 0
-IsCertifiedBy configuration relations texts before after (Own (Proposed proposal)) =
-    (certificate : List ℕ) × IsWritten before certificate after × IsProposed configuration relations texts certificate proposal
-IsCertifiedBy configuration relations texts before after _ = Unit {0}
+abbrev pub IsCertifiedBy : Configuration → Requirements → List (List ℕ) → Option (List ℕ) → Option (List ℕ) → Ending OrderEnd → Type 0
+IsCertifiedBy configuration requirements texts before after (Own (Proposed proposal)) =
+    (certificate : List ℕ) × IsWritten before certificate after × IsProposed configuration requirements texts certificate proposal
+IsCertifiedBy configuration requirements texts before after _ = Unit {0}

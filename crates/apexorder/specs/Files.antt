@@ -10,7 +10,7 @@ use Rattle.program_ends.specs.declared.refused.UsageFault.{UsageFault}
 use Rattle.program_ends.specs.Endings.{out_of_memory, refused_rules, refused_words}
 use Rattle.asked_rules.specs.Options.{in_order}
 use Rattle.asked_rules.specs.declared.fault.RulesFault.{RulesFault}
-use Rattle.asked_rules.specs.Reading.{SaidRule}
+use Rattle.asked_rules.specs.Reading.{SaidFile}
 use Rattle.apexorder.specs.declared.ending.OrderEnd.{OrderEnd}
 use Rattle.apexorder.specs.declared.ending.OrderEnd.TheVariants as own
 use Rattle.apexorder.specs.declared.files.OpenFault.{OpenFault}
@@ -40,11 +40,11 @@ pub record EndsAsAsked {S : Type 0} (known : S → Option (List ℕ)) (opened : 
   -- a rules file that is refused ends the run by its first fault, unless memory is refused, and nothing is written
   pub refused : (fault : RulesFault) → rules_given (rules_text opened) ≡ Err fault → ((end ≡ out_of_memory refusing) ⊎ (end ≡ refused_rules refusing fault)) × (after ≡ before)
   -- unless the rules file is refused, the search over the recordings ends it
-  pub ended : (rules : List SaidRule) → rules_given (rules_text opened) ≡ Ok rules → EndsSearch (configuration_of opened.text.items) (length opened.cores.items) end
+  pub ended : (file : SaidFile) → rules_given (rules_text opened) ≡ Ok file → EndsSearch (configuration_of opened.text.items) (length opened.cores.items) end
   -- a proposal is that of the configuration, the rules and the recordings
-  pub certified : (configuration : Configuration) (texts : List (List ℕ)) (rules : List SaidRule) → configuration_of opened.text.items ≡ Ok configuration
-      → map known opened.cores.items ≡ map Some texts → rules_given (rules_text opened) ≡ Ok rules
-      → IsCertified configuration (in_order asked.options) rules texts before after end
+  pub certified : (configuration : Configuration) (texts : List (List ℕ)) (file : SaidFile) → configuration_of opened.text.items ≡ Ok configuration
+      → map known opened.cores.items ≡ map Some texts → rules_given (rules_text opened) ≡ Ok file
+      → IsCertified configuration (in_order asked.options) file texts before after end
 
 -- a file was opened for each recording that is named, and the rules file if one is named
 pub record AreOpened {S : Type 0} (names : OrderNames) (opened : Opened S) : Type 0 where

@@ -109,8 +109,8 @@ impl<S: TextSource + Drop> Opened<S> {
             return out_of_memory();
         };
         let rules_text = rules.as_deref();
-        let rules = match read_rules(alloc, rules_text) {
-            Ok(rules) => rules,
+        let file = match read_rules(alloc, rules_text) {
+            Ok(file) => file,
             Err(refusal) => {
                 seen.noted.note_rules(&asked.names, &refusal, rules_text);
                 return refused_rules(refusal.fault);
@@ -122,12 +122,19 @@ impl<S: TextSource + Drop> Opened<S> {
             asked.effort,
             &text,
             &options,
-            &rules,
+            &file,
             cores,
             seen,
             output,
         );
-        note_end(&mut seen.noted, asked, &text, &options, &rules, &ending);
+        note_end(
+            &mut seen.noted,
+            asked,
+            &text,
+            &options,
+            &file.rules,
+            &ending,
+        );
         ending
     }
 }

@@ -4,7 +4,7 @@ ghost use Rattle.std.specs.Prelude.{◌≡◌, ℕ, List, Ok, Some, length, map,
 ghost use Rattle.apex_machine.specs.Configuration.{Configuration};
 ghost use Rattle.module_config.specs.Reading.{configuration_of};
 ghost use Rattle.record_read.specs.Row.{records_of};
-ghost use Rattle.user_rules.specs.Rules.{relations_of};
+ghost use Rattle.user_rules.specs.Rules.{required_of};
 ghost use Rattle.apexorder.specs.Endings.{EndsSearch, HasReceived, IsCertifiedBy};
 
 use crate::ending::{OrderEnd, refused_by};
@@ -16,7 +16,7 @@ use report::{ArgumentFault, CheckFault};
 use sink::WriterSink;
 use std::alloc::Global;
 use std::io::Write;
-use user_rules::Rule;
+use user_rules::{Rule, RuleMemory};
 
 /// Searches for an order of these recordings under the configuration with this text, and writes its certificate to this output. The rules
 /// are tested on it.
@@ -30,6 +30,7 @@ pub fn propose_into<S: TextSource + Drop, V: Watcher, W: Write + Drop>(
     alloc: Global,
     effort: u64,
     text: &[u8],
+    memories: &[RuleMemory],
     rules: &[Rule],
     cores: Vec<S>,
     watcher: &mut V,
@@ -37,7 +38,7 @@ pub fn propose_into<S: TextSource + Drop, V: Watcher, W: Write + Drop>(
 ) -> Ending<OrderEnd>
     ensures rows { HasReceived (configuration_of text.now) (map (λ source. option_map records_of (S.remaining source)) cores.items) output.old.bytes output.new.bytes }
     ensures ended { EndsSearch (configuration_of text.now) (length cores.items) result }
-    ensures certified { (configuration : Configuration) (texts : List (List ℕ)) → configuration_of text.now ≡ Ok configuration → map S.remaining cores.items ≡ map Some texts → IsCertifiedBy configuration (relations_of rules.now) texts output.old.bytes output.new.bytes result }
+    ensures certified { (configuration : Configuration) (texts : List (List ℕ)) → configuration_of text.now ≡ Ok configuration → map S.remaining cores.items ≡ map Some texts → IsCertifiedBy configuration (required_of memories.now rules.now) texts output.old.bytes output.new.bytes result }
 {
     let config = match Config::read(alloc, text) {
         Ok(config) => config,
@@ -51,7 +52,9 @@ pub fn propose_into<S: TextSource + Drop, V: Watcher, W: Write + Drop>(
         window: MOST_UNDECIDED,
         effort,
     };
-    match propose(alloc, &config, rules, cores, limits, watcher, output) {
+    match propose(
+        alloc, &config, memories, rules, cores, limits, watcher, output,
+    ) {
         Ok(proposal) => match output.flush() {
             Ok(()) => Ending::Own(OrderEnd::Proposed(proposal)),
             Err(_) => Ending::Own(OrderEnd::Unwritten),

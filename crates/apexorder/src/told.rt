@@ -71,7 +71,11 @@ fn tell_order<R: Files<File = F> + Eprint, F: Read + Drop>(
         Ending::Own(OrderEnd::Refused(fault)) => say(rt, &files.words_of_fault(fault, noted), look),
         Ending::Own(OrderEnd::Unwritten) => say(rt, &words_of_unwritten_order(alloc), look),
         Ending::Own(OrderEnd::Version | OrderEnd::Help) => {}
-        Ending::BadUsage | Ending::Unopened | Ending::BadRules(_) | Ending::BadRule { .. } => {}
+        Ending::BadUsage
+        | Ending::Unopened
+        | Ending::BadRules(_)
+        | Ending::BadMemory { .. }
+        | Ending::BadRule { .. } => {}
     }
 }
 

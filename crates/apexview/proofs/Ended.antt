@@ -1,7 +1,7 @@
 -- How a run ends, by what is requested.
 use Rattle.std.proofs.Common.{◌≡◌, ◌≢◌, ◌⊎◌, ◌∙◌, ℕ, Bool, List, Option, Result, Ok, Err, refl, subst, sym, inl, inr}
 use Rattle.program_ends.specs.declared.ending.Ending.{Ending}
-use Rattle.program_ends.specs.declared.ending.Ending.TheVariants.{BadRule, BadRules, BadUsage, Own, Unopened}
+use Rattle.program_ends.specs.declared.ending.Ending.TheVariants.{BadMemory, BadRule, BadRules, BadUsage, Own, Unopened}
 use Rattle.program_ends.specs.declared.refused.UsageFault.{UsageFault}
 use Rattle.program_ends.specs.Endings.{out_of_memory, refused_words}
 use Rattle.apexview.specs.declared.usage.Asked.{Asked}
@@ -38,6 +38,7 @@ module _ {S : Type 0} (known : S → Option (List ℕ)) (can_fail : Bool) where
   concluded asked shown BadUsage same by = subst (λ one. EndsBy known can_fail asked one) (sym (same (λ unwritten. cc))) by
   concluded asked shown Unopened same by = subst (λ one. EndsBy known can_fail asked one) (sym (same (λ unwritten. cc))) by
   concluded asked shown (BadRules which) same by = subst (λ one. EndsBy known can_fail asked one) (sym (same (λ unwritten. cc))) by
+  concluded asked shown (BadMemory number which) same by = subst (λ one. EndsBy known can_fail asked one) (sym (same (λ unwritten. cc))) by
   concluded asked shown (BadRule number which) same by = subst (λ one. EndsBy known can_fail asked one) (sym (same (λ unwritten. cc))) by
   concluded asked shown (Own Version) same by = subst (λ one. EndsBy known can_fail asked one) (sym (same (λ unwritten. cc))) by
   concluded asked shown (Own Help) same by = subst (λ one. EndsBy known can_fail asked one) (sym (same (λ unwritten. cc))) by

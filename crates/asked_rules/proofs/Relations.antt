@@ -3,7 +3,7 @@ use Rattle.std.proofs.Common.{◌≡◌, ◌<◌, ◌-◌, ℕ, zero, suc, List,
 use Rattle.std.specs.Prelude.{Option, Result, IsOk}
 use Rattle.std.specs.List.{IsFirstAndRest}
 use Rattle.std.specs.Result.{IsErrAnd}
-use Rattle.toml.specs.Data.{Data, Members, as_table, table}
+use Rattle.toml.specs.Data.{Data, Items, Members, as_table, table}
 use Rattle.toml.specs.View.{view, items_view}
 use Rattle.toml.specs.declared.value.Value.{Value}
 use Rattle.user_rules.specs.Meets.{meets}
@@ -15,14 +15,15 @@ use Rattle.asked_rules.specs.Keys.{◌>>=◌, Builds}
 use Rattle.asked_rules.specs.Relations.{Holds, joined, relation_in, relation_under}
 
 -- a table with a level and more is read with what is left below it
-pub a_level_down : (levels : ℕ) (value : Data) (keys : Members) → 0 < levels → Some keys ≡ as_table value → relation_in levels value ≡ relation_under (relation_in (levels - 1)) keys
+pub a_level_down : (above : Items) (levels : ℕ) (value : Data) (keys : Members) → 0 < levels → Some keys ≡ as_table value
+    → relation_in above levels value ≡ relation_under above (relation_in above (levels - 1)) keys
 unfolding relation_in
-a_level_down zero value keys some is = absurd (omega arith)
-a_level_down (suc levels) (table given) keys some is =
+a_level_down above zero value keys some is = absurd (omega arith)
+a_level_down above (suc levels) (table given) keys some is =
     let e : suc levels - 1 ≡ levels = omega arith in
     let same : keys ≡ given = cc in
     rw (e, same) refl
-a_level_down (suc levels) _ keys some is = cc
+a_level_down above (suc levels) _ keys some is = cc
 
 -- two readings, put together
 abbrev pub two_joined : (Bool → Bool → Bool) → Result Holds RuleRefusal → Result Holds RuleRefusal → Result Holds RuleRefusal

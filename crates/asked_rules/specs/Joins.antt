@@ -13,5 +13,5 @@ joins Or one other = one || other
 -- two relations are combined into a third; there is none if memory ran out
 abbrev pub IsJoined : Join → Option Relation → Option Relation → Option Relation → Type 0
 IsJoined join first others None = Unit {0}
-IsJoined join (Some first) (Some others) (Some both) = meets both ≡ (λ view. joins join (meets first view) (meets others view))
+IsJoined join (Some first) (Some others) (Some both) = meets both ≡ (λ one. joins join (meets first one) (meets others one))
 IsJoined join _ _ (Some both) = ⊥

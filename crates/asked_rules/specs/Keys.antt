@@ -45,6 +45,11 @@ abbrev pub required : RuleKey → Option Data → Result Data RuleRefusal
 required key None = Err (at key Missing)
 required key (Some value) = Ok value
 
+-- 1 if a key is there, else 0
+abbrev pub given : Option Data → ℕ
+given None = 0
+given (Some value) = 1
+
 -- how many keys a table has
 abbrev pub member_count : Members → ℕ
 member_count no_members = 0
@@ -68,6 +73,6 @@ list_in _ = Err (nowhere WrongType)
 abbrev pub is_name : List ℕ → Bool
 is_name text = nat_le 1 (length text) && (nat_le (length text) LONGEST_RULE_NAME && list_all is_printable text)
 
--- the name of a rule
+-- the name of a memory or a rule
 abbrev pub name_in : Data → Result (List ℕ) RuleRefusal
 name_in value = text_in Name value >>= (λ text. if is_name text then Ok text else Err (at Name BadName))

@@ -1,7 +1,9 @@
 pub mod Names
 pub mod Keys
+pub mod Sides
 pub mod Relations
 pub mod Joins
+pub mod Memories
 pub mod Reading
 pub mod Options
 pub mod Asked

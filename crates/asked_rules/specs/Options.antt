@@ -7,7 +7,7 @@ use Rattle.apex_types.specs.Services.{service_number}
 use Rattle.csv_rows.specs.Decimal.{decimal}
 use Rattle.record_read.specs.Named.{service_named}
 use Rattle.user_rules.specs.declared.relation.Relation.{Relation}
-use Rattle.user_rules.specs.Meets.{meets}
+use Rattle.user_rules.specs.Meets.{Valued, meets}
 use Rattle.asked_rules.specs.declared.given.RuleOptions.{RuleOptions}
 use Rattle.asked_rules.specs.declared.option.RuleOption.{RuleOption}
 use Rattle.asked_rules.specs.declared.option.RuleOption.TheVariants.{MaxElapsed, Forbid}
@@ -20,11 +20,11 @@ keeps (Forbid service) view = not (int_eq view.kind (pos 0) && int_eq view.servi
 
 -- a relation says what an option asks for: a view meets it exactly if it keeps to the option
 abbrev pub Says : RuleOption → Relation → Type 0
-Says option relation = (view : View) → meets relation view ≡ keeps option view
+Says option relation = (one : Valued) → meets relation one ≡ keeps option one.view
 
 -- relations say what options ask for, one for each, in their order
 abbrev pub SayInTurn : List RuleOption → List Relation → Type 0
-SayInTurn options relations = (view : View) → map (λ relation. meets relation view) relations ≡ map (λ option. keeps option view) options
+SayInTurn options relations = (one : Valued) → map (λ relation. meets relation one) relations ≡ map (λ option. keeps option one.view) options
 
 -- an option whose value is given
 abbrev pub if_given : {A : Type 0} → (A → RuleOption) → Option A → List RuleOption

@@ -1,45 +1,36 @@
 -- The views for which the relation that a value describes holds.
-use Rattle.std.specs.Prelude.{ℕ, ℤ, zero, suc, Bool, ◌&&◌, ◌||◌, not, int_lt, Option, Some, None, Result, Ok, Err, codes, nat_le, if◌then◌else◌}
-use Rattle.std.specs.Option.{ok_or}
+use Rattle.std.specs.Prelude.{ℕ, zero, suc, Bool, ◌&&◌, ◌||◌, not, int_lt, Option, Some, None, Result, Ok, Err, codes, nat_le, if◌then◌else◌}
 use Rattle.std.specs.Ordering.{int_eq}
-use Rattle.toml.specs.Data.{Data, integer, string, table, Items, no_items, item, Members, get_member}
+use Rattle.toml.specs.Data.{Data, table, Items, no_items, item, Members, get_member}
 use Rattle.apex_types.specs.declared.limits.TheConstants.{MOST_RELATIONS}
-use Rattle.apex_types.specs.declared.view.Field.{Field}
-use Rattle.apex_types.specs.declared.view.View.{View}
-use Rattle.apex_types.specs.Fields.{field_of}
-use Rattle.asked_rules.specs.declared.fault.RuleFault.TheVariants.{Empty, Missing, TooDeep, TooMany, UnknownField, UnknownName, WrongType}
+use Rattle.user_rules.specs.Meets.{Valued, quantity_of}
+use Rattle.asked_rules.specs.declared.fault.RuleFault.TheVariants.{Empty, Missing, TooDeep, TooMany, WrongType}
 use Rattle.asked_rules.specs.declared.refusal.RuleKey.TheVariants as key
 use Rattle.asked_rules.specs.declared.refusal.RuleRefusal.{RuleRefusal}
-use Rattle.asked_rules.specs.Keys.{◌>>=◌, at, list_in, no_more, nowhere, required, text_in}
-use Rattle.asked_rules.specs.Names.{field_named, number_named}
+use Rattle.asked_rules.specs.Keys.{◌>>=◌, at, list_in, no_more, nowhere}
+use Rattle.asked_rules.specs.declared.side.Side.{Side}
+use Rattle.asked_rules.specs.Sides.{other_side_in, side_under}
 
--- for which views a relation holds
+-- for which views, with the values of the memories at them, a relation holds
 abbrev pub Holds : Type 0
-Holds = View → Bool
+Holds = Valued → Bool
 
--- the field of this name
-abbrev pub field_in : Data → Result Field RuleRefusal
-field_in value = text_in key.Field value >>= (λ name. ok_or (field_named name) (at key.Field UnknownField))
+-- a side is compared by the first of `less`, `equal` and `greater` that is given; the memories above are those of these tables
+abbrev pub compared : Items → Side → Option Data → Option Data → Option Data → Result Holds RuleRefusal
+compared above side (Some value) equal greater =
+    other_side_in above side value >>= (λ other. Ok (λ one. int_lt (quantity_of side.quantity one) (quantity_of other one)))
+compared above side None (Some value) greater =
+    other_side_in above side value >>= (λ other. Ok (λ one. int_eq (quantity_of side.quantity one) (quantity_of other one)))
+compared above side None None (Some value) =
+    other_side_in above side value >>= (λ other. Ok (λ one. int_lt (quantity_of other one) (quantity_of side.quantity one)))
+compared above side None None None = Err (at key.Number Missing)
 
--- the number that a field is compared with: an integer, or a name that means one in this field
-abbrev pub number_in : Field → Data → Result ℤ RuleRefusal
-number_in field (integer number) = Ok number
-number_in field (string name) = ok_or (number_named field name) (at key.Number UnknownName)
-number_in field _ = Err (at key.Number WrongType)
-
--- the field is compared by the first of `less`, `equal` and `greater` that is given
-abbrev pub compared : Field → Option Data → Option Data → Option Data → Result Holds RuleRefusal
-compared field (Some value) equal greater = number_in field value >>= (λ number. Ok (λ view. int_lt (field_of view field) number))
-compared field None (Some value) greater = number_in field value >>= (λ number. Ok (λ view. int_eq (field_of view field) number))
-compared field None None (Some value) = number_in field value >>= (λ number. Ok (λ view. int_lt number (field_of view field)))
-compared field None None None = Err (at key.Number Missing)
-
--- the comparison that a table describes: `field`, one of `less`, `equal` and `greater`, and no other key
-abbrev pub comparison_under : Members → Result Holds RuleRefusal
-comparison_under keys =
+-- the comparison that a table describes: `field` or `memory`, one of `less`, `equal` and `greater`, and no other key
+abbrev pub comparison_under : Items → Members → Result Holds RuleRefusal
+comparison_under above keys =
     no_more 2 keys >>= (λ _.
-    required key.Field (get_member (codes "field") keys) >>= field_in >>= (λ field.
-    compared field (get_member (codes "less") keys) (get_member (codes "equal") keys) (get_member (codes "greater") keys)))
+    side_under above keys >>= (λ side.
+    compared above side (get_member (codes "less") keys) (get_member (codes "equal") keys) (get_member (codes "greater") keys)))
 
 -- relations combined, one after the other
 abbrev pub joined : (Bool → Bool → Bool) → (Data → Result Holds RuleRefusal) → Items → Result Holds RuleRefusal
@@ -68,18 +59,18 @@ abbrev pub negated_in : (Data → Result Holds RuleRefusal) → Data → Result 
 negated_in reading value = reading value >>= (λ negated. Ok (λ view. not (negated view)))
 
 -- the relation that a table describes: by the value under `not`, `and` or `or`, else by a comparison
-abbrev pub described : (Data → Result Holds RuleRefusal) → Members → Option Data → Option Data → Option Data → Result Holds RuleRefusal
-described reading keys (Some value) all any = no_more 1 keys >>= (λ _. negated_in reading value)
-described reading keys None (Some value) any = no_more 1 keys >>= (λ _. joined_in (λ one other. one && other) reading value)
-described reading keys None None (Some value) = no_more 1 keys >>= (λ _. joined_in (λ one other. one || other) reading value)
-described reading keys None None None = comparison_under keys
+abbrev pub described : Items → (Data → Result Holds RuleRefusal) → Members → Option Data → Option Data → Option Data → Result Holds RuleRefusal
+described above reading keys (Some value) all any = no_more 1 keys >>= (λ _. negated_in reading value)
+described above reading keys None (Some value) any = no_more 1 keys >>= (λ _. joined_in (λ one other. one && other) reading value)
+described above reading keys None None (Some value) = no_more 1 keys >>= (λ _. joined_in (λ one other. one || other) reading value)
+described above reading keys None None None = comparison_under above keys
 
 -- the relation that a table describes
-abbrev pub relation_under : (Data → Result Holds RuleRefusal) → Members → Result Holds RuleRefusal
-relation_under reading keys = described reading keys (get_member (codes "not") keys) (get_member (codes "and") keys) (get_member (codes "or") keys)
+abbrev pub relation_under : Items → (Data → Result Holds RuleRefusal) → Members → Result Holds RuleRefusal
+relation_under above reading keys = described above reading keys (get_member (codes "not") keys) (get_member (codes "and") keys) (get_member (codes "or") keys)
 
--- the relation that a value describes, which must be a table, with at most this many levels
-unfoldable pub relation_in : ℕ → Data → Result Holds RuleRefusal
-relation_in zero value = Err (nowhere TooDeep)
-relation_in (suc levels) (table keys) = relation_under (relation_in levels) keys
-relation_in (suc levels) _ = Err (nowhere WrongType)
+-- the relation that a value describes, which must be a table, with at most this many levels; it may name the memories of these tables
+unfoldable pub relation_in : Items → ℕ → Data → Result Holds RuleRefusal
+relation_in above zero value = Err (nowhere TooDeep)
+relation_in above (suc levels) (table keys) = relation_under above (relation_in above levels) keys
+relation_in above (suc levels) _ = Err (nowhere WrongType)

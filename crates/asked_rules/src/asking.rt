@@ -1,26 +1,30 @@
-// The relations that are asked for, and the rules of a file.
+// The relations that are asked for, and what a rules file has.
 
-ghost use Rattle.std.specs.Prelude.{◌≡◌, IfOk, map, option_map};
-ghost use Rattle.asked_rules.specs.Reading.{GivesPlaced, said};
+ghost use Rattle.std.specs.Prelude.{IfOk, map, option_map};
+ghost use Rattle.asked_rules.specs.Reading.{GivesPlaced, said, said_file};
 ghost use Rattle.asked_rules.specs.Asked.{HoldInTurn, SayBoth, walk_given};
 
 use crate::option::{RuleOption, relations_of};
 use crate::refusal::RulesRefusal;
 use crate::rule::NamedRule;
+use crate::rules_file::RulesFile;
 use std::alloc::{AllocError, Global};
 use user_rules::Relation;
 
-/// The rules of a rules file, in its order; none if there is no file.
+/// The memories and the rules of a rules file, in its order; none if there is no file.
 ///
 /// # Errors
 ///
 /// The refusal has the key at which the walk over the text stops, or is that of memory.
-pub fn read_rules(alloc: Global, text: Option<&[u8]>) -> Result<Vec<NamedRule>, RulesRefusal>
-    ensures { GivesPlaced (λ rules. map said rules.items) result (walk_given (option_map (λ text. text.now) text.entry)) }
+pub fn read_rules(alloc: Global, text: Option<&[u8]>) -> Result<RulesFile, RulesRefusal>
+    ensures { GivesPlaced said_file result (walk_given (option_map (λ text. text.now) text.entry)) }
 {
     match text {
         Some(text) => crate::text::read_explained(alloc, text),
-        None => Ok(Vec::new(alloc)),
+        None => Ok(RulesFile {
+            memories: Vec::new(alloc),
+            rules: Vec::new(alloc),
+        }),
     }
 }
 

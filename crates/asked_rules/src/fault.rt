@@ -8,7 +8,7 @@ pub enum RuleFault {
     /// The text is not UTF-8 or not TOML.
     #[error("the text is not TOML")]
     NotToml,
-    /// There is more of something than is accepted: bytes of text, rules, or relations in one list.
+    /// There is more of something than is accepted: bytes of text, memories, rules, or relations in one list.
     #[error("a limit is exceeded")]
     TooMany,
     /// A table has a key that does not belong there.
@@ -20,7 +20,7 @@ pub enum RuleFault {
     /// The value of a key has the wrong type.
     #[error("a value has the wrong type")]
     WrongType,
-    /// The name of a rule is empty, too long or not printable.
+    /// The name of a memory or a rule is empty, too long or not printable.
     #[error("a name is empty, too long or not printable")]
     BadName,
     /// No field has this name.
@@ -29,6 +29,15 @@ pub enum RuleFault {
     /// A name means no number in its field.
     #[error("a name is not a value of its field")]
     UnknownName,
+    /// No memory above has this name.
+    #[error("no memory above has this name")]
+    UnknownMemory,
+    /// An earlier memory has the same name.
+    #[error("an earlier memory has this name")]
+    SameName,
+    /// A memory keeps values neither for the module nor for each core, partition or process.
+    #[error("the value is none of 'module', 'core', 'partition' and 'process'")]
+    UnknownHolder,
     /// A list of relations has none.
     #[error("a list of relations is empty")]
     Empty,
@@ -37,12 +46,15 @@ pub enum RuleFault {
     TooDeep,
 }
 
-/// Why the rules of a text could not be read: a fault of the text, or of the rule of this number, counted from 0.
+/// Why the rules of a text could not be read: a fault of the text, or of the memory or the rule of this number, counted from 0.
 #[derive(Clone, Copy, Debug, Drop, PartialEq, Eq, Error)]
 pub enum RulesFault {
-    /// A fault outside the rules.
+    /// A fault outside the memories and the rules.
     #[error("{0}")]
     File(RuleFault),
+    /// A fault of the memory of this number.
+    #[error("memory {memory}: {fault}")]
+    RuleMemory { memory: usize, fault: RuleFault },
     /// A fault of the rule of this number.
     #[error("rule {rule}: {fault}")]
     Rule { rule: usize, fault: RuleFault },

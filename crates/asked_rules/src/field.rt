@@ -6,7 +6,7 @@ ghost use Rattle.apex_types.specs.Numbers.{out_number};
 ghost use Rattle.apex_types.specs.Services.{service_number};
 ghost use Rattle.record_read.specs.Named.{kind_named, out_named, service_named};
 ghost use Rattle.asked_rules.specs.Names.{field_named, kind_number, number_named};
-ghost use Rattle.asked_rules.specs.Relations.{field_in, number_in};
+ghost use Rattle.asked_rules.specs.Sides.{field_in};
 
 use crate::fault::RuleFault;
 use crate::keys::text;
@@ -20,14 +20,14 @@ pub const FIELD_NAMES: [&'static str; 11] = [
     "kind", "core", "time", "part", "proc", "service", "prio", "out", "val", "elapsed", "woken",
 ];
 
-/// The field whose name a value is.
-pub(crate) fn read_field(value: &Value) -> Result<Field, RuleRefusal>
-    ensures { result ≡ field_in (view value.now) }
+/// The field whose name the value under this key is.
+pub(crate) fn read_field(value: &Value, key: RuleKey) -> Result<Field, RuleRefusal>
+    ensures { result ≡ field_in key (view value.now) }
 {
-    let name = text(value, RuleKey::Field)?;
+    let name = text(value, key)?;
     match find_field(name) {
         Some(field) => Ok(field),
-        None => Err(RuleRefusal::at(RuleKey::Field, RuleFault::UnknownField)),
+        None => Err(RuleRefusal::at(key, RuleFault::UnknownField)),
     }
 }
 
@@ -51,22 +51,8 @@ pub(crate) fn find_field(name: &str) -> Option<Field>
     }
 }
 
-/// The number that a field is compared with: the integer that a value is, or the number that a name means.
-pub(crate) fn read_number(field: Field, value: &Value) -> Result<i64, RuleRefusal>
-    ensures { result ≡ number_in field (view value.now) }
-{
-    if let Some(number) = value.as_integer() {
-        return Ok(number);
-    }
-    let name = text(value, RuleKey::Number)?;
-    match number_named(field, name.as_bytes()) {
-        Some(number) => Ok(number),
-        None => Err(RuleRefusal::at(RuleKey::Number, RuleFault::UnknownName)),
-    }
-}
-
-// The number that a name means in a field.
-fn number_named(field: Field, name: &[u8]) -> Option<i64>
+/// The number that a name means in a field.
+pub(crate) fn number_named(field: Field, name: &[u8]) -> Option<i64>
     ensures { result ≡ number_named field name.now }
 {
     match field {

@@ -1,11 +1,11 @@
 // The values under the keys of a table, each judged by itself.
 
-ghost use Rattle.std.specs.Prelude.{◌≡◌, option_map};
+ghost use Rattle.std.specs.Prelude.{◌≡◌, ◌≤◌, option_map};
 ghost use Rattle.std.specs.List.{list_all};
 ghost use Rattle.toml.specs.Data.{get_member};
 ghost use Rattle.toml.specs.View.{view, table_view, items_view};
 ghost use Rattle.record_read.specs.Payload.{is_printable};
-ghost use Rattle.asked_rules.specs.Keys.{Reads, is_name, list_in, member_count, name_in, no_more, required, text_in};
+ghost use Rattle.asked_rules.specs.Keys.{Reads, given, is_name, list_in, member_count, name_in, no_more, required, text_in};
 
 use crate::fault::RuleFault;
 use crate::refusal::{RuleKey, RuleRefusal};
@@ -17,6 +17,17 @@ pub(crate) fn member<'a>(table: &'a Table, key: &str) -> Option<&'a Value>
     ensures { option_map (λ value. view value.now) result ≡ get_member key.now (table_view table.now) }
 {
     table.get(key)
+}
+
+/// 1 if the key is there, else 0.
+pub(crate) fn given(table: &Table, key: &str) -> usize
+    ensures value { result ≡ given (get_member key.now (table_view table.now)) }
+    ensures few { result ≤ 1 }
+{
+    match member(table, key) {
+        Some(_) => 1,
+        None => 0,
+    }
 }
 
 /// The value under the key of this text, which must be there.

@@ -22,16 +22,16 @@
 //!
 //! # The rules of a file
 //!
-//! Named rules over the views of records, read from a TOML text.
+//! Named memories and named rules over the views of records, read from a TOML text.
 //!
-//! Promises: apart from a lack of memory, the rules are exactly those that the text gives, in its order, each with its name and a relation
-//! that holds for exactly the views for which the text says so; or the refusal is the first of the text. No text exhausts the stack: a
-//! relation has at most 16 levels, and a list of relations has at most 64 of them.
+//! Promises: apart from a lack of memory, the memories and the rules are exactly those that the text gives, in its order, each with its
+//! name and relations that hold for exactly the views for which the text says so; or the refusal is the first of the text. A relation names
+//! only memories above it. No text exhausts the stack: a relation has at most 16 levels, and a list of relations has at most 64 of them.
 //!
-//! A definition states what a text says: the name of each rule, and the views that it holds of (`rules_of`). `read_explained` gives a
-//! refusal the key at which the walk over the text stops (`walk_of`). Contracts see a relation of code as the views that meet it. If memory
-//! runs out, the walk goes on without building, so a refusal does not depend on memory. Kinds, services and outcomes are found by the names
-//! that `record_read` knows. The program reads the file of `--rules` with this crate.
+//! A definition states what a text says: the name of each memory and of each rule, what is kept, and the views that are meant (`rules_of`).
+//! `read_explained` gives a refusal the key at which the walk over the text stops (`walk_of`). Contracts see a relation of code as the
+//! views that meet it. If memory runs out, the walk goes on without building, so a refusal does not depend on memory. Kinds, services and
+//! outcomes are found by the names that `record_read` knows. The program reads the file of `--rules` with this crate.
 #![tactic(auto)]
 
 mod asking;
@@ -39,10 +39,13 @@ mod fault;
 mod field;
 mod given;
 mod keys;
+mod memory;
 mod option;
 mod refusal;
 mod relation;
 mod rule;
+mod rules_file;
+mod side;
 mod text;
 
 pub use asking::{all_relations, read_rules};
@@ -52,4 +55,5 @@ pub use given::RuleOptions;
 pub use option::{RuleOption, relations_of};
 pub use refusal::{RuleKey, RulesRefusal};
 pub use rule::NamedRule;
+pub use rules_file::RulesFile;
 pub use text::{read, read_explained};

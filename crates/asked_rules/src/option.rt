@@ -6,7 +6,7 @@ ghost use Rattle.asked_rules.specs.Options.{SayInTurn, Says};
 use apex_types::{Field, Service};
 use std::alloc::{AllocError, Global};
 use std::{fmt, str};
-use user_rules::Relation;
+use user_rules::{Quantity, Relation};
 
 // The number that a view of a call has for its kind.
 const CALL: i64 = 0;
@@ -26,10 +26,16 @@ impl RuleOption {
         ensures { IfOk result (λ relation. Says self relation) }
     {
         let broken = match self {
-            RuleOption::MaxElapsed(ticks) => Relation::Greater(Field::Elapsed, ticks as i64),
+            RuleOption::MaxElapsed(ticks) => Relation::Greater(
+                Quantity::Field(Field::Elapsed),
+                Quantity::Number(ticks as i64),
+            ),
             RuleOption::Forbid(service) => {
-                let call = Relation::Equal(Field::Kind, CALL);
-                let of_service = Relation::Equal(Field::Service, service.number() as i64);
+                let call = Relation::Equal(Quantity::Field(Field::Kind), Quantity::Number(CALL));
+                let of_service = Relation::Equal(
+                    Quantity::Field(Field::Service),
+                    Quantity::Number(service.number() as i64),
+                );
                 Relation::And(Box::new(alloc, call)?, Box::new(alloc, of_service)?)
             }
         };

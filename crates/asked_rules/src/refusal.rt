@@ -16,6 +16,12 @@ pub enum RuleKey {
     Field,
     /// That of `less`, `equal` and `greater` which a comparison has.
     Number,
+    /// The list of memories, or the memory that is compared.
+    Memory,
+    /// That of `since`, `count` and `last` which a memory has.
+    Keeps,
+    Take,
+    Per,
 }
 
 /// The key in quotes, as it is written in a rules file.
@@ -27,11 +33,15 @@ impl fmt::Display for RuleKey {
             RuleKey::Holds => write!(f, "'holds'"),
             RuleKey::Field => write!(f, "'field'"),
             RuleKey::Number => write!(f, "'less', 'equal' or 'greater'"),
+            RuleKey::Memory => write!(f, "'memory'"),
+            RuleKey::Keeps => write!(f, "'since', 'count' or 'last'"),
+            RuleKey::Take => write!(f, "'take'"),
+            RuleKey::Per => write!(f, "'per'"),
         }
     }
 }
 
-/// Why a rule, or the text outside the rules, is refused, and at which key.
+/// Why a memory, a rule, or the text outside them, is refused, and at which key.
 #[derive(Clone, Copy, Debug, Drop)]
 pub(crate) struct RuleRefusal {
     pub(crate) fault: RuleFault,
@@ -59,8 +69,8 @@ impl RuleRefusal {
 
 /// Why the rules of a text could not be read, and at which key.
 ///
-/// `key` is the key at which the walk over the text stops: the key that is missing, or the key among `name`, `field`, `less`, `equal` and
-/// `greater` whose value is refused. It is None for every other fault.
+/// `key` is the key at which the walk over the text stops: the key that is missing, or the key among `name`, `field`, `memory`, `less`,
+/// `equal`, `greater`, `take` and `per` whose value is refused. It is None for every other fault.
 #[derive(Clone, Copy, Debug, Drop, PartialEq, Eq)]
 pub struct RulesRefusal {
     pub fault: RulesFault,
@@ -76,11 +86,17 @@ impl RulesRefusal {
     }
 }
 
-/// The refusal in words. A rule is shown by its number, counted from 0, and by which `[[rule]]` of the file it is, counted from 1.
+/// The refusal in words. A memory or a rule is shown by its number, counted from 0, and by which `[[memory]]` or `[[rule]]` of the file it
+/// is, counted from 1.
 impl fmt::Display for RulesRefusal {
     fn fmt<W: fmt::Write>(&self, f: &mut fmt::Formatter<W>) -> fmt::Result {
         match self.fault {
             RulesFault::File(fault) => write_fault(f, fault, self.key),
+            RulesFault::RuleMemory { memory, fault } => {
+                let nth = memory.saturating_add(1);
+                write!(f, "memory {memory} ([[memory]] {nth} of the file): ")?;
+                write_fault(f, fault, self.key)
+            }
             RulesFault::Rule { rule, fault } => {
                 let nth = rule.saturating_add(1);
                 write!(f, "rule {rule} ([[rule]] {nth} of the file): ")?;

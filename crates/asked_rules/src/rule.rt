@@ -1,7 +1,7 @@
 // A rule with its name.
 
 ghost use Rattle.std.specs.Prelude.{◌≡◌, IfSome, Some, string_bytes};
-ghost use Rattle.toml.specs.View.{view, table_view};
+ghost use Rattle.toml.specs.View.{view, table_view, items_view};
 ghost use Rattle.asked_rules.specs.Keys.{Builds};
 ghost use Rattle.asked_rules.specs.Reading.{rule_in, rule_under, said};
 
@@ -22,24 +22,32 @@ pub struct NamedRule {
 }
 
 impl NamedRule {
-    /// The rule that a value describes; none if memory ran out.
-    pub(crate) fn read(alloc: Global, value: &Value) -> Result<Option<NamedRule>, RuleRefusal>
-        ensures { Builds said result (rule_in (view value.now)) }
+    /// The rule that a value describes; none if memory ran out. It may name the memories of these tables.
+    pub(crate) fn read(
+        alloc: Global,
+        memories: &[Value],
+        value: &Value,
+    ) -> Result<Option<NamedRule>, RuleRefusal>
+        ensures { Builds said result (rule_in (items_view memories.now) (view value.now)) }
     {
         match value.as_table() {
-            Some(keys) => NamedRule::from_table(alloc, keys),
+            Some(keys) => NamedRule::from_table(alloc, memories, keys),
             None => Err(RuleRefusal::nowhere(RuleFault::WrongType)),
         }
     }
 
     // The rule that a table describes.
-    fn from_table(alloc: Global, keys: &Table) -> Result<Option<NamedRule>, RuleRefusal>
-        ensures { Builds said result (rule_under (table_view keys.now)) }
+    fn from_table(
+        alloc: Global,
+        memories: &[Value],
+        keys: &Table,
+    ) -> Result<Option<NamedRule>, RuleRefusal>
+        ensures { Builds said result (rule_under (items_view memories.now) (table_view keys.now)) }
     {
         no_more(keys, 2)?;
         let name = name(required(keys, "name", RuleKey::Name)?)?;
         let holds = required(keys, "holds", RuleKey::Holds)?;
-        let relation = read_relation(alloc, holds, MOST_LEVELS as u8)?;
+        let relation = read_relation(alloc, memories, holds, MOST_LEVELS as u8)?;
         Ok(named(alloc, name, relation))
     }
 }

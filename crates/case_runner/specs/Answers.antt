@@ -12,6 +12,7 @@ use Rattle.report.specs.Text.{outcome_status_of, report_of}
 use Rattle.asked_rules.specs.declared.option.RuleOption.{RuleOption}
 use Rattle.asked_rules.specs.Options.{SayInTurn}
 use Rattle.user_rules.specs.declared.relation.Relation.{Relation}
+use Rattle.user_rules.specs.Remembered.{required_by}
 use Rattle.case_runner.specs.declared.manner.Named.{Named}
 
 -- what a check reported: the line without its line feed, the lines of the last records with theirs, and the exit status
@@ -47,7 +48,7 @@ pub record IsReportOf (settings : Settings) (texts : Texts) (options : List Rule
   pub asked : SayInTurn options relations
   pub outcome : Result Verdict CheckFault
   pub items : List LastItem
-  pub answer : IsAnswer settings texts in_memory relations outcome items
+  pub answer : IsAnswer settings texts in_memory (required_by [] relations) outcome items
   pub line : found.line ++ 10 ∷ [] ≡ report_of outcome
   pub last : found.last ≡ last_lines items
   pub status : found.status ≡ outcome_status_of outcome

@@ -90,6 +90,7 @@ where
         rt,
         alloc,
         inputs,
+        &[],
         relations,
         options,
         &mut last,

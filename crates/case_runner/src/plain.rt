@@ -110,7 +110,10 @@ fn verdict_over(
     let mut rules = Vec::new(alloc);
     for relation in relations_of(alloc, options)? {
         let tested = relation.clone()?;
-        let test: Test = Box::new(alloc, move |view: &View| tested.holds(view))?;
+        let test: Test = Box::new(
+            alloc,
+            move |view: &View, values: &[i64]| tested.holds(view, values),
+        )?;
         rules.push(Rule::new(relation, test))?;
     }
     match check_plain(alloc, config, records, &rules) {

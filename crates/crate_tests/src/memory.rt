@@ -15,7 +15,7 @@ fn ample_memory_is_enough(rt: HostRuntime) -> Result<(), Fail> {
             let settings = Settings { workers, depth };
             let readers = vec![in alloc; Cursor::new(asking(alloc, times)?)]?;
             let order = Cursor::new(in_turn(alloc, records)?);
-            let outcome = check(rt, alloc, CONFIG, readers, order, &[], settings, &Open);
+            let outcome = check(rt, alloc, CONFIG, readers, order, &[], &[], settings, &Open);
             assert_eq!(rt;
                 outcome,
                 Ok(Verdict::Yes {

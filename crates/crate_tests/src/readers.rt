@@ -77,7 +77,7 @@ where
 {
     let readers = vec![in alloc; reader_of(RECORDING.as_bytes(), step, rows)]?;
     let order = reader_of(ORDER, step, pairs);
-    Ok(check(rt, alloc, CONFIG, readers, order, &[], settings, &Open))
+    Ok(check(rt, alloc, CONFIG, readers, order, &[], &[], settings, &Open))
 }
 
 #[test]
@@ -129,7 +129,7 @@ fn one_reader_of_two_fails(rt: HostRuntime) -> Result<(), Fail> {
                     reader_of(sender, step, first),
                     reader_of(receiver, step, second),
                 ]?;
-                let outcome = check(rt, alloc, MODULE, readers, BOTH, &[], settings, &Open);
+                let outcome = check(rt, alloc, MODULE, readers, BOTH, &[], &[], settings, &Open);
                 let failed = failed_row(core, text, given);
                 assert_eq!(rt;
                     outcome,

@@ -34,6 +34,7 @@ fn two_claims_meet(rt: HostRuntime) -> Result<(), Fail> {
                 readers,
                 BOTH,
                 &[],
+                &[],
                 settings,
                 &gate,
                 size,
@@ -53,7 +54,7 @@ fn every_two_claims_meet(rt: HostRuntime) -> Result<(), Fail> {
         for second in first + 1..5 {
             let gate = Meeting::of_two(first, second);
             let readers = vec![in alloc; SENDER.as_bytes(), RECEIVER.as_bytes()]?;
-            let outcome = check(rt, alloc, MODULE, readers, BOTH, &[], SETTINGS, &gate);
+            let outcome = check(rt, alloc, MODULE, readers, BOTH, &[], &[], SETTINGS, &gate);
             assert_eq!(rt; outcome, Ok(SENT), "{first} and {second}");
             assert_eq!(rt; gate.met(), 2, "{first} and {second}");
         }
@@ -72,7 +73,7 @@ fn two_claims_meet_in_both_rounds(rt: HostRuntime) -> Result<(), Fail> {
     };
     let readers = vec![in alloc; Cursor::new(asking(alloc, 2045)?)]?;
     let order = Cursor::new(in_turn(alloc, 4097)?);
-    let outcome = check(rt, alloc, CONFIG, readers, order, &[], settings, &gate);
+    let outcome = check(rt, alloc, CONFIG, readers, order, &[], &[], settings, &gate);
     assert_eq!(rt; outcome, Ok(Verdict::Yes { records: 4097 }));
     assert_eq!(rt; gate.met(), 4);
     Ok(())
@@ -111,7 +112,7 @@ fn two_readers_meet(rt: HostRuntime) -> Result<(), Fail> {
         };
         let readers = vec![in alloc; Watched::new(sender), Watched::new(receiver)]?;
         let settings = Settings { workers, depth: 1 };
-        let outcome = check(rt, alloc, MODULE, readers, BOTH, &[], settings, &Open);
+        let outcome = check(rt, alloc, MODULE, readers, BOTH, &[], &[], settings, &Open);
         assert_eq!(rt; outcome, Ok(SENT), "workers: {workers}");
     }
     Ok(())

@@ -13,7 +13,7 @@ use std::alloc::{AllocError, Global};
 use std::sync::Wait;
 use std::test::Fail;
 use std::thread::Threads;
-use user_rules::{Relation, Rule};
+use user_rules::{Quantity, Relation, Rule};
 use verdict_merge::check_plain;
 
 const LINES: &str = "\
@@ -58,7 +58,16 @@ where
 {
     let readers = vec![in alloc; text.as_bytes()]?;
     Ok(check_with_last(
-        rt, alloc, CONFIG, readers, ORDER, rules, SETTINGS, &Open, last,
+        rt,
+        alloc,
+        CONFIG,
+        readers,
+        ORDER,
+        &[],
+        rules,
+        SETTINGS,
+        &Open,
+        last,
     ))
 }
 
@@ -132,7 +141,17 @@ where
     T: Threads + Wait + Sync + Copy + Send + 'static,
 {
     let readers = vec![in alloc; RECORDING.as_bytes()]?;
-    Ok(check(rt, alloc, CONFIG, readers, ORDER, rules, settings, &Open))
+    Ok(check(
+        rt,
+        alloc,
+        CONFIG,
+        readers,
+        ORDER,
+        &[],
+        rules,
+        settings,
+        &Open,
+    ))
 }
 
 // The same, by `check_in_rounds`.
@@ -145,7 +164,18 @@ where
     T: Threads + Wait + Sync + Copy + Send + 'static,
 {
     let readers = vec![in alloc; RECORDING.as_bytes()]?;
-    Ok(check_in_rounds(rt, alloc, CONFIG, readers, ORDER, rules, SETTINGS, &Open, 5))
+    Ok(check_in_rounds(
+        rt,
+        alloc,
+        CONFIG,
+        readers,
+        ORDER,
+        &[],
+        rules,
+        SETTINGS,
+        &Open,
+        5,
+    ))
 }
 
 // Each of the calls under the rule that no call takes more than this many ticks until its return. One call of the recording takes three.
@@ -158,7 +188,7 @@ fn each_call_tests_rules(rt: HostRuntime) -> Result<(), Fail> {
     };
     let mut last = Last::new(alloc)?;
     for (ticks, verdict) in [(2i64, broken), (3, WAITED)] {
-        let relation = Relation::Less(Field::Elapsed, ticks + 1);
+        let relation = Relation::Less(Quantity::Field(Field::Elapsed), Quantity::Number(ticks + 1));
         let rules = vec![in alloc; rule!(alloc, relation)]?;
         let answer = by_check(rt, alloc, &rules, SETTINGS)?;
         assert_eq!(rt; answer, Ok(verdict), "check");
@@ -179,12 +209,18 @@ fn many_rules_find_what_one_finds(rt: HostRuntime) -> Result<(), Fail> {
     for (others, workers) in [(0, 1), (0, 4), (199, 1), (199, 4)] {
         let mut rules = Vec::new(alloc);
         for _ in 0..others {
-            rules.push(rule!(alloc, Relation::Less(Field::Elapsed, 4)))?;
+            rules.push(rule!(
+                alloc,
+                Relation::Less(Quantity::Field(Field::Elapsed), Quantity::Number(4))
+            ))?;
         }
         let settings = Settings { workers, depth: 4 };
         let answer = by_check(rt, alloc, &rules, settings)?;
         assert_eq!(rt; answer, Ok(WAITED), "rules: {others}, workers: {workers}");
-        rules.push(rule!(alloc, Relation::Less(Field::Elapsed, 3)))?;
+        rules.push(rule!(
+            alloc,
+            Relation::Less(Quantity::Field(Field::Elapsed), Quantity::Number(3))
+        ))?;
         let answer = by_check(rt, alloc, &rules, settings)?;
         let broken = Verdict::Broken {
             pos: Place::new(13),

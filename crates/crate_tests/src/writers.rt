@@ -54,7 +54,7 @@ fn writers_fail(rt: HostRuntime) -> Result<(), Fail> {
         (b"9,0", "REFUSED order place=0 core=9 fault=NoSuchCore\n"),
     ] {
         let readers = vec![in alloc; RECORDING.as_bytes()]?;
-        let outcome = check(rt, alloc, CONFIG, readers, order, &[], SETTINGS, &Open);
+        let outcome = check(rt, alloc, CONFIG, readers, order, &[], &[], SETTINGS, &Open);
         for room in 0..line.len().saturating_add(1) {
             let mut taken = Vec::new(alloc);
             let mut sink = WriterSink::new(Narrow {

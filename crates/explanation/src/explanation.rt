@@ -1,8 +1,9 @@
 // What explains a No, from the witness of a check.
 
-use crate::broken::tell_view;
+use crate::broken::{Seen, tell_view};
 use crate::demand::tell_demand;
 use crate::evidence::tell_evidence;
+use crate::memories::MemoryValue;
 use crate::other_core::tell_other_core;
 use crate::refusal::Refusal;
 use crate::through::tell_channel;
@@ -10,7 +11,7 @@ use apex_types::{Cause, CoreId, Ordered, View};
 use module_config::Config;
 use piece_check::{Evidence, Piece, Subject};
 use std::alloc::Global;
-use user_rules::Relation;
+use user_rules::{Relation, RuleMemory};
 use wording::{Ascii, Numbered, Part, Words, tell_record};
 
 /// A record by its core and its number there.
@@ -25,6 +26,7 @@ pub struct RecordNumber {
 pub struct Explanation {
     record: Option<RecordNumber>,
     view: Option<View>,
+    values: Vec<MemoryValue>,
     words: Words,
 }
 
@@ -34,6 +36,7 @@ impl Explanation {
         Explanation {
             record: None,
             view: None,
+            values: Vec::new(alloc),
             words: Words::new(alloc),
         }
     }
@@ -43,10 +46,15 @@ impl Explanation {
         self.record
     }
 
-    /// Adds the fields of the record's view that this relation mentions, if the record breaks a rule.
-    pub fn tell_fields(&mut self, relation: &Relation) {
+    /// Adds the fields of the record's view and the values of these memories that this relation mentions, if the record breaks a rule.
+    pub fn tell_fields(&mut self, memories: &[RuleMemory], relation: &Relation) {
         if let Some(view) = &self.view {
-            tell_view(&mut self.words, view, relation);
+            let seen = Seen {
+                view,
+                memories,
+                values: &self.values,
+            };
+            tell_view(&mut self.words, &seen, relation);
         }
     }
 
@@ -73,10 +81,11 @@ impl Explanation {
         tell_refusal(&mut self.words, &refusal);
     }
 
-    /// Records that the view of this record breaks a rule.
-    pub fn tell_broken(&mut self, ordered: &Ordered, view: &View) {
+    /// Records that the view of this record, with these values of the memories at it, breaks a rule.
+    pub fn tell_broken(&mut self, ordered: &Ordered, view: &View, values: Vec<MemoryValue>) {
         self.begin(ordered);
         self.view = Some(*view);
+        self.values = values;
     }
 
     // Begins the explanation of a record.

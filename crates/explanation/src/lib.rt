@@ -6,7 +6,7 @@
 //!
 //! `Explanation` receives the record and the piece that rejects it, as the piece was before the record. It writes what the record says, the
 //! evidence of the failed demand, and what the piece holds. It works out no condition and no rule: each variant of `Evidence` has a
-//! function here (`evidence.rt`). At a broken rule it receives the record and its view.
+//! function here (`evidence.rt`). At a broken rule it receives the record, its view and the values of memories at it.
 //!
 //! The files are by subject: the demands by their causes, the module, the choice, pending outcomes, priorities, who is named wrongly,
 //! claims beside what the rules give, messages from and to the outside, error conditions, objects, locks and channels, uses outside the
@@ -32,6 +32,7 @@ mod evidence;
 mod explanation;
 mod held;
 mod judged;
+mod memories;
 mod module;
 mod other_core;
 mod outside;
@@ -42,3 +43,4 @@ mod refusal;
 mod through;
 
 pub use explanation::{Explanation, RecordNumber};
+pub use memories::{MemoryValue, values_at};

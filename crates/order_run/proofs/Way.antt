@@ -14,7 +14,7 @@ use Rattle.placement.specs.Scan.{placed_at}
 use Rattle.record_read.specs.Row.{Item, records_of}
 use Rattle.sink.specs.Taken.{with_more}
 use Rattle.sink.specs.Written.{IsCut, IsWritten}
-use Rattle.user_rules.specs.declared.relation.Relation.{Relation}
+use Rattle.user_rules.specs.Remembered.{Requirements, required_by}
 use Rattle.verdict_merge.specs.Verdicts.{IsVerdict}
 use Rattle.order_run.specs.declared.proposal.Proposal.{Proposal}
 use Rattle.order_run.specs.declared.proposal.ProposalFault.{ProposalFault}
@@ -38,9 +38,9 @@ more_twice None first second = refl
 more_twice (Some bytes) first second = ap Some (append_assoc bytes first second)
 
 -- the start
-pub way_first : (configuration : Configuration) (relations : List Relation) (run : Run) (start : Lefts) (bytes : Option (List ℕ)) → HasPut configuration relations run [] [] [] → run.round.items ≡ []
-    → taken_of run.keeper ≡ none_taken → place_of run.keeper ≡ 0 → length start ≡ configuration.cores → IsUnderWay configuration relations bytes start run start bytes
-way_first configuration relations run start bytes so_far empty taken place cores = record {
+pub way_first : (configuration : Configuration) (requirements : Requirements) (run : Run) (start : Lefts) (bytes : Option (List ℕ)) → HasPut configuration requirements run [] [] [] → run.round.items ≡ []
+    → taken_of run.keeper ≡ none_taken → place_of run.keeper ≡ 0 → length start ≡ configuration.cores → IsUnderWay configuration requirements bytes start run start bytes
+way_first configuration requirements run start bytes so_far empty taken place cores = record {
   settled = [];
   waiting = [];
   before = [];
@@ -51,11 +51,11 @@ way_first configuration relations run start bytes so_far empty taken place cores
 }
 
 -- the rows of a round were written
-pub way_settled : (configuration : Configuration) (relations : List Relation) (bytes : Option (List ℕ)) (start : Lefts) (run new : Run) (lefts : Lefts) (now after : Option (List ℕ))
-    → IsUnderWay configuration relations bytes start run lefts now
-    → ((settled waiting : List Pair) (before : List Ordered) → HasPut configuration relations run settled waiting before → HasPut configuration relations new (settled ++ waiting) [] (before ++ run.round.items))
-    → new.keeper ≡ run.keeper → new.round.items ≡ [] → IsWritten now run.text.items after → IsUnderWay configuration relations bytes start new lefts after
-way_settled configuration relations bytes start run new lefts now after way settles keeper empty whole = record {
+pub way_settled : (configuration : Configuration) (requirements : Requirements) (bytes : Option (List ℕ)) (start : Lefts) (run new : Run) (lefts : Lefts) (now after : Option (List ℕ))
+    → IsUnderWay configuration requirements bytes start run lefts now
+    → ((settled waiting : List Pair) (before : List Ordered) → HasPut configuration requirements run settled waiting before → HasPut configuration requirements new (settled ++ waiting) [] (before ++ run.round.items))
+    → new.keeper ≡ run.keeper → new.round.items ≡ [] → IsWritten now run.text.items after → IsUnderWay configuration requirements bytes start new lefts after
+way_settled configuration requirements bytes start run new lefts now after way settles keeper empty whole = record {
   settled = way.settled ++ way.waiting;
   waiting = [];
   before = way.before ++ run.round.items;
@@ -71,15 +71,15 @@ way_settled configuration relations bytes start run new lefts now after way sett
 }
 
 -- a record was put next
-pub way_put : (configuration : Configuration) (relations : List Relation) (bytes : Option (List ℕ)) (start : Lefts) (run new : Run) (lefts after : Lefts) (now : Option (List ℕ)) (core : ℕ) (rec : Record)
-    → IsUnderWay configuration relations bytes start run lefts now → IsTaken core lefts (Some rec) after
-    → ((settled waiting : List Pair) (before : List Ordered) → HasPut configuration relations run settled waiting before
-    → HasPut configuration relations new settled (waiting ++ pair_of core (taken_of run.keeper core) ∷ []) before)
+pub way_put : (configuration : Configuration) (requirements : Requirements) (bytes : Option (List ℕ)) (start : Lefts) (run new : Run) (lefts after : Lefts) (now : Option (List ℕ)) (core : ℕ) (rec : Record)
+    → IsUnderWay configuration requirements bytes start run lefts now → IsTaken core lefts (Some rec) after
+    → ((settled waiting : List Pair) (before : List Ordered) → HasPut configuration requirements run settled waiting before
+    → HasPut configuration requirements new settled (waiting ++ pair_of core (taken_of run.keeper core) ∷ []) before)
     → new.round.items ≡ run.round.items ++ placed_at (place_of run.keeper) core rec ∷ []
     → misplaced run.keeper.cores (taken_of run.keeper) (pair_of core (taken_of run.keeper core)) ≡ None
     → taken_of new.keeper ≡ put (taken_of run.keeper) core (suc (taken_of run.keeper core)) → place_of new.keeper ≡ suc (place_of run.keeper)
-    → IsUnderWay configuration relations bytes start new after now
-way_put configuration relations bytes start run new lefts after now core rec way is puts round fits taken place =
+    → IsUnderWay configuration requirements bytes start new after now
+way_put configuration requirements bytes start run new lefts after now core rec way is puts round fits taken place =
     let pair : Pair = pair_of core (taken_of run.keeper core) in
     let ordered : Ordered = placed_at (place_of run.keeper) core rec in
     let may = subst (λ cores. misplaced cores (taken_of run.keeper) pair ≡ None) way.so_far.cores fits in
@@ -98,9 +98,9 @@ way_put configuration relations bytes start run new lefts after now core rec way
     }
 
 -- the recording of a core has ended
-pub way_end : (configuration : Configuration) (relations : List Relation) (bytes : Option (List ℕ)) (start : Lefts) (run : Run) (lefts after : Lefts) (now : Option (List ℕ)) (core : ℕ)
-    → IsUnderWay configuration relations bytes start run lefts now → IsTaken core lefts None after → IsUnderWay configuration relations bytes start run after now
-way_end configuration relations bytes start run lefts after now core way is = record {
+pub way_end : (configuration : Configuration) (requirements : Requirements) (bytes : Option (List ℕ)) (start : Lefts) (run : Run) (lefts after : Lefts) (now : Option (List ℕ)) (core : ℕ)
+    → IsUnderWay configuration requirements bytes start run lefts now → IsTaken core lefts None after → IsUnderWay configuration requirements bytes start run after now
+way_end configuration requirements bytes start run lefts after now core way is = record {
   settled = way.settled;
   waiting = way.waiting;
   before = way.before;
@@ -113,9 +113,9 @@ way_end configuration relations bytes start run lefts after now core way is = re
 -- what was written is a prefix
 
 -- the pairs that were put list the first records of the recordings
-lists_first : (configuration : Configuration) (relations : List Relation) (bytes : Option (List ℕ)) (start : Lefts) (run : Run) (lefts : Lefts) (now : Option (List ℕ))
-    → (way : IsUnderWay configuration relations bytes start run lefts now) → ListsFirst configuration.cores start (way.settled ++ way.waiting)
-lists_first configuration relations bytes start run lefts now way = λ items known.
+lists_first : (configuration : Configuration) (requirements : Requirements) (bytes : Option (List ℕ)) (start : Lefts) (run : Run) (lefts : Lefts) (now : Option (List ℕ))
+    → (way : IsUnderWay configuration requirements bytes start run lefts now) → ListsFirst configuration.cores start (way.settled ++ way.waiting)
+lists_first configuration requirements bytes start run lefts now way = λ items known.
     let leads = way.leads items known in (
       leads.taken,
       (λ core. (leads.left core, leads.split core)),
@@ -123,21 +123,21 @@ lists_first configuration relations bytes start run lefts now way = λ items kno
           ((whole_is_lawful run.keeper (way.settled ++ way.waiting) (λ core. length (leads.taken core)) way.so_far.follows).0 (λ core within. sym (leads.counts core))),
     )
 
-pub way_begun : (configuration : Configuration) (relations : List Relation) (bytes : Option (List ℕ)) (start : Lefts) (run : Run) (lefts : Lefts) (now : Option (List ℕ))
-    → IsUnderWay configuration relations bytes start run lefts now → HasBegun configuration bytes start now
-way_begun configuration relations bytes start run lefts now way = (
+pub way_begun : (configuration : Configuration) (requirements : Requirements) (bytes : Option (List ℕ)) (start : Lefts) (run : Run) (lefts : Lefts) (now : Option (List ℕ))
+    → IsUnderWay configuration requirements bytes start run lefts now → HasBegun configuration bytes start now
+way_begun configuration requirements bytes start run lefts now way = (
   way.settled ++ way.waiting,
   subst (λ cores. IsPrefixOfLawful cores (way.settled ++ way.waiting)) way.so_far.cores way.so_far.follows.lawful,
-  lists_first configuration relations bytes start run lefts now way,
+  lists_first configuration requirements bytes start run lefts now way,
   (rows_of way.settled, rows_of way.waiting, rows_append way.settled way.waiting, way.written),
 )
 
-pub way_cut : (configuration : Configuration) (relations : List Relation) (bytes : Option (List ℕ)) (start : Lefts) (run : Run) (lefts : Lefts) (now after : Option (List ℕ))
-    → IsUnderWay configuration relations bytes start run lefts now → IsCut now run.text.items after → HasBegun configuration bytes start after
-way_cut configuration relations bytes start run lefts now after way (front, back, text, is) = (
+pub way_cut : (configuration : Configuration) (requirements : Requirements) (bytes : Option (List ℕ)) (start : Lefts) (run : Run) (lefts : Lefts) (now after : Option (List ℕ))
+    → IsUnderWay configuration requirements bytes start run lefts now → IsCut now run.text.items after → HasBegun configuration bytes start after
+way_cut configuration requirements bytes start run lefts now after way (front, back, text, is) = (
   way.settled ++ way.waiting,
   subst (λ cores. IsPrefixOfLawful cores (way.settled ++ way.waiting)) way.so_far.cores way.so_far.follows.lawful,
-  lists_first configuration relations bytes start run lefts now way,
+  lists_first configuration requirements bytes start run lefts now way,
   (
     rows_of way.settled ++ front,
     back,
@@ -149,28 +149,28 @@ way_cut configuration relations bytes start run lefts now after way (front, back
 -- the end
 
 -- all rows were written
-pub way_whole : (configuration : Configuration) (relations : List Relation) (bytes : Option (List ℕ)) (start : Lefts) (run : Run) (lefts : Lefts) (now after : Option (List ℕ))
-    → IsUnderWay configuration relations bytes start run lefts now → IsWritten now run.text.items after
+pub way_whole : (configuration : Configuration) (requirements : Requirements) (bytes : Option (List ℕ)) (start : Lefts) (run : Run) (lefts : Lefts) (now after : Option (List ℕ))
+    → IsUnderWay configuration requirements bytes start run lefts now → IsWritten now run.text.items after
     → (pairs : List Pair) × IsPrefixOfLawful configuration.cores pairs × ListsFirst configuration.cores start pairs × IsWritten bytes (rows_of pairs) after
-way_whole configuration relations bytes start run lefts now after way whole = (
+way_whole configuration requirements bytes start run lefts now after way whole = (
   way.settled ++ way.waiting,
   subst (λ cores. IsPrefixOfLawful cores (way.settled ++ way.waiting)) way.so_far.cores way.so_far.follows.lawful,
-  lists_first configuration relations bytes start run lefts now way,
+  lists_first configuration requirements bytes start run lefts now way,
   whole ∙ ap (λ known. with_more known run.text.items) way.written ∙ ap (with_more (with_more bytes (rows_of way.settled))) way.so_far.text
       ∙ more_twice bytes (rows_of way.settled) (rows_of way.waiting) ∙ ap (with_more bytes) (sym (rows_append way.settled way.waiting)),
 )
 
 -- what was put is a proposal
-pub way_ends : (configuration : Configuration) (relations : List Relation) (texts : List (List ℕ)) (bytes : Option (List ℕ)) (start : Lefts) (run new : Run) (lefts : Lefts) (now after : Option (List ℕ)) (proposal : Proposal)
-    → IsUnderWay configuration relations bytes start run lefts now → start ≡ map (λ text. Some (records_of text)) texts
+pub way_ends : (configuration : Configuration) (requirements : Requirements) (texts : List (List ℕ)) (bytes : Option (List ℕ)) (start : Lefts) (run new : Run) (lefts : Lefts) (now after : Option (List ℕ)) (proposal : Proposal)
+    → IsUnderWay configuration requirements bytes start run lefts now → start ≡ map (λ text. Some (records_of text)) texts
     → ((core : ℕ) → core < configuration.cores → HasEnded lefts core) → WindowsAreConfigured configuration → EndsAreApart configuration
-    → ((settled waiting : List Pair) (before : List Ordered) → HasPut configuration relations run settled waiting before → HasPut configuration relations new (settled ++ waiting) [] (before ++ run.round.items))
+    → ((settled waiting : List Pair) (before : List Ordered) → HasPut configuration requirements run settled waiting before → HasPut configuration requirements new (settled ++ waiting) [] (before ++ run.round.items))
     → IsWritten now run.text.items after
-    → ((pairs : List Pair) (before : List Ordered) → HasPut configuration relations new pairs [] before → IsVerdict configuration relations before (verdict_of proposal))
-    → ((pairs : List Pair) (before : List Ordered) → HasPut configuration relations new pairs [] before → IsVerdict configuration [] before (order_verdict_of proposal))
-    → (certificate : List ℕ) × IsWritten bytes certificate after × IsProposed configuration relations texts certificate proposal
+    → ((pairs : List Pair) (before : List Ordered) → HasPut configuration requirements new pairs [] before → IsVerdict configuration requirements before (verdict_of proposal))
+    → ((pairs : List Pair) (before : List Ordered) → HasPut configuration requirements new pairs [] before → IsVerdict configuration (required_by [] []) before (order_verdict_of proposal))
+    → (certificate : List ℕ) × IsWritten bytes certificate after × IsProposed configuration requirements texts certificate proposal
 unfolding way_whole
-way_ends configuration relations texts bytes start run new lefts now after proposal way opened ended windows ends settles whole verdict order =
+way_ends configuration requirements texts bytes start run new lefts now after proposal way opened ended windows ends settles whole verdict order =
     let pairs : List Pair = way.settled ++ way.waiting in
     let records : List Ordered = way.before ++ run.round.items in
     let leads : Leads configuration.cores (items_at texts) run.keeper lefts pairs records =
@@ -178,8 +178,8 @@ way_ends configuration relations texts bytes start run new lefts now after propo
     let none : (core : ℕ) → core < configuration.cores → leads.left core ≡ [] =
     λ core within. none_left configuration.cores (items_at texts) run.keeper lefts pairs records core leads (ended core within) in (
       rows_of pairs,
-      (way_whole configuration relations bytes start run lefts now after way whole).3,
-      proposed configuration relations texts (rows_of pairs) proposal pairs leads.taken records windows ends
+      (way_whole configuration requirements bytes start run lefts now after way whole).3,
+      proposed configuration requirements texts (rows_of pairs) proposal pairs leads.taken records windows ends
           (rows_are_read pairs way.so_far.fit way.so_far.few)
           (λ core within. leads.split core ∙ ap (λ (all : List Item). map Ok (leads.taken core) ++ all) (none core within) ∙ append-nil (map Ok (leads.taken core)))
           (subst (λ cores. IsLawfulOrder cores (λ core. length (leads.taken core)) pairs) way.so_far.cores
@@ -191,10 +191,10 @@ way_ends configuration relations texts bytes start run new lefts now after propo
     )
 
 -- a fault ends the run
-pub stops : {A : Type 0} (configuration : Configuration) (relations : List Relation) (bytes : Option (List ℕ)) (start : Lefts) (result : Result A ProposalFault) (run : Run) (lefts : Lefts) (now : Option (List ℕ))
-    → IsErr result → HasBegun configuration bytes start now → GoesOn configuration relations bytes start result run lefts now
-stops configuration relations bytes start (Ok value) run lefts now is begun = absurd (false≢true is)
-stops configuration relations bytes start (Err fault) run lefts now is begun = begun
+pub stops : {A : Type 0} (configuration : Configuration) (requirements : Requirements) (bytes : Option (List ℕ)) (start : Lefts) (result : Result A ProposalFault) (run : Run) (lefts : Lefts) (now : Option (List ℕ))
+    → IsErr result → HasBegun configuration bytes start now → GoesOn configuration requirements bytes start result run lefts now
+stops configuration requirements bytes start (Ok value) run lefts now is begun = absurd (false≢true is)
+stops configuration requirements bytes start (Err fault) run lefts now is begun = begun
 
 -- a fault before the first record
 pub none_written : (configuration : Configuration) (bytes : Option (List ℕ)) (start : Lefts) → HasBegun configuration bytes start bytes

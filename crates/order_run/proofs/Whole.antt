@@ -11,7 +11,7 @@ use Rattle.order_cert.specs.Order.{IsLawfulOrder}
 use Rattle.order_cert.specs.Row.{pairs_of}
 use Rattle.placement.specs.Scan.{scan}
 use Rattle.record_read.specs.Row.{records_of}
-use Rattle.user_rules.specs.declared.relation.Relation.{Relation}
+use Rattle.user_rules.specs.Remembered.{Requirements, required_by}
 use Rattle.verdict_merge.specs.Verdicts.{IsVerdict}
 use Rattle.verdict_merge.proofs.Refusing.{run_up_to_no}
 use Rattle.verdict_merge.proofs.Ruled.{run_where_yes}
@@ -25,14 +25,14 @@ all_left [] core = refl
 all_left (text ∷ texts) zero = refl
 all_left (text ∷ texts) (suc core) = all_left texts core
 
-pub proposed : (configuration : Configuration) (relations : List Relation) (texts : List (List ℕ)) (certificate : List ℕ) (proposal : Proposal) (pairs : List Pair) (recordings : ℕ → List Record) (records : List Ordered)
+pub proposed : (configuration : Configuration) (requirements : Requirements) (texts : List (List ℕ)) (certificate : List ℕ) (proposal : Proposal) (pairs : List Pair) (recordings : ℕ → List Record) (records : List Ordered)
     → WindowsAreConfigured configuration → EndsAreApart configuration → pairs_of certificate ≡ map Ok pairs
     → ((core : ℕ) → core < configuration.cores → items_at texts core ≡ map Ok (recordings core))
     → IsLawfulOrder configuration.cores (λ core. length (recordings core)) pairs
     → scan configuration.cores none_taken 0 (items_at texts) (map Ok pairs) ≡ record { placed = records; end = Ok tt } → ArePlaced 0 records
-    → IsVerdict configuration relations records (verdict_of proposal) → IsVerdict configuration [] records (order_verdict_of proposal)
-    → IsProposed configuration relations texts certificate proposal
-proposed configuration relations texts certificate proposal pairs recordings records windows ends listed recorded lawful scanned placed verdict order = record {
+    → IsVerdict configuration requirements records (verdict_of proposal) → IsVerdict configuration (required_by [] []) records (order_verdict_of proposal)
+    → IsProposed configuration requirements texts certificate proposal
+proposed configuration requirements texts certificate proposal pairs recordings records windows ends listed recorded lawful scanned placed verdict order = record {
   pairs = pairs;
   listed = listed;
   recordings = recordings;
@@ -41,9 +41,9 @@ proposed configuration relations texts certificate proposal pairs recordings rec
   records = records;
   placed = ap (scan configuration.cores none_taken 0 (items_at texts)) listed ∙ scanned;
   verdict = verdict;
-  yes = run_where_yes configuration relations records (verdict_of proposal) windows ends placed verdict;
-  no = run_up_to_no configuration relations records (verdict_of proposal) windows ends placed verdict;
+  yes = run_where_yes configuration requirements records (verdict_of proposal) windows ends placed verdict;
+  no = run_up_to_no configuration requirements records (verdict_of proposal) windows ends placed verdict;
   order = order;
-  found = run_where_yes configuration [] records (order_verdict_of proposal) windows ends placed order;
-  not_found = run_up_to_no configuration [] records (order_verdict_of proposal) windows ends placed order;
+  found = run_where_yes configuration (required_by [] []) records (order_verdict_of proposal) windows ends placed order;
+  not_found = run_up_to_no configuration (required_by [] []) records (order_verdict_of proposal) windows ends placed order;
 }

@@ -10,7 +10,7 @@ use Rattle.order_cert.specs.Row.{pairs_of}
 use Rattle.placement.specs.Scan.{scan}
 use Rattle.record_read.specs.Row.{Item}
 use Rattle.sink.specs.Written.{IsCut, IsWritten}
-use Rattle.user_rules.specs.declared.relation.Relation.{Relation}
+use Rattle.user_rules.specs.Remembered.{Requirements, required_by}
 use Rattle.verdict_merge.specs.declared.verdict.Verdict.{Verdict}
 use Rattle.verdict_merge.specs.declared.verdict.Verdict.TheVariants.{Yes, Broken}
 use Rattle.verdict_merge.specs.Refusals.{IsRunUpToNo}
@@ -33,8 +33,8 @@ abbrev pub order_verdict_of : Proposal → Verdict
 order_verdict_of (Found records broken) = Yes records
 order_verdict_of (NotFound refused broken) = no_of refused
 
--- a proposal for the recordings with these texts under these relations, by the certificate that was written
-pub record IsProposed (configuration : Configuration) (relations : List Relation) (texts : List (List ℕ)) (certificate : List ℕ) (proposal : Proposal) : Type 0 where
+-- a proposal for the recordings with these texts under these memories and relations, by the certificate that was written
+pub record IsProposed (configuration : Configuration) (requirements : Requirements) (texts : List (List ℕ)) (certificate : List ℕ) (proposal : Proposal) : Type 0 where
   -- the certificate lists each record of each core once, and those of a core in its own order
   pub pairs : List Pair
   pub listed : pairs_of certificate ≡ map Ok pairs
@@ -44,19 +44,19 @@ pub record IsProposed (configuration : Configuration) (relations : List Relation
   -- the records at their places in that order
   pub records : List Ordered
   pub placed : scan configuration.cores none_taken 0 (items_at texts) (pairs_of certificate) ≡ record { placed = records; end = Ok tt }
-  -- the verdict over them, under the relations, is that of the proposal
-  pub verdict : IsVerdict configuration relations records (verdict_of proposal)
+  -- the verdict over them, under what is required, is that of the proposal
+  pub verdict : IsVerdict configuration requirements records (verdict_of proposal)
   -- found, and no rule is broken: the records are a run of the machine from the cold state, in which each view meets every relation
-  pub yes : IsRunWhereYes configuration relations records (verdict_of proposal)
+  pub yes : IsRunWhereYes configuration requirements records (verdict_of proposal)
   -- a rule is broken: up to its place the records are such a run, and the view there is the first that does not meet every relation, by
   -- the rule of that number; not found: the records before the place are such a run, and the machine has no step that takes the record there
-  pub no : IsRunUpToNo configuration relations records (verdict_of proposal)
+  pub no : IsRunUpToNo configuration requirements records (verdict_of proposal)
   -- whatever the rules are, the verdict without them says whether an order was found
-  pub order : IsVerdict configuration [] records (order_verdict_of proposal)
+  pub order : IsVerdict configuration (required_by [] []) records (order_verdict_of proposal)
   -- found: the records are a run of the machine from the cold state
-  pub found : IsRunWhereYes configuration [] records (order_verdict_of proposal)
+  pub found : IsRunWhereYes configuration (required_by [] []) records (order_verdict_of proposal)
   -- not found: the records before the place are such a run, and the machine has no step that takes the record at the place
-  pub not_found : IsRunUpToNo configuration [] records (order_verdict_of proposal)
+  pub not_found : IsRunUpToNo configuration (required_by [] []) records (order_verdict_of proposal)
 
 -- the pairs list the first records of each recording, each once and those of a core in its own order, where the items that the recordings
 -- have left are known

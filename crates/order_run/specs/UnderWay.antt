@@ -13,12 +13,13 @@ use Rattle.placement.specs.Scan.{led_by, scan}
 use Rattle.record_read.specs.Row.{Item}
 use Rattle.sink.specs.Taken.{with_more}
 use Rattle.sink.specs.Written.{IsCut}
-use Rattle.user_rules.specs.declared.relation.Relation.{Relation}
+use Rattle.user_rules.specs.declared.memory.Cell.{Cell}
+use Rattle.user_rules.specs.Remembered.{Requirements, required_by, with_kept}
 use Rattle.verdict_merge.specs.declared.breach.Breach.{Breach}
 use Rattle.verdict_merge.specs.declared.finding.Refused.{Refused}
 use Rattle.verdict_merge.specs.declared.verdict.Verdict.TheVariants.{Broken}
 use Rattle.verdict_merge.specs.Rounds.{AllRun, IsReady, Judging, cold_parts, parts_of}
-use Rattle.verdict_merge.specs.Verdicts.{IsVerdict, ViewsMeet, no_of}
+use Rattle.verdict_merge.specs.Verdicts.{IsVerdict, ViewsLead, no_of}
 use Rattle.order_run.specs.declared.proposal.BrokenRule.{BrokenRule}
 use Rattle.order_run.specs.declared.proposal.ProposalFault.{ProposalFault}
 use Rattle.order_run.specs.declared.run.Run.{Run}
@@ -31,7 +32,7 @@ use Rattle.order_run.specs.Rows.{rows_of}
 abbrev pub HaveJudged : Configuration → List Ordered → Option Refused → Judging → Type 0
 HaveJudged configuration before None judging =
     IsReady configuration judging × AllRun configuration (cold_parts configuration) before (parts_of judging) × (judging.count ≡ length before)
-HaveJudged configuration before (Some refused) judging = (later : List Ordered) → IsVerdict configuration [] (before ++ later) (no_of refused)
+HaveJudged configuration before (Some refused) judging = (later : List Ordered) → IsVerdict configuration (required_by [] []) (before ++ later) (no_of refused)
 
 -- the first rule that is broken: the one so far, or else that of the breach in a round whose first record is at this place
 abbrev pub first_broken : Option BrokenRule → ℕ → Option Breach → Option BrokenRule
@@ -39,21 +40,21 @@ first_broken (Some broken) first breach = Some broken
 first_broken None first (Some breach) = Some (record { pos = first + breach.seen.index; rule = breach.rule })
 first_broken None first None = None
 
--- the verdict over these records under the relations is that of the broken rule, whichever records follow; or a piece has refused one of
--- them, and the verdict is that No; or each of their views meets every relation
-abbrev pub HaveTested : Configuration → List Relation → List Ordered → Option Refused → Option BrokenRule → Type 0
-HaveTested configuration relations before refused (Some broken) = (later : List Ordered) → IsVerdict configuration relations (before ++ later) (Broken broken.pos broken.rule)
-HaveTested configuration relations before (Some refused) None = (later : List Ordered) → IsVerdict configuration relations (before ++ later) (no_of refused)
-HaveTested configuration relations before None None = ViewsMeet configuration relations (cold_parts configuration) before
+-- the verdict over these records under what is required is that of the broken rule, whichever records follow; or a piece has refused one of
+-- them, and the verdict is that No; or each of their views meets every relation, and the memories have kept this of them
+abbrev pub HaveTested : Configuration → Requirements → List Ordered → Option Refused → Option BrokenRule → List (List Cell) → Type 0
+HaveTested configuration requirements before refused (Some broken) kept = (later : List Ordered) → IsVerdict configuration requirements (before ++ later) (Broken broken.pos broken.rule)
+HaveTested configuration requirements before (Some refused) None kept = (later : List Ordered) → IsVerdict configuration requirements (before ++ later) (no_of refused)
+HaveTested configuration requirements before None None kept = ViewsLead configuration requirements (cold_parts configuration) before (with_kept requirements kept)
 
 -- each core and each number fits into a row
 abbrev pub AllFit : List Pair → Type 0
 AllFit [] = Unit {0}
 AllFit (pair ∷ pairs) = (pair.core ≤ 0xFFFFFFFF) × (pair.seq ≤ 0xFFFFFFFF) × AllFit pairs
 
--- under these relations the run has put these pairs: the settled ones, whose records are judged and whose rows are written, and then the
+-- under what is required the run has put these pairs: the settled ones, whose records are judged and whose rows are written, and then the
 -- waiting ones, whose records are in the round
-pub record HasPut (configuration : Configuration) (relations : List Relation) (run : Run) (settled waiting : List Pair) (before : List Ordered) : Type 0 where
+pub record HasPut (configuration : Configuration) (requirements : Requirements) (run : Run) (settled waiting : List Pair) (before : List Ordered) : Type 0 where
   pub cores : run.keeper.cores ≡ configuration.cores
   pub follows : Follows run.keeper (settled ++ waiting)
   pub few : length (settled ++ waiting) ≤ PLACE_COUNT
@@ -63,7 +64,7 @@ pub record HasPut (configuration : Configuration) (relations : List Relation) (r
   pub placed : ArePlaced 0 (before ++ run.round.items)
   pub of_cores : AreOfCores configuration.cores run.round.items
   pub judged : HaveJudged configuration before run.refused run.base
-  pub tested : HaveTested configuration relations before run.refused run.broken
+  pub tested : HaveTested configuration requirements before run.refused run.broken run.base.kept
 
 -- the items taken of each core so far are records, as many as the keeper counts; and a scan of the recordings by these pairs gives these
 -- records, and goes on with the items that are left, whichever pairs follow
@@ -78,11 +79,11 @@ pub record Leads (cores : ℕ) (items : ℕ → List Item) (kept : Kept) (lefts 
 
 -- a run that began with these recordings and after these bytes of the output: the rows of its settled pairs are written, and its pairs
 -- lead through the recordings, where their items were known at first
-pub record IsUnderWay (configuration : Configuration) (relations : List Relation) (bytes : Option (List ℕ)) (start : Lefts) (run : Run) (lefts : Lefts) (now : Option (List ℕ)) : Type 0 where
+pub record IsUnderWay (configuration : Configuration) (requirements : Requirements) (bytes : Option (List ℕ)) (start : Lefts) (run : Run) (lefts : Lefts) (now : Option (List ℕ)) : Type 0 where
   pub settled : List Pair
   pub waiting : List Pair
   pub before : List Ordered
-  pub so_far : HasPut configuration relations run settled waiting before
+  pub so_far : HasPut configuration requirements run settled waiting before
   pub written : now ≡ with_more bytes (rows_of settled)
   pub cores : length lefts ≡ configuration.cores
   pub leads : (items : ℕ → List Item) → ((core : ℕ) → left_at start core ≡ Some (items core))
@@ -95,6 +96,6 @@ HasBegun configuration bytes start now =
 
 -- without a fault the run is under way; after a fault the rows that were written are those of a prefix of a lawful order, or their first
 -- bytes
-abbrev pub GoesOn : {A : Type 0} → Configuration → List Relation → Option (List ℕ) → Lefts → Result A ProposalFault → Run → Lefts → Option (List ℕ) → Type 0
-GoesOn configuration relations bytes start (Ok value) run lefts now = IsUnderWay configuration relations bytes start run lefts now
-GoesOn configuration relations bytes start (Err fault) run lefts now = HasBegun configuration bytes start now
+abbrev pub GoesOn : {A : Type 0} → Configuration → Requirements → Option (List ℕ) → Lefts → Result A ProposalFault → Run → Lefts → Option (List ℕ) → Type 0
+GoesOn configuration requirements bytes start (Ok value) run lefts now = IsUnderWay configuration requirements bytes start run lefts now
+GoesOn configuration requirements bytes start (Err fault) run lefts now = HasBegun configuration bytes start now

@@ -40,17 +40,17 @@ answers (NotFound refused None) = refl
 answers (NotFound refused (Some one)) = refl
 
 pub proposal_is_the_outcome : ProposalIsTheOutcome
-proposal_is_the_outcome settings configuration relations texts proposal sound read count is =
+proposal_is_the_outcome settings configuration requirements texts proposal sound read count is =
     let scanned : Scan = record { placed = is.records; end = Ok tt } in
     let scans : scan (length texts.recordings) none_taken 0 (items_at texts.recordings) (pairs_of texts.certificate) ≡ scanned =
     ap (λ cores. scan cores none_taken 0 (items_at texts.recordings) (pairs_of texts.certificate)) count
     ∙ ap (λ items. scan configuration.cores none_taken 0 items (pairs_of texts.certificate)) (sym (fun_ext (items_same texts.recordings))) ∙ is.placed in
-    let judged : IsJudged configuration relations scanned (Ok (verdict_of proposal)) = (verdict_of proposal, is.verdict, answers proposal) in
+    let judged : IsJudged configuration requirements scanned (Ok (verdict_of proposal)) = (verdict_of proposal, is.verdict, answers proposal) in
     let scan_is : IsScanOf never (length texts.recordings) none_taken 0 (items_at texts.recordings) (pairs_of texts.certificate) scanned =
     (items_at texts.recordings, pairs_of texts.certificate, (λ core. reads_all false row.Read (items_at texts.recordings core)), reads_all false cert.Read (pairs_of texts.certificate), scans) in (
-      inr (subst (λ found. IsOutcomeWith found texts whole relations (Ok (verdict_of proposal))) (sym sound)
-          (subst (λ one. IsOutcomeBy one texts whole relations (Ok (verdict_of proposal))) (sym read)
-          (outcome_under configuration texts whole relations (Ok (verdict_of proposal)) scanned count scans judged))),
-      yes_means never texts relations configuration scanned read count scan_is (verdict_of proposal) (Ok (verdict_of proposal)) is.yes (answers proposal),
-      (no_means never texts relations configuration scanned read count scan_is (verdict_of proposal) (Ok (verdict_of proposal)) (last_of (Ok (verdict_of proposal)) is.records) is.no (answers proposal) refl).0,
+      inr (subst (λ found. IsOutcomeWith found texts whole requirements (Ok (verdict_of proposal))) (sym sound)
+          (subst (λ one. IsOutcomeBy one texts whole requirements (Ok (verdict_of proposal))) (sym read)
+          (outcome_under configuration texts whole requirements (Ok (verdict_of proposal)) scanned count scans judged))),
+      yes_means never texts requirements configuration scanned read count scan_is (verdict_of proposal) (Ok (verdict_of proposal)) is.yes (answers proposal),
+      (no_means never texts requirements configuration scanned read count scan_is (verdict_of proposal) (Ok (verdict_of proposal)) (last_of (Ok (verdict_of proposal)) is.records) is.no (answers proposal) refl).0,
     )

@@ -1,5 +1,5 @@
 -- A proposal and the outcome of a check.
-use Rattle.std.specs.Prelude.{◌≡◌, List, Ok, None, length}
+use Rattle.std.specs.Prelude.{◌≡◌, Ok, None, length}
 use Rattle.apex_machine.specs.Configuration.{Configuration}
 use Rattle.module_config.specs.Reading.{configuration_of}
 use Rattle.report.specs.declared.settings.Settings.{Settings}
@@ -7,7 +7,7 @@ use Rattle.report.specs.Inputs.{Texts, whole}
 use Rattle.report.specs.Outcome.{IsOutcome, argument_fault_of}
 use Rattle.report.specs.No.{NoMeansRefusal}
 use Rattle.report.specs.Yes.{YesMeansRun}
-use Rattle.user_rules.specs.declared.relation.Relation.{Relation}
+use Rattle.user_rules.specs.Remembered.{Requirements}
 use Rattle.order_run.specs.declared.proposal.Proposal.{Proposal}
 use Rattle.order_run.specs.Proposal.{IsProposed, verdict_of}
 
@@ -18,8 +18,8 @@ use Rattle.order_run.specs.Proposal.{IsProposed, verdict_of}
 -- they mean after a check
 abbrev pub ProposalIsTheOutcome : Type 0
 ProposalIsTheOutcome =
-    (settings : Settings) (configuration : Configuration) (relations : List Relation) (texts : Texts) (proposal : Proposal) → argument_fault_of settings ≡ None
+    (settings : Settings) (configuration : Configuration) (requirements : Requirements) (texts : Texts) (proposal : Proposal) → argument_fault_of settings ≡ None
     → configuration_of texts.config ≡ Ok configuration → length texts.recordings ≡ configuration.cores
-    → IsProposed configuration relations texts.recordings texts.certificate proposal
-    → IsOutcome settings texts whole relations (Ok (verdict_of proposal)) × YesMeansRun texts relations (Ok (verdict_of proposal))
-    × NoMeansRefusal texts relations (Ok (verdict_of proposal))
+    → IsProposed configuration requirements texts.recordings texts.certificate proposal
+    → IsOutcome settings texts whole requirements (Ok (verdict_of proposal)) × YesMeansRun texts requirements (Ok (verdict_of proposal))
+    × NoMeansRefusal texts requirements (Ok (verdict_of proposal))

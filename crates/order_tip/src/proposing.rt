@@ -5,7 +5,7 @@ ghost use Rattle.apex_types.specs.declared.record.Pair.{Pair};
 ghost use Rattle.order_cert.specs.Order.{IsPrefixOfLawful};
 ghost use Rattle.record_read.specs.Row.{records_of};
 ghost use Rattle.sink.specs.Written.{IsWritten};
-ghost use Rattle.user_rules.specs.Rules.{relations_of};
+ghost use Rattle.user_rules.specs.Rules.{required_of};
 ghost use Rattle.order_run.specs.Proposal.{HaveGoneOut, IsProposed, ListsFirst};
 ghost use Rattle.order_run.specs.Rows.{rows_of};
 
@@ -19,7 +19,7 @@ use order_run::{Guide, Lanes, Proposal, ProposalFault, propose_by};
 use order_search::{Limits, Search};
 use sink::Sink;
 use std::alloc::{AllocError, Global};
-use user_rules::Rule;
+use user_rules::{Rule, RuleMemory};
 
 /// How many records may be undecided by default.
 pub const MOST_UNDECIDED: usize = 65_536;
@@ -33,6 +33,7 @@ pub const MOST_UNDECIDED: usize = 65_536;
 pub fn propose<R: TextSource + Drop, W: Sink, V: Watcher>(
     alloc: Global,
     config: &Config,
+    memories: &[RuleMemory],
     rules: &[Rule],
     sources: Vec<R>,
     limits: Limits,
@@ -41,7 +42,7 @@ pub fn propose<R: TextSource + Drop, W: Sink, V: Watcher>(
 ) -> Result<Proposal, ProposalFault>
     requires { length sources.items ≡ config.now.cores }
     ensures prefix { (pairs : List Pair) × IsPrefixOfLawful config.now.cores pairs × ListsFirst config.now.cores (map (λ source. option_map records_of (R.remaining source)) sources.items) pairs × HaveGoneOut (W.bytes out.old) (rows_of pairs) result (W.bytes out.new) }
-    ensures proposed { (texts : List (List ℕ)) → map R.remaining sources.items ≡ map Some texts → IfOk result (λ proposal. (certificate : List ℕ) × IsWritten (W.bytes out.old) certificate (W.bytes out.new) × IsProposed config.now (relations_of rules.now) texts certificate proposal) }
+    ensures proposed { (texts : List (List ℕ)) → map R.remaining sources.items ≡ map Some texts → IfOk result (λ proposal. (certificate : List ℕ) × IsWritten (W.bytes out.old) certificate (W.bytes out.new) × IsProposed config.now (required_of memories.now rules.now) texts certificate proposal) }
 {
     match explored(alloc, config, sources, limits) {
         Ok(exploration) => {
@@ -50,7 +51,7 @@ pub fn propose<R: TextSource + Drop, W: Sink, V: Watcher>(
                 exploration,
                 watcher,
             };
-            propose_with(alloc, config, rules, guide, out)
+            propose_with(alloc, config, memories, rules, guide, out)
         }
         Err(_) => Err(ProposalFault::Memory),
     }
@@ -60,16 +61,17 @@ pub fn propose<R: TextSource + Drop, W: Sink, V: Watcher>(
 fn propose_with<G: Guide + Drop, W: Sink>(
     alloc: Global,
     config: &Config,
+    memories: &[RuleMemory],
     rules: &[Rule],
     guide: G,
     out: &mut W,
 ) -> Result<Proposal, ProposalFault>
     requires { length (G.left guide) ≡ config.now.cores }
     ensures prefix { (pairs : List Pair) × IsPrefixOfLawful config.now.cores pairs × ListsFirst config.now.cores (G.left guide) pairs × HaveGoneOut (W.bytes out.old) (rows_of pairs) result (W.bytes out.new) }
-    ensures proposed { (texts : List (List ℕ)) → G.left guide ≡ map (λ text. Some (records_of text)) texts → IfOk result (λ proposal. (certificate : List ℕ) × IsWritten (W.bytes out.old) certificate (W.bytes out.new) × IsProposed config.now (relations_of rules.now) texts certificate proposal) }
+    ensures proposed { (texts : List (List ℕ)) → G.left guide ≡ map (λ text. Some (records_of text)) texts → IfOk result (λ proposal. (certificate : List ℕ) × IsWritten (W.bytes out.old) certificate (W.bytes out.new) × IsProposed config.now (required_of memories.now rules.now) texts certificate proposal) }
 {
     let mut guide = guide;
-    propose_by(alloc, config, rules, &mut guide, out)
+    propose_by(alloc, config, memories, rules, &mut guide, out)
 }
 
 // The exploration of these recordings, before the first record.

@@ -109,8 +109,8 @@ fn asks_for_relations(rt: HostRuntime) -> Result<(), Fail> {
         (call_of(24), true, false),
         (call_of(23), true, true),
     ] {
-        assert_eq!(rt; relations[0].holds(&view), within);
-        assert_eq!(rt; relations[1].holds(&view), allowed);
+        assert_eq!(rt; relations[0].holds(&view, &[]), within);
+        assert_eq!(rt; relations[1].holds(&view, &[]), allowed);
     }
     Ok(())
 }

@@ -54,7 +54,11 @@ fn refusal(alloc: Global, text: &[u8]) -> Option<RulesFault> {
 // What a rule that holds for what this says answers for a view.
 fn answer(alloc: Global, holds: &str, view: &View) -> Result<Option<bool>, Fail> {
     match read(alloc, &rule_text(alloc, holds)?) {
-        Ok(rules) => Ok(rules.first().map(|rule| rule.relation.holds(view))),
+        Ok(file) => Ok(
+            file.rules
+                .first()
+                .map(|rule| rule.relation.holds(view, &[])),
+        ),
         Err(_) => Ok(None),
     }
 }
@@ -72,22 +76,22 @@ fn reads_two_rules(rt: HostRuntime) -> Result<(), Fail> {
         holds = { not = { and = [ { field = \"part\", equal = 0 }, { field = \"service\", equal = \"SEND_BUFFER\" } ] } }
     ";
     let rules = match read(rt.alloc(), text) {
-        Ok(rules) => rules,
+        Ok(file) => file.rules,
         Err(fault) => panic!(rt; "{fault}"),
     };
     assert_eq!(rt; rules.len(), 2);
     assert_eq!(rt; rules[0].name.as_str(), "partition 1 is quick");
     assert_eq!(rt; rules[1].name.as_str(), "no buffers in partition 0");
     let view = call_of(SEND_BUFFER);
-    assert_eq!(rt; rules[0].relation.holds(&view), true);
-    assert_eq!(rt; rules[1].relation.holds(&view), false);
+    assert_eq!(rt; rules[0].relation.holds(&view, &[]), true);
+    assert_eq!(rt; rules[1].relation.holds(&view, &[]), false);
     let slow = View {
         part: 1,
         elapsed: 100,
         ..view
     };
-    assert_eq!(rt; rules[0].relation.holds(&slow), false);
-    assert_eq!(rt; rules[1].relation.holds(&slow), true);
+    assert_eq!(rt; rules[0].relation.holds(&slow, &[]), false);
+    assert_eq!(rt; rules[1].relation.holds(&slow, &[]), true);
     Ok(())
 }
 

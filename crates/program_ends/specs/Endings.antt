@@ -7,7 +7,7 @@ use Rattle.asked_rules.specs.declared.fault.RuleFault.TheVariants as rule
 use Rattle.asked_rules.specs.declared.fault.RulesFault.{RulesFault}
 use Rattle.asked_rules.specs.declared.fault.RulesFault.TheVariants as rules
 use Rattle.program_ends.specs.declared.ending.Ending.{Ending}
-use Rattle.program_ends.specs.declared.ending.Ending.TheVariants.{Own, BadUsage, Unopened, BadRules, BadRule}
+use Rattle.program_ends.specs.declared.ending.Ending.TheVariants.{Own, BadUsage, Unopened, BadRules, BadMemory, BadRule}
 use Rattle.program_ends.specs.declared.refused.UsageFault.{UsageFault}
 use Rattle.program_ends.specs.declared.refused.UsageFault.TheVariants as usage
 
@@ -16,7 +16,7 @@ abbrev pub exit_status_of : {End : Type 0} → (End → ℕ) → Ending End → 
 exit_status_of status_of (Own end) = status_of end
 exit_status_of status_of _ = 2
 
--- the name of a fault of a rule, or of a rules file
+-- the name of a fault of a memory, of a rule, or of a rules file
 abbrev pub rule_fault_name : RuleFault → List ℕ
 rule_fault_name rule.NotToml = codes "NotToml"
 rule_fault_name rule.TooMany = codes "TooMany"
@@ -26,12 +26,20 @@ rule_fault_name rule.WrongType = codes "WrongType"
 rule_fault_name rule.BadName = codes "BadName"
 rule_fault_name rule.UnknownField = codes "UnknownField"
 rule_fault_name rule.UnknownName = codes "UnknownName"
+rule_fault_name rule.UnknownMemory = codes "UnknownMemory"
+rule_fault_name rule.SameName = codes "SameName"
+rule_fault_name rule.UnknownHolder = codes "UnknownHolder"
 rule_fault_name rule.Empty = codes "Empty"
 rule_fault_name rule.TooDeep = codes "TooDeep"
 
 -- the refusal of a rules file for this fault
 abbrev pub rules_text : RuleFault → List ℕ
 rules_text which = codes "REFUSED rules fault=" ++ (rule_fault_name which ++ codes "\n")
+
+-- the refusal of the memory with this number for this fault
+abbrev pub memory_text : ℕ → RuleFault → List ℕ
+memory_text number which =
+    codes "REFUSED rules memory=" ++ (decimal number ++ (codes " fault=" ++ (rule_fault_name which ++ codes "\n")))
 
 -- the refusal of the rule with this number for this fault
 abbrev pub rule_text : ℕ → RuleFault → List ℕ
@@ -44,6 +52,7 @@ text_of own (Own end) = own end
 text_of own BadUsage = codes "REFUSED usage\n"
 text_of own Unopened = codes "REFUSED open\n"
 text_of own (BadRules which) = rules_text which
+text_of own (BadMemory number which) = memory_text number which
 text_of own (BadRule number which) = rule_text number which
 
 -- the end by a lack of memory, which counts as the program's own
@@ -58,5 +67,6 @@ refused_words refusing usage.Memory = out_of_memory refusing
 -- the end by a refusal of a rules file; a lack of memory counts as the program's own
 abbrev pub refused_rules : {End : Type 0} → (CheckFault → End) → RulesFault → Ending End
 refused_rules refusing (rules.File which) = BadRules which
+refused_rules refusing (rules.RuleMemory number which) = BadMemory number which
 refused_rules refusing (rules.Rule number which) = BadRule number which
 refused_rules refusing rules.Memory = out_of_memory refusing

@@ -20,8 +20,10 @@ pub enum Ending<End> {
     BadUsage,
     /// A file could not be opened, or the configuration or the rules file could not be read.
     Unopened,
-    /// The rules file has this fault, outside of its rules.
+    /// The rules file has this fault, outside of its memories and rules.
     BadRules(RuleFault),
+    /// The memory with this number in the rules file, counted from 0, has this fault.
+    BadMemory { memory: usize, fault: RuleFault },
     /// The rule with this number in the rules file, counted from 0, has this fault.
     BadRule { rule: usize, fault: RuleFault },
 }
@@ -66,6 +68,10 @@ pub fn status_of<End: OwnEnd>(ending: &Ending<End>) -> u8
 {
     match ending {
         Ending::Own(end) => end.status(),
-        Ending::BadUsage | Ending::Unopened | Ending::BadRules(_) | Ending::BadRule { .. } => 2,
+        Ending::BadUsage
+        | Ending::Unopened
+        | Ending::BadRules(_)
+        | Ending::BadMemory { .. }
+        | Ending::BadRule { .. } => 2,
     }
 }

@@ -52,6 +52,7 @@ pub fn refused_rules<End: OwnEnd>(fault: RulesFault) -> Ending<End>
 {
     match fault {
         RulesFault::File(fault) => Ending::BadRules(fault),
+        RulesFault::RuleMemory { memory, fault } => Ending::BadMemory { memory, fault },
         RulesFault::Rule { rule, fault } => Ending::BadRule { rule, fault },
         RulesFault::Memory => out_of_memory(),
     }

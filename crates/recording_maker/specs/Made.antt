@@ -8,6 +8,7 @@ use Rattle.report.specs.declared.settings.Settings.{Settings}
 use Rattle.report.specs.Answers.{IsAnswer}
 use Rattle.report.specs.Inputs.{Texts}
 use Rattle.report.specs.Text.{report_of}
+use Rattle.user_rules.specs.Remembered.{required_by}
 use Rattle.verdict_merge.specs.declared.verdict.Verdict.{Verdict}
 use Rattle.verdict_merge.specs.declared.verdict.Verdict.TheVariants.{Yes, No, Broken}
 use Rattle.recording_maker.specs.declared.made.MadeRun.{MadeRun}
@@ -29,7 +30,7 @@ texts_made config made = texts_of config (map (λ recording. recording.items) ma
 pub record IsAnswerTo (texts : Texts) (outcome : Result Verdict CheckFault) : Type 0 where
   pub settings : Settings
   pub last : List LastItem
-  pub answer : IsAnswer settings texts in_memory [] outcome last
+  pub answer : IsAnswer settings texts in_memory (required_by [] []) outcome last
 
 -- a verdict is one that a plan asks for: Yes for as many records; or, if a record is to be spoilt, No for the cause
 abbrev pub IsWanted : WalkPlan → Verdict → Type 0

@@ -5,6 +5,7 @@ use Rattle.report.specs.Inputs.{whole}
 use Rattle.report.specs.No.{NoMeansRefusal}
 use Rattle.report.specs.Outcome.{IsOutcome, argument_fault_of}
 use Rattle.report.specs.Yes.{YesMeansRun}
+use Rattle.user_rules.specs.Remembered.{required_by}
 use Rattle.recording_maker.specs.declared.made.MadeRun.{MadeRun}
 use Rattle.recording_walk.specs.declared.walking.WalkPlan.{WalkPlan}
 use Rattle.recording_maker.specs.Made.{IsMade, texts_made}
@@ -15,5 +16,5 @@ use Rattle.recording_maker.specs.Made.{IsMade, texts_made}
 abbrev pub MadeIsTheOutcome : Type 0
 MadeIsTheOutcome =
     (settings : Settings) (config : List ℕ) (plan : WalkPlan) (made : MadeRun) → argument_fault_of settings ≡ None → IsMade config plan made
-    → IsOutcome settings (texts_made config made) whole [] (Ok made.verdict) × YesMeansRun (texts_made config made) [] (Ok made.verdict)
-    × NoMeansRefusal (texts_made config made) [] (Ok made.verdict)
+    → IsOutcome settings (texts_made config made) whole (required_by [] []) (Ok made.verdict) × YesMeansRun (texts_made config made) (required_by [] []) (Ok made.verdict)
+    × NoMeansRefusal (texts_made config made) (required_by [] []) (Ok made.verdict)

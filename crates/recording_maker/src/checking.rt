@@ -36,7 +36,7 @@ where
     };
     let inputs = Inputs::new(config, readers, certificate);
     let options = Options::new(SETTINGS, &Open);
-    Ok(check_inputs(rt, alloc, inputs, &[], options, &mut last, &mut Nobody))
+    Ok(check_inputs(rt, alloc, inputs, &[], &[], options, &mut last, &mut Nobody))
 }
 
 // A reader for each recording, which gives a copy of its bytes.

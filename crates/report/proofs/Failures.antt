@@ -19,7 +19,7 @@ use Rattle.record_read.specs.Format.{format_of}
 use Rattle.record_read.specs.Row.{Item, record_of}
 use Rattle.record_read.specs.Steps.{IsOfRow}
 use Rattle.record_read.proofs.FirstFaults.{faults_are_of_rows}
-use Rattle.user_rules.specs.declared.relation.Relation.{Relation}
+use Rattle.user_rules.specs.Remembered.{Requirements}
 use Rattle.verdict_merge.specs.declared.verdict.Verdict.{Verdict}
 use Rattle.report.specs.declared.fault.ArgumentFault.{ArgumentFault}
 use Rattle.report.specs.declared.fault.CheckFault.{CheckFault}
@@ -60,22 +60,22 @@ first_is_other texts (Err (Input (input.Row core seq fault))) (pairs, taken, inl
 first_is_other texts (Err (Input (input.Row core seq fault))) (pairs, taken, inr (here, (none, within, below, is))) = row_is_other texts.recordings core (taken_by pairs core) fault is
 first_is_other texts _ means = tt
 
-under : (enough : Bool) (configuration : Configuration) (texts : Texts) (relations : List Relation) (result : Result Verdict CheckFault)
-    → IsOutcomeUnder enough configuration texts whole relations result → TellsNoFailure result
-under false configuration texts relations result is = subst TellsNoFailure (sym is) tt
-under true configuration texts relations result (verdict, found, is) =
+under : (enough : Bool) (configuration : Configuration) (texts : Texts) (requirements : Requirements) (result : Result Verdict CheckFault)
+    → IsOutcomeUnder enough configuration texts whole requirements result → TellsNoFailure result
+under false configuration texts requirements result is = subst TellsNoFailure (sym is) tt
+under true configuration texts requirements result (verdict, found, is) =
     first_is_other texts result (subst (RefusalMeansFault texts whole) (sym is) (refusal_means texts whole verdict (scan_of texts whole).end refl))
 
-by_configuration : (read : Result Configuration ConfigFault) (texts : Texts) (relations : List Relation) (result : Result Verdict CheckFault)
-    → IsOutcomeBy read texts whole relations result → TellsNoFailure result
-by_configuration (Err fault) texts relations result is = subst TellsNoFailure (sym is) tt
-by_configuration (Ok configuration) texts relations result is = under (nat_eq (length texts.recordings) configuration.cores) configuration texts relations result is
+by_configuration : (read : Result Configuration ConfigFault) (texts : Texts) (requirements : Requirements) (result : Result Verdict CheckFault)
+    → IsOutcomeBy read texts whole requirements result → TellsNoFailure result
+by_configuration (Err fault) texts requirements result is = subst TellsNoFailure (sym is) tt
+by_configuration (Ok configuration) texts requirements result is = under (nat_eq (length texts.recordings) configuration.cores) configuration texts requirements result is
 
-by_settings : (found : Option ArgumentFault) (texts : Texts) (relations : List Relation) (result : Result Verdict CheckFault)
-    → IsOutcomeWith found texts whole relations result → TellsNoFailure result
-by_settings (Some fault) texts relations result is = subst TellsNoFailure (sym is) tt
-by_settings None texts relations result is = by_configuration (configuration_of texts.config) texts relations result is
+by_settings : (found : Option ArgumentFault) (texts : Texts) (requirements : Requirements) (result : Result Verdict CheckFault)
+    → IsOutcomeWith found texts whole requirements result → TellsNoFailure result
+by_settings (Some fault) texts requirements result is = subst TellsNoFailure (sym is) tt
+by_settings None texts requirements result is = by_configuration (configuration_of texts.config) texts requirements result is
 
 pub no_failure_is_reported : WholeReadingsTellNoFailure
-no_failure_is_reported settings texts relations result (inl memory) = subst TellsNoFailure (sym memory) tt
-no_failure_is_reported settings texts relations result (inr is) = by_settings (argument_fault_of settings) texts relations result is
+no_failure_is_reported settings texts requirements result (inl memory) = subst TellsNoFailure (sym memory) tt
+no_failure_is_reported settings texts requirements result (inr is) = by_settings (argument_fault_of settings) texts requirements result is

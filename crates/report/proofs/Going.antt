@@ -12,17 +12,17 @@ use Rattle.placement.specs.Reading.{CanFail}
 use Rattle.placement.specs.Scan.{Scan, led_by}
 use Rattle.placement.proofs.Ahead.{something_ahead}
 use Rattle.user_rules.specs.declared.broken.Broken.{Broken as BrokenView}
-use Rattle.user_rules.specs.declared.relation.Relation.{Relation}
+use Rattle.user_rules.specs.Remembered.{Requirements, with_kept}
 use Rattle.circular_buffer.specs.Buffer.{keep_last}
 use Rattle.verdict_merge.specs.declared.breach.Breach.{Breach}
 use Rattle.verdict_merge.specs.declared.finding.Refused.{Refused}
 use Rattle.verdict_merge.specs.declared.verdict.Verdict.{Verdict}
 use Rattle.verdict_merge.specs.declared.verdict.Verdict.TheVariants.{Yes, Broken}
 use Rattle.verdict_merge.specs.Rounds.{AllRun, IsRound, IsTested, Judging, cold_parts, parts_of}
-use Rattle.verdict_merge.specs.Verdicts.{IsVerdictFrom, ViewsMeet, against, no_of}
+use Rattle.verdict_merge.specs.Verdicts.{IsVerdictFrom, ViewsLead, against, no_of}
 use Rattle.verdict_merge.specs.Views.{broken_of}
 use Rattle.verdict_merge.proofs.Rounds.{all_run_on}
-use Rattle.verdict_merge.proofs.Ruled.{ends_here, goes_on_here, meet_on, verdict_on}
+use Rattle.verdict_merge.proofs.Ruled.{ends_here, goes_on_here, lead_on, leads_meet, verdict_on}
 use Rattle.report.specs.declared.fault.CheckFault.{CheckFault}
 use Rattle.report.specs.declared.fault.CheckFault.TheVariants.{Memory}
 use Rattle.report.specs.declared.last.LastItem.{LastItem}
@@ -45,27 +45,28 @@ decides_whatever first (Some found) None verdict end is =
     subst (λ one. Ok one ≡ answer_with one end) same refl
 decides_whatever first None None verdict end is = let none : ◌≡◌ {A = Option Verdict} None (Some verdict) = is in cc
 
-pub round_decides : (configuration : Configuration) (relations : List Relation) (judging judged : Judging) (records : List Ordered) (found : Option Refused) (breach : Option Breach)
-    → MayJudge configuration judging records → IsRound configuration judging records found judged → IsTested configuration relations (parts_of judging) records found breach
-    → (decides : Option Verdict) → decides ≡ against judging.count found (broken_of breach) → IsDecided configuration relations judging records decides judged
-round_decides configuration relations judging judged records found breach may round tested (Some verdict) is = (
-  (λ later. ends_here configuration relations judging judged records later found breach verdict may.placed round tested (sym is)),
+pub round_decides : (configuration : Configuration) (requirements : Requirements) (judging judged : Judging) (records : List Ordered) (found : Option Refused) (breach : Option Breach)
+    → MayJudge configuration judging records → IsRound configuration judging records found judged → IsTested configuration requirements (parts_of judging) records found breach judged.kept
+    → (decides : Option Verdict) → decides ≡ against judging.count found (broken_of breach) → IsDecided configuration requirements judging records decides judged
+round_decides configuration requirements judging judged records found breach may round tested (Some verdict) is = (
+  (λ later. ends_here configuration requirements judging judged records later found breach verdict may.placed round tested (sym is)),
   (λ end. decides_whatever judging.count found (broken_of breach) verdict end (sym is)),
   leaves_its_piece configuration judging judged records found (broken_of breach) verdict round (sym is),
 )
-round_decides configuration relations judging judged records found breach may round tested None is =
-    let on = goes_on_here configuration relations judging judged records found breach round tested (sym is) in
+round_decides configuration requirements judging judged records found breach may round tested None is =
+    let on = goes_on_here configuration requirements judging judged records found breach round tested (sym is) in
     (on.0.0, on.0.1, on.1, on.0.2)
 
 -- the answer over the last records, by what they decide
-pub last_decided : (configuration : Configuration) (relations : List Relation) (judging judged : Judging) (records : List Ordered) (end : Result (Unit {0}) InputFault) (verdict : Verdict)
-    → IsDecided configuration relations judging records (Some verdict) judged → IsLastAnswer configuration relations judging records end (Ok verdict)
-last_decided configuration relations judging judged records end verdict (over, final, leaves) =
-    inr (verdict, subst (λ list. IsVerdictFrom configuration relations (parts_of judging) judging.count list verdict) (append-nil records) (over []), final end)
+pub last_decided : (configuration : Configuration) (requirements : Requirements) (judging judged : Judging) (records : List Ordered) (end : Result (Unit {0}) InputFault) (verdict : Verdict)
+    → IsDecided configuration requirements judging records (Some verdict) judged → IsLastAnswer configuration requirements judging records end (Ok verdict)
+last_decided configuration requirements judging judged records end verdict (over, final, leaves) =
+    inr (verdict, subst (λ list. IsVerdictFrom configuration requirements (parts_of judging) judging.count list verdict) (append-nil records) (over []), final end)
 
-pub last_undecided : (configuration : Configuration) (relations : List Relation) (judging judged : Judging) (records : List Ordered) (end : Result (Unit {0}) InputFault)
-    → IsDecided configuration relations judging records None judged → IsLastAnswer configuration relations judging records end (answer_with (Yes judged.count) end)
-last_undecided configuration relations judging judged records end (run, counted, meet, ready) = inr (Yes judged.count, (omega (arith, counted), (parts_of judged, run), meet), refl)
+pub last_undecided : (configuration : Configuration) (requirements : Requirements) (judging judged : Judging) (records : List Ordered) (end : Result (Unit {0}) InputFault)
+    → IsDecided configuration requirements judging records None judged → IsLastAnswer configuration requirements judging records end (answer_with (Yes judged.count) end)
+last_undecided configuration requirements judging judged records end (run, counted, meet, ready) =
+    inr (Yes judged.count, (omega (arith, counted), (parts_of judged, run), leads_meet configuration requirements (with_kept requirements judged.kept) (parts_of judging) records meet), refl)
 
 -- round after round
 
@@ -79,62 +80,69 @@ filled_on can_fail start now next before records filled.Full lead is = lead_join
 filled_on can_fail start now next before records (filled.Ended end) lead is = lead (record { placed = records; end = end }) is
 filled_on can_fail start now next before records filled.Memory lead is = tt
 
--- these records were judged, and each of their views meets every relation
-abbrev pub HoldBefore : Configuration → List Relation → List Ordered → Judging → Type 0
-HoldBefore configuration relations before judging =
-    AllRun configuration (cold_parts configuration) before (parts_of judging) × ViewsMeet configuration relations (cold_parts configuration) before × (judging.count ≡ length before)
+-- these records were judged, each of their views meets every relation, and the memories have kept what they keep of them
+abbrev pub HoldBefore : Configuration → Requirements → List Ordered → Judging → Type 0
+HoldBefore configuration requirements before judging =
+    AllRun configuration (cold_parts configuration) before (parts_of judging)
+    × ViewsLead configuration requirements (cold_parts configuration) before (with_kept requirements judging.kept) × (judging.count ≡ length before)
+
+-- what is required after these records
+abbrev pub required_after : Requirements → Judging → Requirements
+required_after requirements judging = with_kept requirements judging.kept
 
 -- the verdict over what is after and what comes
-over_all : (configuration : Configuration) (relations : List Relation) (judging : Judging) (before records : List Ordered) (verdict : Verdict) → HoldBefore configuration relations before judging
-    → IsVerdictFrom configuration relations (parts_of judging) judging.count records verdict → IsVerdictFrom configuration relations (cold_parts configuration) 0 (before ++ records) verdict
-over_all configuration relations judging before records verdict (run, meet, count) is =
-    verdict_on configuration relations (cold_parts configuration) (parts_of judging) 0 before records verdict run meet
-    (subst (λ n. IsVerdictFrom configuration relations (parts_of judging) n records verdict) (let e : judging.count ≡ 0 + length before = omega (arith, count) in e) is)
+over_all : (configuration : Configuration) (requirements : Requirements) (judging : Judging) (before records : List Ordered) (verdict : Verdict) → HoldBefore configuration requirements before judging
+    → IsVerdictFrom configuration (required_after requirements judging) (parts_of judging) judging.count records verdict
+    → IsVerdictFrom configuration requirements (cold_parts configuration) 0 (before ++ records) verdict
+over_all configuration requirements judging before records verdict (run, meet, count) is =
+    verdict_on configuration requirements (required_after requirements judging) (cold_parts configuration) (parts_of judging) 0 before records verdict run meet
+    (subst (λ n. IsVerdictFrom configuration (required_after requirements judging) (parts_of judging) n records verdict) (let e : judging.count ≡ 0 + length before = omega (arith, count) in e) is)
 
 -- the answer over what is ahead, and the last records before its place
-abbrev pub IsReportedOf : CanFail → Configuration → List Relation → Placing → Result Verdict CheckFault → List LastItem → Type 0
-IsReportedOf can_fail configuration relations start answer last =
-    (scanned : Scan) × IsAhead can_fail start scanned × IsJudged configuration relations scanned answer × (last ≡ last_of answer scanned.placed)
+abbrev pub IsReportedOf : CanFail → Configuration → Requirements → Placing → Result Verdict CheckFault → List LastItem → Type 0
+IsReportedOf can_fail configuration requirements start answer last =
+    (scanned : Scan) × IsAhead can_fail start scanned × IsJudged configuration requirements scanned answer × (last ≡ last_of answer scanned.placed)
 
 -- the answer of a check whose last records are answered so
-pub last_on : (can_fail : CanFail) (configuration : Configuration) (relations : List Relation) (start now : Placing) (judging : Judging) (before records : List Ordered) (end : Result (Unit {0}) InputFault) (answer : Result Verdict CheckFault)
-    → IsFilled can_fail start (before ++ records) (filled.Ended end) now → HoldBefore configuration relations before judging → ArePlaced judging.count records
-    → IsLastAnswer configuration relations judging records end answer
-    → (answer ≡ Err Memory) ⊎ IsReportedOf can_fail configuration relations start answer (kept_after_answer answer judging.count (keep_last most_last (map item_of before)) records)
-last_on can_fail configuration relations start now judging before records end answer filled those_after placed (inl memory) = inl memory
-last_on can_fail configuration relations start now judging before records end answer filled those_after placed (inr (verdict, is, reported)) =
+pub last_on : (can_fail : CanFail) (configuration : Configuration) (requirements : Requirements) (start now : Placing) (judging : Judging) (before records : List Ordered) (end : Result (Unit {0}) InputFault) (answer : Result Verdict CheckFault)
+    → IsFilled can_fail start (before ++ records) (filled.Ended end) now → HoldBefore configuration requirements before judging → ArePlaced judging.count records
+    → IsLastAnswer configuration (required_after requirements judging) judging records end answer
+    → (answer ≡ Err Memory) ⊎ IsReportedOf can_fail configuration requirements start answer (kept_after_answer answer judging.count (keep_last most_last (map item_of before)) records)
+last_on can_fail configuration requirements start now judging before records end answer filled those_after placed (inl memory) = inl memory
+last_on can_fail configuration requirements start now judging before records end answer filled those_after placed (inr (verdict, is, reported)) =
     inr (
       record { placed = before ++ records; end = end },
       filled,
-      (verdict, over_all configuration relations judging before records verdict those_after is, reported),
-      kept_is_last answer judging.count before records [] those_after.2 (answer_within verdict end judging.count records answer reported (verdict_within configuration relations (parts_of judging) judging.count records verdict placed is))
+      (verdict, over_all configuration requirements judging before records verdict those_after is, reported),
+      kept_is_last answer judging.count before records [] those_after.2 (answer_within verdict end judging.count records answer reported (verdict_within configuration (required_after requirements judging) (parts_of judging) judging.count records verdict placed is))
           ∙ ap (last_of answer) (append-nil (before ++ records)),
     )
 
 -- the answer of a check in which a round decides
-pub decided_on : (can_fail : CanFail) (configuration : Configuration) (relations : List Relation) (start now : Placing) (judging judged : Judging) (before records : List Ordered) (verdict : Verdict)
-    → Lead can_fail start (before ++ records) now → HoldBefore configuration relations before judging → ArePlaced judging.count records → IsDecided configuration relations judging records (Some verdict) judged
-    → (Ok verdict ≡ Err Memory) ⊎ IsReportedOf can_fail configuration relations start (Ok verdict) (kept_after_answer (Ok verdict) judging.count (keep_last most_last (map item_of before)) records)
-decided_on can_fail configuration relations start now judging judged before records verdict lead those_after placed (over, final, leaves) =
+pub decided_on : (can_fail : CanFail) (configuration : Configuration) (requirements : Requirements) (start now : Placing) (judging judged : Judging) (before records : List Ordered) (verdict : Verdict)
+    → Lead can_fail start (before ++ records) now → HoldBefore configuration requirements before judging → ArePlaced judging.count records
+    → IsDecided configuration (required_after requirements judging) judging records (Some verdict) judged
+    → (Ok verdict ≡ Err Memory) ⊎ IsReportedOf can_fail configuration requirements start (Ok verdict) (kept_after_answer (Ok verdict) judging.count (keep_last most_last (map item_of before)) records)
+decided_on can_fail configuration requirements start now judging judged before records verdict lead those_after placed (over, final, leaves) =
     let more = something_ahead can_fail now in
-    let here = subst (λ list. IsVerdictFrom configuration relations (parts_of judging) judging.count list verdict) (append-nil records) (over []) in
+    let here = subst (λ list. IsVerdictFrom configuration (required_after requirements judging) (parts_of judging) judging.count list verdict) (append-nil records) (over []) in
     inr (
       led_by (before ++ records) more.0,
       lead more.0 more.1,
       (
         verdict,
-        subst (λ list. IsVerdictFrom configuration relations (cold_parts configuration) 0 list verdict) (sym (append_assoc before records more.0.placed))
-            (over_all configuration relations judging before (records ++ more.0.placed) verdict those_after (over more.0.placed)),
+        subst (λ list. IsVerdictFrom configuration requirements (cold_parts configuration) 0 list verdict) (sym (append_assoc before records more.0.placed))
+            (over_all configuration requirements judging before (records ++ more.0.placed) verdict those_after (over more.0.placed)),
         final more.0.end,
       ),
-      kept_is_last (Ok verdict) judging.count before records more.0.placed those_after.2 (verdict_within configuration relations (parts_of judging) judging.count records verdict placed here),
+      kept_is_last (Ok verdict) judging.count before records more.0.placed those_after.2 (verdict_within configuration (required_after requirements judging) (parts_of judging) judging.count records verdict placed here),
     )
 
 -- what is after once a round decided nothing
-pub after_on : (configuration : Configuration) (relations : List Relation) (judging judged : Judging) (before records : List Ordered) → HoldBefore configuration relations before judging
-    → IsDecided configuration relations judging records None judged → HoldBefore configuration relations (before ++ records) judged
-after_on configuration relations judging judged before records (run, meet, count) (more, counted, also, ready) = (
+pub after_on : (configuration : Configuration) (requirements : Requirements) (judging judged : Judging) (before records : List Ordered) → HoldBefore configuration requirements before judging
+    → IsDecided configuration (required_after requirements judging) judging records None judged → HoldBefore configuration requirements (before ++ records) judged
+after_on configuration requirements judging judged before records (run, meet, count) (more, counted, also, ready) = (
   all_run_on configuration (cold_parts configuration) (parts_of judging) (parts_of judged) before records run more,
-  meet_on configuration relations (cold_parts configuration) (parts_of judging) before records run meet also,
+  lead_on configuration requirements (required_after requirements judging) (required_after requirements judged) (cold_parts configuration) (parts_of judging) before records run meet also,
   omega (arith, counted, count, length-append before records),
 )

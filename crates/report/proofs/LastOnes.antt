@@ -8,7 +8,7 @@ use Rattle.apex_machine.specs.Configuration.{Configuration}
 use Rattle.apex_machine.specs.Pieces.{Part}
 use Rattle.apex_machine.specs.Runs.{ArePlaced}
 use Rattle.circular_buffer.specs.Buffer.{keep_last}
-use Rattle.user_rules.specs.declared.relation.Relation.{Relation}
+use Rattle.user_rules.specs.Remembered.{Requirements}
 use Rattle.verdict_merge.specs.declared.verdict.Verdict.{Verdict}
 use Rattle.verdict_merge.specs.declared.verdict.Verdict.TheVariants.{Yes, No, Broken}
 use Rattle.verdict_merge.specs.Verdicts.{IsVerdictFrom}
@@ -85,14 +85,14 @@ kept_is_last (Ok (Broken pos rule)) first before records more count (least, most
 kept_is_last _ first before records more count within = refl
 
 -- a verdict over records is at a place among them
-pub verdict_within : (configuration : Configuration) (relations : List Relation) (parts : ℕ → Part) (first : ℕ) (records : List Ordered) (verdict : Verdict) → ArePlaced first records
-    → IsVerdictFrom configuration relations parts first records verdict → IsWithin (Ok verdict) first records
-verdict_within configuration relations parts first records (Yes all) placed is = tt
-verdict_within configuration relations parts first records (No pos piece cause) placed (is_shown, meet) =
+pub verdict_within : (configuration : Configuration) (requirements : Requirements) (parts : ℕ → Part) (first : ℕ) (records : List Ordered) (verdict : Verdict) → ArePlaced first records
+    → IsVerdictFrom configuration requirements parts first records verdict → IsWithin (Ok verdict) first records
+verdict_within configuration requirements parts first records (Yes all) placed is = tt
+verdict_within configuration requirements parts first records (No pos piece cause) placed (is_shown, meet) =
     let at = no_at configuration parts first records (record { pos = pos; piece = piece; cause = cause }) placed is_shown in
     let size = ap length is_shown.split ∙ length-append is_shown.before (is_shown.ordered ∷ is_shown.after) in
     (omega (arith, at), omega (arith, at, size))
-verdict_within configuration relations parts first records (Broken pos rule) placed is =
+verdict_within configuration requirements parts first records (Broken pos rule) placed is =
     let size = ap length is.split ∙ length-append is.through is.after in
     (omega (arith, is.place), omega (arith, is.place, is.last, size))
 

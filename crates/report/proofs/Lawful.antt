@@ -24,7 +24,7 @@ use Rattle.placement.proofs.Readings.{put-here, put-other, put-back}
 use Rattle.placement.proofs.Refusal.{Decides, Fits, IsWhy, ends_decide, front, why}
 use Rattle.record_read.specs.declared.fault.RowFault.TheVariants as row
 use Rattle.record_read.specs.Row.{Item}
-use Rattle.user_rules.specs.declared.relation.Relation.{Relation}
+use Rattle.user_rules.specs.Remembered.{Requirements}
 use Rattle.verdict_merge.specs.declared.verdict.Verdict.{Verdict}
 use Rattle.verdict_merge.specs.declared.verdict.Verdict.TheVariants.{Yes, No, Broken}
 use Rattle.verdict_merge.specs.Refusals.{IsBrokenAt, IsRefusedAt, IsRunUpToNo}
@@ -189,17 +189,17 @@ found_of : (verdict found : Verdict) (end : Result (Unit {0}) InputFault) → ((
 found_of (Yes records) found (Ok u) other e = absurd (other records (cc))
 found_of _ found _ other e = cc
 
-module _ (can_fail : CanFail) (texts : Texts) (relations : List Relation) (configuration : Configuration) (scanned : Scan)
+module _ (can_fail : CanFail) (texts : Texts) (requirements : Requirements) (configuration : Configuration) (scanned : Scan)
     (read : configuration_of texts.config ≡ Ok configuration) (count : length texts.recordings ≡ configuration.cores)
     (scan_is : IsScanOf can_fail (length texts.recordings) none_taken 0 (items_at texts.recordings) (pairs_of texts.certificate) scanned)
     (verdict : Verdict) where
-  pub yes_means : (result : Result Verdict CheckFault) → IsRunWhereYes configuration relations scanned.placed verdict → result ≡ answer_with verdict scanned.end → YesMeansRun texts relations result
+  pub yes_means : (result : Result Verdict CheckFault) → IsRunWhereYes configuration requirements scanned.placed verdict → result ≡ answer_with verdict scanned.end → YesMeansRun texts requirements result
   yes_means (Ok (Yes records)) run e =
       let (left, items, reads, certs, is) = scan_is in
       let yes = yes_of verdict scanned.end records e in
       let p = placed_of configuration scanned left items (length texts.recordings) count is in
       let none = p.ended yes.1 in
-      let final = subst (IsRunWhereYes configuration relations scanned.placed) yes.0 run in
+      let final = subst (IsRunWhereYes configuration requirements scanned.placed) yes.0 run in
       record {
         configuration = configuration;
         configured = read;
@@ -239,17 +239,17 @@ module _ (can_fail : CanFail) (texts : Texts) (relations : List Relation) (confi
       }
 
   -- what a No and a broken rule mean, and that the last records that are reported are of the records that they are about
-  pub no_means : (result : Result Verdict CheckFault) (last : List LastItem) → IsRunUpToNo configuration relations scanned.placed verdict → result ≡ answer_with verdict scanned.end
-      → last ≡ last_of result scanned.placed → NoMeansRefusal texts relations result × IsLastOf texts relations result (settled result last)
+  pub no_means : (result : Result Verdict CheckFault) (last : List LastItem) → IsRunUpToNo configuration requirements scanned.placed verdict → result ≡ answer_with verdict scanned.end
+      → last ≡ last_of result scanned.placed → NoMeansRefusal texts requirements result × IsLastOf texts requirements result (settled result last)
   no_means (Err fault) last run e reported = (tt, refl)
   no_means (Ok (Yes records)) last run e reported = (tt, reported)
   no_means (Ok (No place piece cause)) last run e reported =
-      let no = subst (IsRunUpToNo configuration relations scanned.placed) (found_of verdict (No place piece cause) scanned.end (λ count yes. cc) e) run in (
-        lawful_up_to (λ one records. IsRefusedAt one relations records place) no,
-        lawful_up_to (λ one records. IsRefusedAt one relations records place × (last ≡ last_before place records)) (no, reported),
+      let no = subst (IsRunUpToNo configuration requirements scanned.placed) (found_of verdict (No place piece cause) scanned.end (λ count yes. cc) e) run in (
+        lawful_up_to (λ one records. IsRefusedAt one requirements records place) no,
+        lawful_up_to (λ one records. IsRefusedAt one requirements records place × (last ≡ last_before place records)) (no, reported),
       )
   no_means (Ok (Broken place rule)) last run e reported =
-      let no = subst (IsRunUpToNo configuration relations scanned.placed) (found_of verdict (Broken place rule) scanned.end (λ count yes. cc) e) run in (
-        lawful_up_to (λ one records. IsBrokenAt one relations records place rule) no,
-        lawful_up_to (λ one records. IsBrokenAt one relations records place rule × (last ≡ last_before place records)) (no, reported),
+      let no = subst (IsRunUpToNo configuration requirements scanned.placed) (found_of verdict (Broken place rule) scanned.end (λ count yes. cc) e) run in (
+        lawful_up_to (λ one records. IsBrokenAt one requirements records place rule) no,
+        lawful_up_to (λ one records. IsBrokenAt one requirements records place rule × (last ≡ last_before place records)) (no, reported),
       )

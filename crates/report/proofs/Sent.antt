@@ -3,12 +3,10 @@
 use mathlib.Core.List.{[], ◌∷◌}
 use mir.Syntax.{Sym}
 use denote.RattleType.{RattleType}
-use denote.Ref.{Bor, NamedLft}
-use denote.Param.Members.{Mut}
+use denote.Ref.{NamedLft}
 use denote.Param.Object.{Ghosts, table_of}
 use denote.Param.Send.{IsSend, IsSync, recorded_send, sendable, struct_send}
 use denote.Param.Sent.{Syncs}
-use denote.Struct.Field.{bool-field}
 use denote.Struct.Tuple.{TupleAt}
 use Rattle.std.proofs.Crossing.{Box-sync, crosses, dyn_box_sync}
 use Rattle.std.specs.contracts.alloc.Global.{the_row as heap_row}
@@ -16,7 +14,6 @@ use Rattle.std.specs.contracts.dyn_box.DynBox.{the_field as box_field}
 use Rattle.std.specs.contracts.impls.GlobalAllocator.TheImpl.{ghosts}
 use Rattle.std_collections.proofs.Crosses.{BTreeMap-send}
 use Rattle.circular_buffer.proofs.Crosses.{Cells-send, Deed-send}
-use Rattle.apex_types.specs.declared.view.View.{View}
 use Rattle.apex_types.specs.contracts.record.Ordered.{the_row as ordered_row}
 use Rattle.apex_types.specs.contracts.service.Service.{the_field as service_field}
 use Rattle.apex_machine.specs.contracts.state.Outcome.{the_field as outcome_field}
@@ -44,9 +41,11 @@ use Rattle.piece_check.specs.contracts.piece.Piece.{the_field as piece_field}
 use Rattle.piece_check.specs.contracts.touched.Touched.{the_field as touched_field}
 use Rattle.piece_check.specs.contracts.windows.Windows.{the_field as windows_field}
 use Rattle.user_rules.proofs.relation.Relation.TheLaws.TheKnot.{sync-Relation}
+use Rattle.user_rules.specs.contracts.memory.RuleMemory.{the_row as memory_row}
 use Rattle.user_rules.specs.contracts.relation.Relation.{the_field as relation_field}
 use Rattle.user_rules.specs.contracts.rule.Rule.{the_row as rule_row}
 use Rattle.verdict_merge.specs.contracts.judge.Judge.{the_row as judge_row}
+use Rattle.verdict_merge.specs.contracts.remembering.Remembering.{the_field as remembering_field}
 use Rattle.report.specs.contracts.options.Options.{the_row as options_row}
 
 -- ---- processes
@@ -145,8 +144,11 @@ touched_is_sent = search (sendable, crosses) depth 60 fits 20000
 windows_are_sent : IsSend windows_field.row
 windows_are_sent = search (sendable, crosses) depth 60 fits 20000
 
+remembering_is_sent : IsSend remembering_field.row
+remembering_is_sent = search (sendable, crosses) depth 60 fits 20000
+
 pub judge_is_sent : IsSend judge_row
-judge_is_sent = search (sendable, crosses, piece_is_sent, touched_is_sent, windows_are_sent) depth 60 fits 20000
+judge_is_sent = search (sendable, crosses, piece_is_sent, touched_is_sent, windows_are_sent, remembering_is_sent) depth 60 fits 20000
 
 pub config_is_shared : IsSync config_row
 config_is_shared = search (sendable, crosses) depth 200 fits 100000
@@ -155,10 +157,13 @@ pub ordered_is_shared : IsSync ordered_row
 ordered_is_shared = search (sendable, crosses, service_is_shared) depth 100 fits 50000
 
 relation_is_shared : IsSync relation_field.row
-relation_is_shared = sync-Relation (search sendable depth 100 fits 20000) (search sendable) (λ held shared. Box-sync held shared)
+relation_is_shared = sync-Relation (search sendable depth 100 fits 20000) (λ held shared. Box-sync held shared)
+
+pub memory_is_shared : IsSync memory_row
+memory_is_shared = search (sendable, crosses, relation_is_shared) depth 100 fits 50000
 
 -- a rule is shared where the calls that its test may be are shared
-pub rule_is_shared : (T : RattleType) (g : Ghosts T.Denot) (h : Mut ((i : T.Denot) × (g.1.0 i).0.Denot) (Bor View × Unit {0}) bool-field.Value)
+pub rule_is_shared : (T : RattleType) (g : Ghosts T.Denot) (h : _)
     → IsSync T → Syncs (table_of T.Denot g) → IsSync (rule_row T g h)
 rule_is_shared T g h is calls =
     let boxed : IsSync (box_field T heap_row g ghosts).row = dyn_box_sync T g calls is in
@@ -167,7 +172,7 @@ rule_is_shared T g h is calls =
 pub options_are_shared : (a : NamedLft) (Gate : RattleType) → IsSync Gate → IsSync (options_row a Gate)
 options_are_shared a Gate is = search sendable depth 20
 
--- a closure with six captures is sent where each of them is
-pub captures_are_sent : (ν : Sym) (A B C D E F : RattleType) → IsSend A → IsSend B → IsSend C → IsSend D → IsSend E → IsSend F
-    → IsSend (TupleAt ν (A ∷ B ∷ C ∷ D ∷ E ∷ F ∷ []))
-captures_are_sent ν A B C D E F a b c d e f = search (recorded_send, struct_send) depth 20
+-- a closure with seven captures is sent where each of them is
+pub captures_are_sent : (ν : Sym) (A B C D E F G : RattleType) → IsSend A → IsSend B → IsSend C → IsSend D → IsSend E → IsSend F → IsSend G
+    → IsSend (TupleAt ν (A ∷ B ∷ C ∷ D ∷ E ∷ F ∷ G ∷ []))
+captures_are_sent ν A B C D E F G a b c d e f g = search (recorded_send, struct_send) depth 20

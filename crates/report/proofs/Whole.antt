@@ -16,7 +16,7 @@ use Rattle.core_intake.specs.Answered.{answered}
 use Rattle.placement.specs.Scan.{Scan, scan}
 use Rattle.record_read.specs.declared.fault.RowFault.TheVariants as row
 use Rattle.record_read.specs.Row.{records_of}
-use Rattle.user_rules.specs.declared.relation.Relation.{Relation}
+use Rattle.user_rules.specs.Remembered.{Requirements}
 use Rattle.verdict_merge.specs.declared.verdict.Verdict.{Verdict}
 use Rattle.verdict_merge.proofs.Ruled.{one_verdict}
 use Rattle.report.specs.declared.fault.ArgumentFault.{ArgumentFault}
@@ -106,20 +106,20 @@ read_so can_fail texts scanned (left, pairs, reads, certs, is) =
 -- outcomes of texts
 
 -- the outcome under a configuration with as many cores as there are recordings
-pub outcome_under : (configuration : Configuration) (texts : Texts) (readings : Readings) (relations : List Relation) (result : Result Verdict CheckFault) (scanned : Scan)
-    → length texts.recordings ≡ configuration.cores → scan_of texts readings ≡ scanned → IsJudged configuration relations scanned result
-    → IsOutcomeUnder (nat_eq (length texts.recordings) configuration.cores) configuration texts readings relations result
-outcome_under configuration texts readings relations result scanned count scan judged =
-    subst (λ b. IsOutcomeUnder b configuration texts readings relations result) (sym (eq-eqb (length texts.recordings) configuration.cores count))
-    (subst (λ one. IsJudged configuration relations one result) (sym scan) judged)
+pub outcome_under : (configuration : Configuration) (texts : Texts) (readings : Readings) (requirements : Requirements) (result : Result Verdict CheckFault) (scanned : Scan)
+    → length texts.recordings ≡ configuration.cores → scan_of texts readings ≡ scanned → IsJudged configuration requirements scanned result
+    → IsOutcomeUnder (nat_eq (length texts.recordings) configuration.cores) configuration texts readings requirements result
+outcome_under configuration texts readings requirements result scanned count scan judged =
+    subst (λ b. IsOutcomeUnder b configuration texts readings requirements result) (sym (eq-eqb (length texts.recordings) configuration.cores count))
+    (subst (λ one. IsJudged configuration requirements one result) (sym scan) judged)
 
-pub other_count : (configuration : Configuration) (texts : Texts) (readings : Readings) (relations : List Relation) (result : Result Verdict CheckFault)
-    → (length texts.recordings ≡ configuration.cores → ⊥) → IsOutcomeUnder false configuration texts readings relations result
-    → IsOutcomeUnder (nat_eq (length texts.recordings) configuration.cores) configuration texts readings relations result
-other_count configuration texts readings relations result other refused =
+pub other_count : (configuration : Configuration) (texts : Texts) (readings : Readings) (requirements : Requirements) (result : Result Verdict CheckFault)
+    → (length texts.recordings ≡ configuration.cores → ⊥) → IsOutcomeUnder false configuration texts readings requirements result
+    → IsOutcomeUnder (nat_eq (length texts.recordings) configuration.cores) configuration texts readings requirements result
+other_count configuration texts readings requirements result other refused =
     by (nat_eq (length texts.recordings) configuration.cores) refl
   where
-    by : (b : Bool) → nat_eq (length texts.recordings) configuration.cores ≡ b → IsOutcomeUnder b configuration texts readings relations result
+    by : (b : Bool) → nat_eq (length texts.recordings) configuration.cores ≡ b → IsOutcomeUnder b configuration texts readings requirements result
     by true e = absurd (other (eqb-true (length texts.recordings) configuration.cores e))
     by false e = refused
 
@@ -128,27 +128,27 @@ pub scan_of_placed : (texts : Texts) (readings : Readings) → ArePlaced 0 (scan
 scan_of_placed texts readings = scan_places (length texts.recordings) none_taken 0 (given_of_core texts readings) (given_of_certificate texts readings)
 
 -- under a configuration there is one outcome
-one_under : (enough : Bool) (configuration : Configuration) (texts : Texts) (readings : Readings) (relations : List Relation) (one other : Result Verdict CheckFault)
-    → IsOutcomeUnder enough configuration texts readings relations one → IsOutcomeUnder enough configuration texts readings relations other → one ≡ other
-one_under false configuration texts readings relations one other is also = is ∙ sym also
-one_under true configuration texts readings relations one other (verdict, found, is) (verdict', found', also) =
+one_under : (enough : Bool) (configuration : Configuration) (texts : Texts) (readings : Readings) (requirements : Requirements) (one other : Result Verdict CheckFault)
+    → IsOutcomeUnder enough configuration texts readings requirements one → IsOutcomeUnder enough configuration texts readings requirements other → one ≡ other
+one_under false configuration texts readings requirements one other is also = is ∙ sym also
+one_under true configuration texts readings requirements one other (verdict, found, is) (verdict', found', also) =
     let scanned = scan_of texts readings in
-    let same : verdict ≡ verdict' = one_verdict configuration relations scanned.placed verdict verdict' (scan_of_placed texts readings) found found' in
+    let same : verdict ≡ verdict' = one_verdict configuration requirements scanned.placed verdict verdict' (scan_of_placed texts readings) found found' in
     is ∙ ap (λ v. answer_with v scanned.end) same ∙ sym also
 
-one_by : (read : Result Configuration ConfigFault) (texts : Texts) (readings : Readings) (relations : List Relation) (one other : Result Verdict CheckFault)
-    → IsOutcomeBy read texts readings relations one → IsOutcomeBy read texts readings relations other → one ≡ other
-one_by (Err fault) texts readings relations one other is also = is ∙ sym also
-one_by (Ok configuration) texts readings relations one other is also =
-    one_under (nat_eq (length texts.recordings) configuration.cores) configuration texts readings relations one other is also
+one_by : (read : Result Configuration ConfigFault) (texts : Texts) (readings : Readings) (requirements : Requirements) (one other : Result Verdict CheckFault)
+    → IsOutcomeBy read texts readings requirements one → IsOutcomeBy read texts readings requirements other → one ≡ other
+one_by (Err fault) texts readings requirements one other is also = is ∙ sym also
+one_by (Ok configuration) texts readings requirements one other is also =
+    one_under (nat_eq (length texts.recordings) configuration.cores) configuration texts readings requirements one other is also
 
-one_with : (found : Option ArgumentFault) (texts : Texts) (readings : Readings) (relations : List Relation) (one other : Result Verdict CheckFault)
-    → IsOutcomeWith found texts readings relations one → IsOutcomeWith found texts readings relations other → one ≡ other
-one_with (Some fault) texts readings relations one other is also = is ∙ sym also
-one_with None texts readings relations one other is also = one_by (configuration_of texts.config) texts readings relations one other is also
+one_with : (found : Option ArgumentFault) (texts : Texts) (readings : Readings) (requirements : Requirements) (one other : Result Verdict CheckFault)
+    → IsOutcomeWith found texts readings requirements one → IsOutcomeWith found texts readings requirements other → one ≡ other
+one_with (Some fault) texts readings requirements one other is also = is ∙ sym also
+one_with None texts readings requirements one other is also = one_by (configuration_of texts.config) texts readings requirements one other is also
 
 pub there_is_one_outcome : OneOutcome
-there_is_one_outcome some others texts readings relations one other alike (inl memory) also sound sound' = absurd (sound memory)
-there_is_one_outcome some others texts readings relations one other alike (inr is) (inl memory) sound sound' = absurd (sound' memory)
-there_is_one_outcome some others texts readings relations one other alike (inr is) (inr also) sound sound' =
-    one_with (argument_fault_of some) texts readings relations one other is (subst (λ found. IsOutcomeWith found texts readings relations other) (sym alike) also)
+there_is_one_outcome some others texts readings requirements one other alike (inl memory) also sound sound' = absurd (sound memory)
+there_is_one_outcome some others texts readings requirements one other alike (inr is) (inl memory) sound sound' = absurd (sound' memory)
+there_is_one_outcome some others texts readings requirements one other alike (inr is) (inr also) sound sound' =
+    one_with (argument_fault_of some) texts readings requirements one other is (subst (λ found. IsOutcomeWith found texts readings requirements other) (sym alike) also)

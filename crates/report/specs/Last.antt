@@ -7,7 +7,7 @@ use Rattle.circular_buffer.specs.Buffer.{keep_last}
 use Rattle.record_read.specs.declared.kind.Kind.{Kind}
 use Rattle.record_read.specs.declared.kind.Kind.TheVariants as kind
 use Rattle.record_read.specs.Named.{kind_name}
-use Rattle.user_rules.specs.declared.relation.Relation.{Relation}
+use Rattle.user_rules.specs.Remembered.{Requirements}
 use Rattle.verdict_merge.specs.declared.verdict.Verdict.{Verdict}
 use Rattle.verdict_merge.specs.declared.verdict.Verdict.TheVariants.{No, Broken}
 use Rattle.verdict_merge.specs.Refusals.{IsBrokenAt, IsRefusedAt}
@@ -56,12 +56,12 @@ settled (Ok verdict) kept = kept
 settled (Err fault) kept = []
 
 -- what is reported after the answer of a check of these texts: of the records that the answer's meaning is about, the last before its place
-abbrev pub IsLastOf : Texts → List Relation → Result Verdict CheckFault → List LastItem → Type 0
-IsLastOf texts relations (Ok (No pos piece cause)) last =
-    IsLawfulUpTo texts (λ configuration records. IsRefusedAt configuration relations records pos × (last ≡ last_before pos records))
-IsLastOf texts relations (Ok (Broken pos rule)) last =
-    IsLawfulUpTo texts (λ configuration records. IsBrokenAt configuration relations records pos rule × (last ≡ last_before pos records))
-IsLastOf texts relations _ last = last ≡ []
+abbrev pub IsLastOf : Texts → Requirements → Result Verdict CheckFault → List LastItem → Type 0
+IsLastOf texts requirements (Ok (No pos piece cause)) last =
+    IsLawfulUpTo texts (λ configuration records. IsRefusedAt configuration requirements records pos × (last ≡ last_before pos records))
+IsLastOf texts requirements (Ok (Broken pos rule)) last =
+    IsLawfulUpTo texts (λ configuration records. IsBrokenAt configuration requirements records pos rule × (last ≡ last_before pos records))
+IsLastOf texts requirements _ last = last ≡ []
 
 -- the text of the last records, a line for each
 

@@ -7,7 +7,7 @@ use Rattle.apex_types.specs.declared.record.Record.{Record}
 use Rattle.module_config.specs.Reading.{configuration_of}
 use Rattle.order_cert.specs.Order.{IsLawfulOrder}
 use Rattle.order_cert.specs.Row.{pairs_of}
-use Rattle.user_rules.specs.declared.relation.Relation.{Relation}
+use Rattle.user_rules.specs.Remembered.{Requirements}
 use Rattle.verdict_merge.specs.declared.verdict.Verdict.{Verdict}
 use Rattle.verdict_merge.specs.declared.verdict.Verdict.TheVariants.{No, Broken}
 use Rattle.verdict_merge.specs.Refusals.{IsBrokenAt, IsRefusedAt}
@@ -33,9 +33,9 @@ pub record IsLawfulUpTo (texts : Texts) (Fact : Configuration → List Ordered �
 
 -- if the answer is No, the records before its place are a run of the machine, which has no step for the record at the place; if a rule is
 -- broken, the records up to its place are a run, and the view there is the first that breaks a rule
-abbrev pub NoMeansRefusal : Texts → List Relation → Result Verdict CheckFault → Type 0
-NoMeansRefusal texts relations (Ok (No pos piece cause)) =
-    IsLawfulUpTo texts (λ configuration records. IsRefusedAt configuration relations records pos)
-NoMeansRefusal texts relations (Ok (Broken pos rule)) =
-    IsLawfulUpTo texts (λ configuration records. IsBrokenAt configuration relations records pos rule)
-NoMeansRefusal texts relations _ = Unit {0}
+abbrev pub NoMeansRefusal : Texts → Requirements → Result Verdict CheckFault → Type 0
+NoMeansRefusal texts requirements (Ok (No pos piece cause)) =
+    IsLawfulUpTo texts (λ configuration records. IsRefusedAt configuration requirements records pos)
+NoMeansRefusal texts requirements (Ok (Broken pos rule)) =
+    IsLawfulUpTo texts (λ configuration records. IsBrokenAt configuration requirements records pos rule)
+NoMeansRefusal texts requirements _ = Unit {0}

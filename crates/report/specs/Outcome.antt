@@ -11,7 +11,7 @@ use Rattle.placement.specs.declared.fault.InputFault.{InputFault}
 use Rattle.placement.specs.declared.fault.InputFault.TheVariants as input
 use Rattle.placement.specs.Scan.{Scan}
 use Rattle.record_read.specs.declared.fault.RowFault.TheVariants as row
-use Rattle.user_rules.specs.declared.relation.Relation.{Relation}
+use Rattle.user_rules.specs.Remembered.{Requirements}
 use Rattle.verdict_merge.specs.declared.verdict.Verdict.{Verdict}
 use Rattle.verdict_merge.specs.declared.verdict.Verdict.TheVariants.{Yes}
 use Rattle.verdict_merge.specs.Verdicts.{IsVerdict}
@@ -33,20 +33,20 @@ answer_with (Yes records) (Err fault) = Err (Input fault)
 answer_with verdict end = Ok verdict
 
 -- the records that were placed are judged, and the input's end with them
-abbrev pub IsJudged : Configuration → List Relation → Scan → Result Verdict CheckFault → Type 0
-IsJudged configuration relations scanned result =
-    (verdict : Verdict) × IsVerdict configuration relations scanned.placed verdict × (result ≡ answer_with verdict scanned.end)
+abbrev pub IsJudged : Configuration → Requirements → Scan → Result Verdict CheckFault → Type 0
+IsJudged configuration requirements scanned result =
+    (verdict : Verdict) × IsVerdict configuration requirements scanned.placed verdict × (result ≡ answer_with verdict scanned.end)
 
 -- the outcome under a configuration, which requires one recording for each core
-abbrev pub IsOutcomeUnder : Bool → Configuration → Texts → Readings → List Relation → Result Verdict CheckFault → Type 0
-IsOutcomeUnder false configuration texts readings relations result = result ≡ Err (Arguments ReaderCount)
-IsOutcomeUnder true configuration texts readings relations result = IsJudged configuration relations (scan_of texts readings) result
+abbrev pub IsOutcomeUnder : Bool → Configuration → Texts → Readings → Requirements → Result Verdict CheckFault → Type 0
+IsOutcomeUnder false configuration texts readings requirements result = result ≡ Err (Arguments ReaderCount)
+IsOutcomeUnder true configuration texts readings requirements result = IsJudged configuration requirements (scan_of texts readings) result
 
 -- the outcome of these texts, by what the text of the configuration is
-abbrev pub IsOutcomeBy : Result Configuration ConfigFault → Texts → Readings → List Relation → Result Verdict CheckFault → Type 0
-IsOutcomeBy (Err fault) texts readings relations result = result ≡ Err (Config fault)
-IsOutcomeBy (Ok configuration) texts readings relations result =
-    IsOutcomeUnder (nat_eq (length texts.recordings) configuration.cores) configuration texts readings relations result
+abbrev pub IsOutcomeBy : Result Configuration ConfigFault → Texts → Readings → Requirements → Result Verdict CheckFault → Type 0
+IsOutcomeBy (Err fault) texts readings requirements result = result ≡ Err (Config fault)
+IsOutcomeBy (Ok configuration) texts readings requirements result =
+    IsOutcomeUnder (nat_eq (length texts.recordings) configuration.cores) configuration texts readings requirements result
 
 -- what is wrong with a number that must be from 1 to this maximum: it is 0, or above the maximum
 abbrev pub range_fault_of : ℕ → ArgumentFault → ArgumentFault → ℕ → Option ArgumentFault
@@ -59,14 +59,14 @@ argument_fault_of settings =
     option_or (range_fault_of MOST_WORKERS NoWorkers TooManyWorkers settings.workers) (range_fault_of GREATEST_DEPTH NoDepth TooDeep settings.depth)
 
 -- the outcome of these texts, by what is wrong with the settings: if nothing is wrong, it is the same for all settings
-abbrev pub IsOutcomeWith : Option ArgumentFault → Texts → Readings → List Relation → Result Verdict CheckFault → Type 0
-IsOutcomeWith (Some fault) texts readings relations result = result ≡ Err (Arguments fault)
-IsOutcomeWith None texts readings relations result = IsOutcomeBy (configuration_of texts.config) texts readings relations result
+abbrev pub IsOutcomeWith : Option ArgumentFault → Texts → Readings → Requirements → Result Verdict CheckFault → Type 0
+IsOutcomeWith (Some fault) texts readings requirements result = result ≡ Err (Arguments fault)
+IsOutcomeWith None texts readings requirements result = IsOutcomeBy (configuration_of texts.config) texts readings requirements result
 
--- the outcome of a check with these settings, of these texts as far as they are read, and of the rules' relations; a lack of memory outranks it
-abbrev pub IsOutcome : Settings → Texts → Readings → List Relation → Result Verdict CheckFault → Type 0
-IsOutcome settings texts readings relations result =
-    (result ≡ Err Memory) ⊎ IsOutcomeWith (argument_fault_of settings) texts readings relations result
+-- the outcome of a check with these settings, of these texts as far as they are read, and of the rules' requirements; a lack of memory outranks it
+abbrev pub IsOutcome : Settings → Texts → Readings → Requirements → Result Verdict CheckFault → Type 0
+IsOutcome settings texts readings requirements result =
+    (result ≡ Err Memory) ⊎ IsOutcomeWith (argument_fault_of settings) texts readings requirements result
 
 -- the laws
 
@@ -77,16 +77,16 @@ one_by_one = record { workers = 1; depth = 1 }
 -- for all settings with which nothing is wrong, the outcomes are those of one worker
 abbrev pub SettingsChangeNoOutcome : Type 0
 SettingsChangeNoOutcome =
-    (settings : Settings) (texts : Texts) (readings : Readings) (relations : List Relation) (result : Result Verdict CheckFault)
+    (settings : Settings) (texts : Texts) (readings : Readings) (requirements : Requirements) (result : Result Verdict CheckFault)
     → argument_fault_of settings ≡ None
-    → IsOutcome settings texts readings relations result ↔ IsOutcome one_by_one texts readings relations result
+    → IsOutcome settings texts readings requirements result ↔ IsOutcome one_by_one texts readings requirements result
 
--- for the same texts, readings and relations there is one outcome, a lack of memory aside, for all settings that are refused alike or not at all
+-- for the same texts, readings and requirements there is one outcome, a lack of memory aside, for all settings that are refused alike or not at all
 abbrev pub OneOutcome : Type 0
 OneOutcome =
-    (some others : Settings) (texts : Texts) (readings : Readings) (relations : List Relation) (one other : Result Verdict CheckFault)
+    (some others : Settings) (texts : Texts) (readings : Readings) (requirements : Requirements) (one other : Result Verdict CheckFault)
     → argument_fault_of some ≡ argument_fault_of others
-    → IsOutcome some texts readings relations one → IsOutcome others texts readings relations other
+    → IsOutcome some texts readings requirements one → IsOutcome others texts readings requirements other
     → one ≢ Err Memory → other ≢ Err Memory → one ≡ other
 
 -- this is no failure of a reader
@@ -98,5 +98,5 @@ TellsNoFailure _ = Unit {0}
 -- if no reader failed, no outcome is a reader's failure
 abbrev pub WholeReadingsTellNoFailure : Type 0
 WholeReadingsTellNoFailure =
-    (settings : Settings) (texts : Texts) (relations : List Relation) (result : Result Verdict CheckFault)
-    → IsOutcome settings texts whole relations result → TellsNoFailure result
+    (settings : Settings) (texts : Texts) (requirements : Requirements) (result : Result Verdict CheckFault)
+    → IsOutcome settings texts whole requirements result → TellsNoFailure result

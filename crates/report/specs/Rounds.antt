@@ -9,10 +9,10 @@ use Rattle.placement.specs.declared.placer.Filled.{Filled}
 use Rattle.placement.specs.declared.placer.Filled.TheVariants.{Full}
 use Rattle.placement.specs.Lanes.{AreHonest, IsFilled, Placing}
 use Rattle.placement.specs.Reading.{CanFail}
-use Rattle.user_rules.specs.declared.relation.Relation.{Relation}
+use Rattle.user_rules.specs.Remembered.{Requirements, with_kept}
 use Rattle.verdict_merge.specs.declared.verdict.Verdict.{Verdict}
 use Rattle.verdict_merge.specs.declared.verdict.Verdict.TheVariants.{No}
-use Rattle.verdict_merge.specs.Verdicts.{IsVerdictFrom, ViewsMeet}
+use Rattle.verdict_merge.specs.Verdicts.{IsVerdictFrom, ViewsLead}
 use Rattle.verdict_merge.specs.Rounds.{AllRun, EndsInNo, IsReady, Judging, parts_of}
 use Rattle.report.specs.declared.fault.CheckFault.{CheckFault}
 use Rattle.report.specs.declared.fault.CheckFault.TheVariants.{Memory}
@@ -36,24 +36,24 @@ LeavesItsPiece configuration old records (Ok (No place number cause)) new =
 LeavesItsPiece configuration old records _ new = Unit {0}
 
 -- after a broken rule over these records, the breach of the record at its place is left
-abbrev pub LeavesItsBreach : Configuration → List Relation → Judging → List Ordered → Result Verdict CheckFault → Judging → Type 0
-LeavesItsBreach configuration relations old records answer new = HasBreach configuration relations (parts_of old) old.count records answer new.breach
+abbrev pub LeavesItsBreach : Configuration → Requirements → Judging → List Ordered → Result Verdict CheckFault → Judging → Type 0
+LeavesItsBreach configuration requirements old records answer new = HasBreach configuration requirements (parts_of old) old.count records answer new.breach new.kept
 
 -- what the records of a round decide: nothing, if each piece ran over them and each of their views meets every relation; or the verdict
 -- over them, whatever comes after them, and after a No its piece is left as it was
-abbrev pub IsDecided : Configuration → List Relation → Judging → List Ordered → Option Verdict → Judging → Type 0
-IsDecided configuration relations old records None new =
+abbrev pub IsDecided : Configuration → Requirements → Judging → List Ordered → Option Verdict → Judging → Type 0
+IsDecided configuration requirements old records None new =
     AllRun configuration (parts_of old) records (parts_of new) × (new.count ≡ old.count + length records)
-    × ViewsMeet configuration relations (parts_of old) records × IsReady configuration new
-IsDecided configuration relations old records (Some verdict) new =
-    ((later : List Ordered) → IsVerdictFrom configuration relations (parts_of old) old.count (records ++ later) verdict) × IsFinal verdict
+    × ViewsLead configuration requirements (parts_of old) records (with_kept requirements new.kept) × IsReady configuration new
+IsDecided configuration requirements old records (Some verdict) new =
+    ((later : List Ordered) → IsVerdictFrom configuration requirements (parts_of old) old.count (records ++ later) verdict) × IsFinal verdict
     × LeavesItsPiece configuration old records (Ok verdict) new
 
 -- the answer over the last records, after which the input ends in this way; a lack of memory outranks it
-abbrev pub IsLastAnswer : Configuration → List Relation → Judging → List Ordered → Result (Unit {0}) InputFault → Result Verdict CheckFault → Type 0
-IsLastAnswer configuration relations judging records end answer =
+abbrev pub IsLastAnswer : Configuration → Requirements → Judging → List Ordered → Result (Unit {0}) InputFault → Result Verdict CheckFault → Type 0
+IsLastAnswer configuration requirements judging records end answer =
     (answer ≡ Err Memory)
-    ⊎ ((verdict : Verdict) × IsVerdictFrom configuration relations (parts_of judging) judging.count records verdict × (answer ≡ answer_with verdict end))
+    ⊎ ((verdict : Verdict) × IsVerdictFrom configuration requirements (parts_of judging) judging.count records verdict × (answer ≡ answer_with verdict end))
 
 -- how a round was filled: its records are at the next places, and what was ahead is known if the recordings were answered honestly
 pub record IsPlaced (can_fail : CanFail) (old : Placing) (records : List Ordered) (filled : Filled) (new : Placing) : Type 0 where

@@ -1,6 +1,5 @@
 -- What a Yes means.
 use Rattle.std.specs.Prelude.{◌≡◌, ◌<◌, ℕ, suc, List, [], ◌∷◌, Result, Ok, map, length}
-use Rattle.std.specs.List.{All}
 use Rattle.apex_machine.specs.Configuration.{Configuration}
 use Rattle.apex_machine.specs.State.{State, cold_state}
 use Rattle.apex_machine.specs.Step.{Run}
@@ -13,8 +12,8 @@ use Rattle.order_cert.specs.Kept.{put}
 use Rattle.order_cert.specs.Order.{IsLawfulOrder}
 use Rattle.order_cert.specs.Row.{pairs_of}
 use Rattle.placement.specs.Scan.{placed_at}
-use Rattle.user_rules.specs.declared.relation.Relation.{Relation}
-use Rattle.user_rules.specs.FirstBroken.{MeetsAll}
+use Rattle.user_rules.specs.Remembered.{Requirements}
+use Rattle.user_rules.specs.FirstBroken.{AllMeet}
 use Rattle.verdict_merge.specs.declared.verdict.Verdict.{Verdict}
 use Rattle.verdict_merge.specs.declared.verdict.Verdict.TheVariants.{Yes}
 use Rattle.report.specs.declared.fault.CheckFault.{CheckFault}
@@ -30,8 +29,8 @@ AreInOrder cores place (pair ∷ pairs) rest records =
 
 -- the texts are a configuration, recordings and a certificate without a fault; the certificate's pairs are a lawful order
 -- of the recordings' records; and in that order the records are a run of the configured machine from the cold state, in which the
--- view of each record meets every relation
-pub record IsLawfulRun (texts : Texts) (relations : List Relation) (count : ℕ) : Type 0 where
+-- view of each record, with the values of the memories at it, meets every relation
+pub record IsLawfulRun (texts : Texts) (requirements : Requirements) (count : ℕ) : Type 0 where
   pub configuration : Configuration
   pub configured : configuration_of texts.config ≡ Ok configuration
   pub readers : length texts.recordings ≡ configuration.cores
@@ -44,10 +43,10 @@ pub record IsLawfulRun (texts : Texts) (relations : List Relation) (count : ℕ)
   pub ordered : AreInOrder configuration.cores 0 pairs recordings records
   pub final : State
   pub run : Run configuration (cold_state configuration) records final
-  pub meets : All (MeetsAll relations) (run_views configuration (cold_state configuration) records final run)
+  pub meets : AllMeet requirements (run_views configuration (cold_state configuration) records final run)
   pub counted : count ≡ length records
 
 -- if the answer is Yes, the recordings are lawful in the order of the certificate, and every relation holds in their run
-abbrev pub YesMeansRun : Texts → List Relation → Result Verdict CheckFault → Type 0
-YesMeansRun texts relations (Ok (Yes records)) = IsLawfulRun texts relations records
-YesMeansRun texts relations _ = Unit {0}
+abbrev pub YesMeansRun : Texts → Requirements → Result Verdict CheckFault → Type 0
+YesMeansRun texts requirements (Ok (Yes records)) = IsLawfulRun texts requirements records
+YesMeansRun texts requirements _ = Unit {0}

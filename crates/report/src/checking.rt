@@ -2,7 +2,8 @@
 
 ghost use Rattle.std.specs.Prelude.{◌≡◌, ◌≤◌, map};
 ghost use Rattle.apex_types.specs.declared.limits.TheConstants.{LARGEST_ROUND};
-ghost use Rattle.user_rules.specs.Rules.{relations_of};
+ghost use Rattle.user_rules.specs.Remembered.{required_by};
+ghost use Rattle.user_rules.specs.Rules.{required_of};
 ghost use Rattle.report.specs.Answers.{Answers, AnswersWith, given_by};
 
 use crate::fault::{ArgumentFault, CheckFault, config_refusal};
@@ -22,7 +23,7 @@ use placement::Placer;
 use std::alloc::Global;
 use std::sync::Wait;
 use std::thread::Threads;
-use user_rules::{Relation, Rule, Test};
+use user_rules::{Relation, Rule, RuleMemory, Test};
 use verdict_merge::{Gate, Verdict};
 
 /// Checks the recordings against the configuration, the order that the certificate proposes, and the user's rules.
@@ -33,7 +34,7 @@ use verdict_merge::{Gate, Verdict};
 /// and the threads are stopped.
 ///
 /// The answer is Yes with the number of records if the order is lawful, the records in this order are a run of the machine, and each
-/// rule holds of each record's view. It is No with the first place that has no step, the piece that rejects the record and its cause; or
+/// rule holds of each record's view, with the values that the memories have at it. It is No with the first place that has no step, the piece that rejects the record and its cause; or
 /// the first place whose view breaks a rule, with the number of the rule. Else it is the first refusal: of the settings, of the
 /// configuration, of the number of readers, and then at the least place. The answer is the same for all settings that are not refused,
 /// for every gate and every size of rounds, and however the threads interleave. It is Memory if memory or a thread was refused at any
@@ -52,6 +53,7 @@ pub fn check_inputs<T, R, C, G, V>(
     rt: T,
     alloc: Global,
     inputs: Inputs<'_, R, C>,
+    memories: &[RuleMemory],
     rules: &[Rule],
     options: Options<'_, G>,
     last: &mut Last,
@@ -63,7 +65,7 @@ where
     C: TextSource + Drop,
     G: Gate + Sync,
     V: Witness,
-    ensures { AnswersWith inputs.entry (relations_of rules.now) options.entry.settings result last.new }
+    ensures { AnswersWith inputs.entry (required_of memories.now rules.now) options.entry.settings result last.new }
 {
     last.clear();
     if let Some(fault) = options.settings.fault() {
@@ -92,6 +94,7 @@ where
     let mut placer = Placer::new(intake, CertSource::new(alloc, order));
     let terms = Terms {
         config: &config,
+        memories,
         rules,
         options: &options,
     };
@@ -102,7 +105,7 @@ where
     answer
 }
 
-/// The answer of `check_inputs` under the rules of these relations, each of which is its own test, and what it leaves.
+/// The answer of `check_inputs` under these memories and the rules of these relations, each of which is its own test, and what it leaves.
 ///
 /// Memory also if it is refused for the tests.
 #[tactic(auto, using(crate::proofs::Answering::want_of_memory))]
@@ -110,6 +113,7 @@ pub fn check_relations<T, R, C, G, V>(
     rt: T,
     alloc: Global,
     inputs: Inputs<'_, R, C>,
+    memories: &[RuleMemory],
     relations: Vec<Relation>,
     options: Options<'_, G>,
     last: &mut Last,
@@ -121,7 +125,7 @@ where
     C: TextSource + Drop,
     G: Gate + Sync,
     V: Witness,
-    ensures { AnswersWith inputs.entry relations.items options.entry.settings result last.new }
+    ensures { AnswersWith inputs.entry (required_by memories.now relations.items) options.entry.settings result last.new }
 {
     last.clear();
     let mut rules = Vec::new(alloc);
@@ -129,7 +133,10 @@ where
         let Ok(tested) = relation.clone() else {
             return Err(CheckFault::Memory);
         };
-        let Ok(test) = Box::new(alloc, move |view: &View| tested.holds(view)) else {
+        let Ok(test) = Box::new(
+            alloc,
+            move |view: &View, values: &[i64]| tested.holds(view, values),
+        ) else {
             return Err(CheckFault::Memory);
         };
         let test: Test = test;
@@ -137,7 +144,7 @@ where
             return Err(CheckFault::Memory);
         }
     }
-    check_inputs(rt, alloc, inputs, &rules, options, last, witness)
+    check_inputs(rt, alloc, inputs, memories, &rules, options, last, witness)
 }
 
 /// The same check, without the last records and without a witness.
@@ -147,6 +154,7 @@ pub fn check<T, R, C, G>(
     config: &[u8],
     readers: Vec<R>,
     cert: C,
+    memories: &[RuleMemory],
     rules: &[Rule],
     settings: Settings,
     gate: &G,
@@ -156,7 +164,7 @@ where
     R: TextSource + Drop + Send + 'static,
     C: TextSource + Drop,
     G: Gate + Sync,
-    ensures { Answers (given_by config.now (map R.remaining readers.items) R.can_fail (C.remaining cert) C.can_fail) (relations_of rules.now) settings result }
+    ensures { Answers (given_by config.now (map R.remaining readers.items) R.can_fail (C.remaining cert) C.can_fail) (required_of memories.now rules.now) settings result }
 {
     check_in_rounds(
         rt,
@@ -164,6 +172,7 @@ where
         config,
         readers,
         cert,
+        memories,
         rules,
         settings,
         gate,
@@ -178,6 +187,7 @@ pub fn check_with_last<T, R, C, G>(
     config: &[u8],
     readers: Vec<R>,
     cert: C,
+    memories: &[RuleMemory],
     rules: &[Rule],
     settings: Settings,
     gate: &G,
@@ -188,11 +198,20 @@ where
     R: TextSource + Drop + Send + 'static,
     C: TextSource + Drop,
     G: Gate + Sync,
-    ensures { AnswersWith (given_by config.now (map R.remaining readers.items) R.can_fail (C.remaining cert) C.can_fail) (relations_of rules.now) settings result last.new }
+    ensures { AnswersWith (given_by config.now (map R.remaining readers.items) R.can_fail (C.remaining cert) C.can_fail) (required_of memories.now rules.now) settings result last.new }
 {
     let inputs = Inputs::new(config, readers, cert);
     let options = Options::new(settings, gate);
-    check_inputs(rt, alloc, inputs, rules, options, last, &mut Nobody)
+    check_inputs(
+        rt,
+        alloc,
+        inputs,
+        memories,
+        rules,
+        options,
+        last,
+        &mut Nobody,
+    )
 }
 
 /// The same check with rounds of at most this many records, from 1 to the largest round.
@@ -202,6 +221,7 @@ pub fn check_in_rounds<T, R, C, G>(
     config: &[u8],
     readers: Vec<R>,
     cert: C,
+    memories: &[RuleMemory],
     rules: &[Rule],
     settings: Settings,
     gate: &G,
@@ -214,12 +234,21 @@ where
     G: Gate + Sync,
     requires least { 1 ≤ size }
     requires most { size ≤ LARGEST_ROUND }
-    ensures { Answers (given_by config.now (map R.remaining readers.items) R.can_fail (C.remaining cert) C.can_fail) (relations_of rules.now) settings result }
+    ensures { Answers (given_by config.now (map R.remaining readers.items) R.can_fail (C.remaining cert) C.can_fail) (required_of memories.now rules.now) settings result }
 {
     let Ok(mut last) = Last::new(alloc) else {
         return Err(CheckFault::Memory);
     };
     let inputs = Inputs::new(config, readers, cert);
     let options = Options::new(settings, gate).in_rounds(size);
-    check_inputs(rt, alloc, inputs, rules, options, &mut last, &mut Nobody)
+    check_inputs(
+        rt,
+        alloc,
+        inputs,
+        memories,
+        rules,
+        options,
+        &mut last,
+        &mut Nobody,
+    )
 }

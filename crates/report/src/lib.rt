@@ -1,18 +1,18 @@
 //! The check of recordings against a configuration and a proposed order, and the report of its outcome.
 //!
-//! Promises: the outcome is that of the inputs' bytes and the rules. If it is Yes, the proposed order lists every record of every core once
-//! and in that core's own order, and in that order the records are a run of the configured machine from the cold state in which every rule
-//! holds. If it is No, they are such a run up to the place that is reported, and the machine has no step that takes the record there. If a
-//! rule is broken, they are a run up to and with the record there, whose view is the first that breaks a rule. For every number of workers
-//! the answer is that of one. A report that is answered as written went out whole.
+//! Promises: the outcome is that of the inputs' bytes, the memories and the rules. If it is Yes, the proposed order lists every record of
+//! every core once and in that core's own order, and in that order the records are a run of the configured machine from the cold state in
+//! which every rule holds. If it is No, they are such a run up to the place that is reported, and the machine has no step that takes the
+//! record there. If a rule is broken, they are a run up to and with the record there, whose view is the first that breaks a rule. For every
+//! number of workers the answer is that of one. A report that is answered as written went out whole.
 //!
 //! At most two rounds of records are held at a time, one of which is judged while the other is filled, and of each core what was read
 //! ahead: the depth and two batches.
 //!
 //! `check_inputs` is the check; the other calls are the same one under other arguments. A caller that has relations and no tests of its
 //! own calls `check_relations`. A witness receives what is at the place of a No, to show it to a person: the record, and the piece
-//! that rejects it, as the piece was before it. At the place of a broken rule it receives the record and its view, and which rule the view
-//! breaks. The answer is the same for every witness.
+//! that rejects it, as the piece was before it. At the place of a broken rule it receives the record and its view, what the memories have
+//! kept of the views before, and which rule the view breaks. The answer is the same for every witness.
 //!
 //! `check_inputs` takes the texts as `Inputs` and the way of checking as `Options`, and one definition states all of its answer
 //! (`Answers.antt`). A `CheckFault` says why there is no verdict: a fault of the arguments, of the configuration or of the input, as the
@@ -58,4 +58,4 @@ pub use options::Options;
 pub use settings::Settings;
 pub use text::{status_of_outcome, write_report};
 pub use verdict_merge::{Gate, Open, Verdict};
-pub use witness::{Nobody, Witness};
+pub use witness::{Asked, Nobody, Witness};

@@ -5,7 +5,7 @@ ghost use Rattle.std.specs.Thread.{IsSync};
 ghost use Rattle.order_cert.specs.Kept.{place_of};
 ghost use Rattle.placement.specs.Lanes.{AreHonest, IsAhead};
 ghost use Rattle.placement.specs.Scan.{Scan};
-ghost use Rattle.user_rules.specs.Rules.{relations_of};
+ghost use Rattle.user_rules.specs.Rules.{required_of, requirements_of};
 ghost use Rattle.verdict_merge.specs.declared.verdict.Verdict.TheVariants.{Yes};
 ghost use Rattle.report.specs.Last.{last_of};
 ghost use Rattle.report.specs.Outcome.{IsJudged, answer_with};
@@ -23,13 +23,14 @@ use std::alloc::Global;
 use std::mem;
 use std::sync::Wait;
 use std::thread::{Threads, join_mut};
-use user_rules::Rule;
+use user_rules::{Rule, RuleMemory};
 use verdict_merge::{Gate, Judge, Memory, Verdict};
 
-/// What records are judged under: the configuration and the rules, and how the check is carried out.
+/// What records are judged under: the configuration, the memories and the rules, and how the check is carried out.
 #[derive(Drop)]
 pub struct Terms<'a, G> {
     pub config: &'a Config,
+    pub memories: &'a [RuleMemory],
     pub rules: &'a [Rule],
     pub options: &'a Options<'a, G>,
 }
@@ -56,11 +57,11 @@ pub fn judge_all<
     requires going { placer.old.ended ≡ false }
     requires first { place_of placer.old.kept ≡ 0 }
     requires cores { length placer.old.lanes ≡ terms.now.config.now.cores }
-    ensures { AreHonest R.can_fail placer.new.lanes → (result ≡ Err CheckFault.Memory) ⊎ ((scanned : Scan) × IsAhead (record { recordings = R.can_fail; certificate = C.can_fail }) placer.old scanned × IsJudged terms.now.config.now (relations_of terms.now.rules.now) scanned result × (last.new ≡ last_of result scanned.placed)) }
+    ensures { AreHonest R.can_fail placer.new.lanes → (result ≡ Err CheckFault.Memory) ⊎ ((scanned : Scan) × IsAhead (record { recordings = R.can_fail; certificate = C.can_fail }) placer.old scanned × IsJudged terms.now.config.now (required_of terms.now.memories.now terms.now.rules.now) scanned result × (last.new ≡ last_of result scanned.placed)) }
 {
     let size = terms.options.size;
     last.clear();
-    let Ok(mut judge) = Judge::start(alloc, terms.config) else {
+    let Ok(mut judge) = Judge::start(alloc, terms.config, terms.memories) else {
         return Err(CheckFault::Memory);
     };
     let Ok(mut round) = Vec::with_capacity(alloc, size) else {
@@ -82,6 +83,7 @@ pub fn judge_all<
                 tell(
                     witness,
                     terms.config,
+                    terms.memories,
                     terms.rules,
                     &judge,
                     &answer,
@@ -101,6 +103,7 @@ pub fn judge_all<
                 tell(
                     witness,
                     terms.config,
+                    terms.memories,
                     terms.rules,
                     &judge,
                     &answer,
@@ -129,8 +132,8 @@ fn judge_and_fill<T: Threads + Wait + Sync, R: TextSource, C: TextSource, G: Gat
     requires may { MayJudge terms.now.config.now judge.old round.now }
     requires going { placer.old.ended ≡ false }
     requires empty { next.old.items ≡ [] }
-    ensures decided { IfOk result.0 (λ decided. IsDecided terms.now.config.now (relations_of terms.now.rules.now) judge.old round.now decided judge.new) }
-    ensures breach { IfOk result.0 (λ decided. IfSome decided (λ verdict. LeavesItsBreach terms.now.config.now (relations_of terms.now.rules.now) judge.old round.now (Ok verdict) judge.new)) }
+    ensures decided { IfOk result.0 (λ decided. IsDecided terms.now.config.now (requirements_of terms.now.memories.now judge.old.kept terms.now.rules.now) judge.old round.now decided judge.new) }
+    ensures breach { IfOk result.0 (λ decided. IfSome decided (λ verdict. LeavesItsBreach terms.now.config.now (requirements_of terms.now.memories.now judge.old.kept terms.now.rules.now) judge.old round.now (Ok verdict) judge.new)) }
     ensures placed { IsPlaced (record { recordings = R.can_fail; certificate = C.can_fail }) placer.old next.new.items result.1 placer.new }
 {
     let size = terms.options.size;
@@ -140,6 +143,7 @@ fn judge_and_fill<T: Threads + Wait + Sync, R: TextSource, C: TextSource, G: Gat
     }
     let Terms {
         config,
+        memories,
         rules,
         options,
     } = *terms;
@@ -147,13 +151,14 @@ fn judge_and_fill<T: Threads + Wait + Sync, R: TextSource, C: TextSource, G: Gat
         rt,
         &mut ||
             requires { IsSync T.row × IsSync G.row × MayJudge config.now judge.now round.now }
-            ensures decided { IfOk result (λ decided. IsDecided config.entry.now (relations_of rules.entry.now) judge.entry.now round.entry.now decided judge.exit.now) }
-            ensures breach { IfOk result (λ decided. IfSome decided (λ verdict. LeavesItsBreach config.entry.now (relations_of rules.entry.now) judge.entry.now round.entry.now (Ok verdict) judge.exit.now)) }
+            ensures decided { IfOk result (λ decided. IsDecided config.entry.now (requirements_of memories.entry.now judge.entry.now.kept rules.entry.now) judge.entry.now round.entry.now decided judge.exit.now) }
+            ensures breach { IfOk result (λ decided. IfSome decided (λ verdict. LeavesItsBreach config.entry.now (requirements_of memories.entry.now judge.entry.now.kept rules.entry.now) judge.entry.now round.entry.now (Ok verdict) judge.exit.now)) }
         {
             judge_and_tell(
                 rt,
                 &Terms {
                     config,
+                    memories,
                     rules,
                     options,
                 },
@@ -176,8 +181,8 @@ fn judge_and_tell<T: Threads + Wait + Sync, G: Gate + Sync>(
     round: &[Ordered],
 ) -> Result<Option<Verdict>, Memory>
     requires may { MayJudge terms.now.config.now judge.old round.now }
-    ensures decided { IfOk result (λ decided. IsDecided terms.now.config.now (relations_of terms.now.rules.now) judge.old round.now decided judge.new) }
-    ensures breach { IfOk result (λ decided. IfSome decided (λ verdict. LeavesItsBreach terms.now.config.now (relations_of terms.now.rules.now) judge.old round.now (Ok verdict) judge.new)) }
+    ensures decided { IfOk result (λ decided. IsDecided terms.now.config.now (requirements_of terms.now.memories.now judge.old.kept terms.now.rules.now) judge.old round.now decided judge.new) }
+    ensures breach { IfOk result (λ decided. IfSome decided (λ verdict. LeavesItsBreach terms.now.config.now (requirements_of terms.now.memories.now judge.old.kept terms.now.rules.now) judge.old round.now (Ok verdict) judge.new)) }
 {
     let decided = judge_round(rt, terms, judge, round);
     if !matches!(decided, Ok(None)) {
@@ -209,9 +214,9 @@ fn judge_last<T: Threads + Wait + Sync, G: Gate + Sync>(
     end: Result<(), InputFault>,
 ) -> Result<Verdict, CheckFault>
     requires may { MayJudge terms.now.config.now judge.old round.now }
-    ensures answer { IsLastAnswer terms.now.config.now (relations_of terms.now.rules.now) judge.old round.now end result }
+    ensures answer { IsLastAnswer terms.now.config.now (requirements_of terms.now.memories.now judge.old.kept terms.now.rules.now) judge.old round.now end result }
     ensures leaves { LeavesItsPiece terms.now.config.now judge.old round.now result judge.new }
-    ensures breach { LeavesItsBreach terms.now.config.now (relations_of terms.now.rules.now) judge.old round.now result judge.new }
+    ensures breach { LeavesItsBreach terms.now.config.now (requirements_of terms.now.memories.now judge.old.kept terms.now.rules.now) judge.old round.now result judge.new }
 {
     match judge_round(rt, terms, judge, round) {
         Ok(Some(verdict)) => Ok(verdict),
@@ -240,12 +245,20 @@ fn judge_round<T: Threads + Wait + Sync, G: Gate + Sync>(
     round: &[Ordered],
 ) -> Result<Option<Verdict>, Memory>
     requires may { MayJudge terms.now.config.now judge.old round.now }
-    ensures decided { IfOk result (λ decided. IsDecided terms.now.config.now (relations_of terms.now.rules.now) judge.old round.now decided judge.new) }
-    ensures breach { IfOk result (λ decided. IfSome decided (λ verdict. LeavesItsBreach terms.now.config.now (relations_of terms.now.rules.now) judge.old round.now (Ok verdict) judge.new)) }
+    ensures decided { IfOk result (λ decided. IsDecided terms.now.config.now (requirements_of terms.now.memories.now judge.old.kept terms.now.rules.now) judge.old round.now decided judge.new) }
+    ensures breach { IfOk result (λ decided. IfSome decided (λ verdict. LeavesItsBreach terms.now.config.now (requirements_of terms.now.memories.now judge.old.kept terms.now.rules.now) judge.old round.now (Ok verdict) judge.new)) }
 {
     let options = terms.options;
     let workers = options.settings.workers;
-    match judge.round(rt, terms.config, round, terms.rules, workers, options.gate) {
+    match judge.round(
+        rt,
+        terms.config,
+        round,
+        terms.memories,
+        terms.rules,
+        workers,
+        options.gate,
+    ) {
         Ok(found) => Ok(Verdict::against(round, found, judge.breach())),
         Err(_) => Err(Memory),
     }

@@ -4,7 +4,9 @@ use crate::rule;
 use apex_types::{Field, View};
 use std::alloc::Global;
 use std::test::Fail;
-use user_rules::{Broken, Relation, first_broken, first_broken_in_turn, first_rule_broken};
+use user_rules::{
+    Broken, Quantity, Relation, first_broken, first_broken_in_turn, first_rule_broken,
+};
 
 fn view_of_kind(kind: i64) -> View {
     View {
@@ -27,7 +29,7 @@ fn view_of_kind(kind: i64) -> View {
 fn finds_the_last_view(rt: HostRuntime) -> Result<(), Fail> {
     let heap: Global = rt.alloc();
     let mut rules = Vec::new(heap);
-    let is_a_call = Relation::Equal(Field::Kind, 0);
+    let is_a_call = Relation::Equal(Quantity::Field(Field::Kind), Quantity::Number(0));
     rules.push(rule!(heap, Relation::Not(Box::new(heap, is_a_call)?)))?;
     let mut views = [view_of_kind(3); 5000];
     views[4999] = view_of_kind(0);
@@ -47,15 +49,24 @@ fn finds_the_last_view(rt: HostRuntime) -> Result<(), Fail> {
 fn finds_the_first_rule(rt: HostRuntime) -> Result<(), Fail> {
     let heap: Global = rt.alloc();
     let mut rules = Vec::new(heap);
-    rules.push(rule!(heap, Relation::Less(Field::Time, 8)))?;
-    rules.push(rule!(heap, Relation::Greater(Field::Woken, 2)))?;
-    rules.push(rule!(heap, Relation::Equal(Field::Kind, 3)))?;
+    rules.push(rule!(
+        heap,
+        Relation::Less(Quantity::Field(Field::Time), Quantity::Number(8))
+    ))?;
+    rules.push(rule!(
+        heap,
+        Relation::Greater(Quantity::Field(Field::Woken), Quantity::Number(2))
+    ))?;
+    rules.push(rule!(
+        heap,
+        Relation::Equal(Quantity::Field(Field::Kind), Quantity::Number(3))
+    ))?;
     let views = [view_of_kind(0)];
     let second = Some(Broken { view: 0, rule: 1 });
     assert_eq!(rt; first_broken(&rt, &rules, &views), second);
     assert_eq!(rt; first_broken_in_turn(&rules, &views), second);
-    assert_eq!(rt; first_rule_broken(&rules, &views[0]), Some(1));
-    assert_eq!(rt; first_rule_broken(&rules[..1], &views[0]), None);
+    assert_eq!(rt; first_rule_broken(&rules, &views[0], &[]), Some(1));
+    assert_eq!(rt; first_rule_broken(&rules[..1], &views[0], &[]), None);
     assert_eq!(rt; first_broken(&rt, &rules, &[]), None);
     assert_eq!(rt; first_broken_in_turn(&rules, &[]), None);
     assert_eq!(rt; first_broken(&rt, &[], &views), None);
@@ -74,10 +85,25 @@ fn tells_relations_apart(rt: HostRuntime) -> Result<(), Fail> {
         (8, [true, false, false]),
     ] {
         let [less, equal, greater] = expected;
-        assert_eq!(rt; Relation::Less(Field::Time, number).holds(&view), less);
-        assert_eq!(rt; Relation::Equal(Field::Time, number).holds(&view), equal);
         assert_eq!(rt;
-            Relation::Greater(Field::Time, number).holds(&view),
+            Relation::Less(Quantity::Field(Field::Time), Quantity::Number(number)).holds(
+                &view,
+                &[]
+            ),
+            less
+        );
+        assert_eq!(rt;
+            Relation::Equal(Quantity::Field(Field::Time), Quantity::Number(number)).holds(
+                &view,
+                &[]
+            ),
+            equal
+        );
+        assert_eq!(rt;
+            Relation::Greater(Quantity::Field(Field::Time), Quantity::Number(number)).holds(
+                &view,
+                &[]
+            ),
             greater
         );
     }

@@ -8,7 +8,9 @@ macro_rules! rule {
         let relation: user_rules::Relation = $relation;
         let tested = relation.clone()?;
         let test: user_rules::Test =
-            Box::new($heap, move |view: &apex_types::View| tested.holds(view))?;
+            Box::new($heap, move |view: &apex_types::View, values: &[i64]| {
+                tested.holds(view, values)
+            })?;
         user_rules::Rule::new(relation, test)
     }};
 }

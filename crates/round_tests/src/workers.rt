@@ -17,7 +17,7 @@ use std::marker::Brand;
 use std::sync::Wait;
 use std::test::Fail;
 use std::thread::Threads;
-use user_rules::{Relation, Rule};
+use user_rules::{Quantity, Relation, Rule};
 use verdict_merge::{
     Board, Done, Gate, Judged, Lent, Naming, Open, PostFault, PostRefusal, Refused, Round,
     RoundFault, run_round, start_pieces,
@@ -137,7 +137,10 @@ fn any_number_of_workers_gives_the_same(rt: HostRuntime) -> Result<(), Fail> {
     let alloc = rt.alloc();
     let records = refused_records(alloc)?;
     let mut rules = Vec::new(alloc);
-    rules.push(rule!(alloc, Relation::Less(Field::Kind, 3)))?;
+    rules.push(rule!(
+        alloc,
+        Relation::Less(Quantity::Field(Field::Kind), Quantity::Number(3))
+    ))?;
     for workers in [1, 2, 5] {
         let ruled = judge_all(&rt, alloc, &records, &rules, workers, &Open)?;
         assert!(rt; have_come(true, &ruled), "workers under a rule: {workers}");
@@ -224,17 +227,17 @@ fn refusal_by<J: Naming>(board: &mut Board<J>, done: Done<J>) -> Option<RefusedP
 }
 
 // The outcome of the next piece of the board, claimed by this worker.
-fn finish_next<J: Naming>(board: &mut Board<J>, worker: usize) -> Option<Done<J>>
+fn finish_next<J: Naming>(alloc: Global, board: &mut Board<J>, worker: usize) -> Option<Done<J>>
     requires { J.round.relations ≡ [] }
 {
-    board.claim(worker)?.run(&[]).ok()
+    board.claim(worker)?.run(alloc, &[]).ok()
 }
 
 // Claims the next piece of the board by this worker, and posts its outcome.
-fn post_next<J: Naming>(board: &mut Board<J>, worker: usize) -> bool
+fn post_next<J: Naming>(alloc: Global, board: &mut Board<J>, worker: usize) -> bool
     requires { J.round.relations ≡ [] }
 {
-    match finish_next(board, worker) {
+    match finish_next(alloc, board, worker) {
         Some(done) => refusal_by(board, done).is_none(),
         None => false,
     }
@@ -242,12 +245,16 @@ fn post_next<J: Naming>(board: &mut Board<J>, worker: usize) -> bool
 
 // Posts to a board what another board's worker 1 made of the first piece, before and after that piece is claimed and posted by a
 // worker 1 of its own.
-fn refuse_first<J: Naming>(board: &mut Board<J>, other: &mut Board<J>) -> Option<[RefusedPost; 2]>
+fn refuse_first<J: Naming>(
+    alloc: Global,
+    board: &mut Board<J>,
+    other: &mut Board<J>,
+) -> Option<[RefusedPost; 2]>
     requires { J.round.relations ≡ [] }
 {
-    let done = finish_next(other, 1)?;
+    let done = finish_next(alloc, other, 1)?;
     let (not_claimed, PostFault { refusal: _, done }) = refuse(board, done)?;
-    let posted = post_next(board, 1);
+    let posted = post_next(alloc, board, 1);
     match refusal_by(board, done) {
         Some(repeated) if posted => Some([not_claimed, repeated]),
         _ => None,
@@ -255,11 +262,15 @@ fn refuse_first<J: Naming>(board: &mut Board<J>, other: &mut Board<J>) -> Option
 }
 
 // Posts to a board, where worker 3 has claimed the next piece, what another board's worker 2 made of it.
-fn refuse_next<J: Naming>(board: &mut Board<J>, other: &mut Board<J>) -> Option<RefusedPost>
+fn refuse_next<J: Naming>(
+    alloc: Global,
+    board: &mut Board<J>,
+    other: &mut Board<J>,
+) -> Option<RefusedPost>
     requires { J.round.relations ≡ [] }
 {
     drop(board.claim(3)?);
-    let done = finish_next(other, 2)?;
+    let done = finish_next(alloc, other, 2)?;
     refusal_by(board, done)
 }
 
@@ -278,8 +289,8 @@ fn refuse_all<J: Naming>(
 {
     let mut board = Board::new(alloc, Round::<J>::new(*lent, pieces)).ok()?;
     let mut other = Board::new(alloc, Round::<J>::new(*lent, others)).ok()?;
-    let [not_claimed, repeated] = refuse_first(&mut board, &mut other)?;
-    let foreign = refuse_next(&mut board, &mut other)?;
+    let [not_claimed, repeated] = refuse_first(alloc, &mut board, &mut other)?;
+    let foreign = refuse_next(alloc, &mut board, &mut other)?;
     Some([not_claimed, repeated, foreign])
 }
 

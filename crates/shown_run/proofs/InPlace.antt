@@ -1,22 +1,23 @@
 -- The pieces take one record where they are.
-use Rattle.std.proofs.Common.{◌≡◌, ◌<◌, ◌≤◌, ◌∙◌, ℕ, zero, suc, List, [], ◌∷◌, Option, Some, None, length, get_or, refl, sym, ap, subst, arith}
-use Rattle.std.specs.List.{All}
-use Rattle.std.specs.Prelude.{slice_index_or}
+use Rattle.std.proofs.Common.{◌≡◌, ◌<◌, ◌≤◌, ◌∙◌, ℕ, List, [], ◌∷◌, Option, Some, None, length, get_or, refl, sym, ap, subst, arith}
+use Rattle.std.specs.Prelude.{IfSome, slice_get, slice_index_or}
 use Rattle.apex_types.specs.declared.record.Ordered.{Ordered}
 use Rattle.apex_types.specs.declared.view.View.{View}
 use Rattle.apex_machine.specs.Configuration.{Configuration}
 use Rattle.apex_machine.specs.Pieces.{Part, pieces}
 use Rattle.apex_machine.specs.Views.{view_in}
 use Rattle.piece_check.specs.Parts.{Holding, HoldsBefore}
-use Rattle.user_rules.specs.declared.relation.Relation.{Relation}
-use Rattle.user_rules.specs.FirstBroken.{IsFirstRuleBroken, MeetsAll}
+use Rattle.user_rules.specs.declared.memory.Cell.{Cell}
+use Rattle.user_rules.specs.FirstBroken.{IsFirstBroken}
+use Rattle.user_rules.specs.Passed.{passed}
+use Rattle.user_rules.specs.Remembered.{Requirements, kept_after}
 use Rattle.verdict_merge.proofs.Giving.{gives, judged_by}
 use Rattle.verdict_merge.proofs.Holdings.{holding_at-get}
 use Rattle.verdict_merge.proofs.Viewing.{not_before}
 use Rattle.verdict_merge.specs.declared.breach.Breach.{Breach}
 use Rattle.verdict_merge.specs.declared.finding.Refused.{Refused}
 use Rattle.verdict_merge.specs.Rounds.{AllRun, AreGoing, HaveRunOver, IsTested, parts_in}
-use Rattle.verdict_merge.specs.Views.{AreViews, IsViewOf, up_to}
+use Rattle.verdict_merge.specs.Views.{AreViews, IsViewOf, broken_of, up_to}
 use Rattle.shown_run.specs.declared.walk.Refusal.{Refusal}
 use Rattle.shown_run.specs.Walks.{Takes}
 
@@ -35,16 +36,17 @@ refused_run configuration ordered old new refusal takes =
     let same : refusal.piece ≤ refusal.piece = omega arith in
     (takes.0, ([], ordered, [], refl, refl, takes.2 refusal.piece same, takes.1))
 
--- the view of a rejected record is not tested
-pub refused_tested : (configuration : Configuration) (relations : List Relation) (parts : ℕ → Part) (ordered : Ordered) (found : Refused) → found.pos ≡ ordered.pos
-    → IsTested configuration relations parts (ordered ∷ []) (Some found) None
-refused_tested configuration relations parts ordered found place =
+-- the view of a rejected record is not tested, and the memories do not keep it
+pub refused_tested : (configuration : Configuration) (requirements : Requirements) (parts : ℕ → Part) (ordered : Ordered) (found : Refused) → found.pos ≡ ordered.pos
+    → IsTested configuration requirements parts (ordered ∷ []) (Some found) None requirements.kept
+refused_tested configuration requirements parts ordered found place =
     let none : up_to (Some found) (ordered ∷ []) ≡ [] = rw (not_before found.pos ordered.pos (sym place)) refl in
     record {
       views = [];
       viewed = subst (λ (list : List Ordered). AreViews configuration parts list []) (sym none) refl;
       first = λ index one within. absurd (omega (arith, within));
       reported = tt;
+      remembered = refl;
     }
 
 -- the view of an accepted record
@@ -76,48 +78,40 @@ one_view : (configuration : Configuration) (parts : ℕ → Part) (ordered : Ord
     → AreViews configuration parts (ordered ∷ []) (view ∷ [])
 one_view configuration parts ordered view is = (view, [], refl, is, refl)
 
-meets_all : (relations : List Relation) (view : View) → MeetsAll relations view → All (MeetsAll relations) (view ∷ [])
-meets_all relations view met zero default below = met
-meets_all relations view met (suc index) default below = absurd (omega (arith, below))
-
--- it meets every rule
-pub met_next : (configuration : Configuration) (relations : List Relation) (ordered : Ordered) (old : List Holding) (number : ℕ) (view : View) → AreGoing configuration ordered.pos old
-    → number < length old → view_in (parts_in old number) ordered ≡ Some view → MeetsAll relations view
-    → IsTested configuration relations (parts_in old) (ordered ∷ []) None None
-met_next configuration relations ordered old number view going inside seen met = record {
+viewed_next : (configuration : Configuration) (requirements : Requirements) (ordered : Ordered) (old : List Holding) (number : ℕ) (view : View) (breach : Option Breach) (kept : List (List Cell))
+    → AreGoing configuration ordered.pos old → number < length old → view_in (parts_in old number) ordered ≡ Some view → IsFirstBroken requirements (view ∷ []) (broken_of breach)
+    → IfSome breach (λ one. slice_get (view ∷ []) one.seen.index ≡ Some one.seen.view) → kept ≡ kept_after requirements.memories requirements.kept (passed (broken_of breach) (view ∷ []))
+    → IsTested configuration requirements (parts_in old) (ordered ∷ []) None breach kept
+viewed_next configuration requirements ordered old number view breach kept going inside seen first reported remembered = record {
   views = view ∷ [];
   viewed = one_view configuration (parts_in old) ordered view (own_view configuration ordered old number view going inside seen);
-  first = meets_all relations view met;
-  reported = tt;
-}
-
--- it breaks a rule
-pub broken_next : (configuration : Configuration) (relations : List Relation) (ordered : Ordered) (old : List Holding) (number : ℕ) (breach : Breach) → AreGoing configuration ordered.pos old
-    → number < length old → view_in (parts_in old number) ordered ≡ Some breach.seen.view → breach.seen.index ≡ 0
-    → IsFirstRuleBroken relations breach.seen.view breach.rule → IsTested configuration relations (parts_in old) (ordered ∷ []) None (Some breach)
-broken_next configuration relations ordered old number breach going inside seen here is = record {
-  views = breach.seen.view ∷ [];
-  viewed = one_view configuration (parts_in old) ordered breach.seen.view (own_view configuration ordered old number breach.seen.view going inside seen);
-  first = record {
-    before = [];
-    view = breach.seen.view;
-    after = [];
-    split = refl;
-    counted = sym here;
-    met = λ index one within. absurd (omega (arith, within));
-    first = is;
-  };
-  reported = rw here refl;
+  first = first;
+  reported = reported;
+  remembered = remembered;
 }
 
 -- a record of which no piece gives a view is not accepted
-pub unviewed_next : (configuration : Configuration) (relations : List Relation) (ordered : Ordered) (old : List Holding) (final : ℕ → Part) → AreGoing configuration ordered.pos old
-    → ((number : ℕ) → number < length old → view_in (parts_in old number) ordered ≡ None) → AllRun configuration (parts_in old) (ordered ∷ []) final
-    → IsTested configuration relations (parts_in old) (ordered ∷ []) None None
-unviewed_next configuration relations ordered old final going none run =
+unviewed_next : (configuration : Configuration) (requirements : Requirements) (ordered : Ordered) (old : List Holding) (final : ℕ → Part) (breach : Option Breach) (kept : List (List Cell))
+    → AreGoing configuration ordered.pos old → ((number : ℕ) → number < length old → view_in (parts_in old number) ordered ≡ None) → AllRun configuration (parts_in old) (ordered ∷ []) final
+    → IsTested configuration requirements (parts_in old) (ordered ∷ []) None breach kept
+unviewed_next configuration requirements ordered old final breach kept going none run =
     let next = next_view configuration ordered old final going run in
     let no : ◌≡◌ {A = Option View} (Some next.2) None = sym next.3 ∙ none next.0 next.1 in
     absurd cc
+
+-- its view is tested, if it has one
+pub tested_next : (configuration : Configuration) (requirements : Requirements) (ordered : Ordered) (old : List Holding) (final : ℕ → Part) (view : Option View) (breach : Option Breach) (kept : List (List Cell))
+    → AreGoing configuration ordered.pos old → AllRun configuration (parts_in old) (ordered ∷ []) final
+    → IfSome view (λ one. (number : ℕ) × (number < length old) × (view_in (parts_in old number) ordered ≡ Some one))
+    → (view ≡ None → (number : ℕ) → number < length old → view_in (parts_in old number) ordered ≡ None)
+    → IfSome view (λ one. IsFirstBroken requirements (one ∷ []) (broken_of breach))
+    → IfSome view (λ one. IfSome breach (λ found. slice_get (one ∷ []) found.seen.index ≡ Some found.seen.view))
+    → IfSome view (λ one. kept ≡ kept_after requirements.memories requirements.kept (passed (broken_of breach) (one ∷ [])))
+    → IsTested configuration requirements (parts_in old) (ordered ∷ []) None breach kept
+tested_next configuration requirements ordered old final (Some view) breach kept going run given none first reported remembered =
+    viewed_next configuration requirements ordered old given.0 view breach kept going given.1 given.2 first reported remembered
+tested_next configuration requirements ordered old final None breach kept going run given none first reported remembered =
+    unviewed_next configuration requirements ordered old final breach kept going (none refl) run
 
 -- each piece holds before the next record
 pub holds_each : (configuration : Configuration) (place : ℕ) (old : List Holding) → AreGoing configuration place old

@@ -1,7 +1,7 @@
 -- How a run over files ends.
 use Rattle.std.specs.Prelude.{◌≡◌, ◌⊎◌, ℕ, Bool, List, Option, None, Result, Ok, Err, is_some, map, option_map, vec_len}
 use Rattle.answer_words.specs.declared.names.InputNames.{InputNames}
-use Rattle.asked_rules.specs.Asked.{SayBoth, rules_given}
+use Rattle.asked_rules.specs.Asked.{AreRequired, rules_given}
 use Rattle.program_ends.specs.declared.ending.Ending.{Ending}
 use Rattle.program_ends.specs.declared.ending.Ending.TheVariants.{Unopened}
 use Rattle.program_ends.specs.Endings.{out_of_memory, refused_rules}
@@ -11,8 +11,8 @@ use Rattle.report.specs.Outcome.{argument_fault_of}
 use Rattle.asked_rules.specs.declared.option.RuleOption.{RuleOption}
 use Rattle.asked_rules.specs.Options.{in_order}
 use Rattle.asked_rules.specs.declared.fault.RulesFault.{RulesFault}
-use Rattle.asked_rules.specs.Reading.{SaidRule}
-use Rattle.user_rules.specs.declared.relation.Relation.{Relation}
+use Rattle.asked_rules.specs.Reading.{SaidFile}
+use Rattle.user_rules.specs.Remembered.{Requirements}
 use Rattle.shown_run.specs.declared.ending.ViewEnd.{ViewEnd}
 use Rattle.shown_run.specs.declared.files.FilesAsked.{FilesAsked}
 use Rattle.shown_run.specs.declared.files.Opened.{Opened}
@@ -23,12 +23,14 @@ use Rattle.shown_run.specs.Shown.{EndsAs}
 abbrev pub given_of : {S : Type 0} → (S → Option (List ℕ)) → Bool → Opened S → Given
 given_of known can_fail opened = given_by opened.config.items (map known opened.cores.items) can_fail (known opened.order) can_fail
 
--- the end for a rules file: its first refusal; else that of a check of these inputs under relations that say what the options request,
--- followed by what the rules of the file say, in their order, whatever the settings of the check if they are not refused
-abbrev pub EndsUnder : Result (List SaidRule) RulesFault → Given → List RuleOption → Ending ViewEnd → Type 0
+-- the end for a rules file: its first refusal; else that of a check of these inputs under the memories of the file and relations that say
+-- what the options request, followed by what the rules of the file say, in their order, whatever the settings of the check if they are not
+-- refused
+abbrev pub EndsUnder : Result SaidFile RulesFault → Given → List RuleOption → Ending ViewEnd → Type 0
 EndsUnder (Err fault) given options ending = ending ≡ refused_rules refusing fault
-EndsUnder (Ok rules) given options ending =
-    (relations : List Relation) × SayBoth options rules relations × ((settings : Settings) → argument_fault_of settings ≡ None → EndsAs given relations settings ending)
+EndsUnder (Ok file) given options ending =
+    (requirements : Requirements) × AreRequired options file requirements
+    × ((settings : Settings) → argument_fault_of settings ≡ None → EndsAs given requirements settings ending)
 
 -- a run over opened texts ends as it was requested; a lack of memory outranks that
 abbrev pub EndsAsAsked : {S : Type 0} → (S → Option (List ℕ)) → Bool → Opened S → FilesAsked → Ending ViewEnd → Type 0

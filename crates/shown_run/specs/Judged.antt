@@ -11,16 +11,22 @@ use Rattle.placement.specs.Scan.{Scan}
 use Rattle.report.specs.declared.fault.CheckFault.{CheckFault}
 use Rattle.report.specs.declared.fault.CheckFault.TheVariants.{Memory}
 use Rattle.report.specs.Outcome.{IsJudged, answer_with}
-use Rattle.user_rules.specs.declared.relation.Relation.{Relation}
+use Rattle.user_rules.specs.declared.memory.Cell.{Cell}
+use Rattle.user_rules.specs.Remembered.{Requirements}
+use Rattle.verdict_merge.specs.declared.breach.Breach.{Breach}
 use Rattle.verdict_merge.specs.declared.verdict.Verdict.{Verdict}
 use Rattle.verdict_merge.specs.declared.verdict.Verdict.TheVariants.{Yes}
 use Rattle.verdict_merge.specs.Rounds.{Judging}
 use Rattle.shown_run.specs.declared.fault.FollowFault.{FollowFault}
 use Rattle.shown_run.specs.declared.fault.FollowFault.TheVariants.{Refused, Stopped}
 
--- the pieces after so many records, as a check has them
-abbrev pub judging_of : ℕ → List Holding → Judging
-judging_of place pieces = record { count = place; pieces = pieces; breach = None }
+-- the pieces after so many records, and what memories have kept of their views, as a check has them
+abbrev pub judging_of : ℕ → List Holding → List (List Cell) → Judging
+judging_of place pieces kept = record { count = place; pieces = pieces; breach = None; kept = kept }
+
+-- the same with a breach
+abbrev pub judging_with : ℕ → List Holding → List (List Cell) → Option Breach → Judging
+judging_with place pieces kept breach = record { count = place; pieces = pieces; breach = breach; kept = kept }
 
 -- how a placer fills a round after which the input ends so, or goes on
 abbrev pub filled_of : Option (Result (Unit {0}) InputFault) → Filled
@@ -35,15 +41,15 @@ answer_after next (Some end) None = Some (answer_with (Yes next) end)
 answer_after next None None = None
 
 -- the answer is that of a check of what is ahead of the placer; a lack of memory outranks it
-abbrev pub IsAnswerOf : CanFail → Configuration → List Relation → Placing → Result Verdict CheckFault → Type 0
-IsAnswerOf can_fail configuration relations start answer =
-    (answer ≡ Err Memory) ⊎ ((scanned : Scan) × IsAhead can_fail start scanned × IsJudged configuration relations scanned answer)
+abbrev pub IsAnswerOf : CanFail → Configuration → Requirements → Placing → Result Verdict CheckFault → Type 0
+IsAnswerOf can_fail configuration requirements start answer =
+    (answer ≡ Err Memory) ⊎ ((scanned : Scan) × IsAhead can_fail start scanned × IsJudged configuration requirements scanned answer)
 
 -- the same of a run that is followed, unless its follower stops it
-abbrev pub IsFollowed : {Stop : Type 0} → CanFail → Configuration → List Relation → Placing → Result Verdict (FollowFault Stop) → Type 0
-IsFollowed can_fail configuration relations start (Ok verdict) = IsAnswerOf can_fail configuration relations start (Ok verdict)
-IsFollowed can_fail configuration relations start (Err (Refused fault)) = IsAnswerOf can_fail configuration relations start (Err fault)
-IsFollowed can_fail configuration relations start (Err (Stopped stop)) = Unit {0}
+abbrev pub IsFollowed : {Stop : Type 0} → CanFail → Configuration → Requirements → Placing → Result Verdict (FollowFault Stop) → Type 0
+IsFollowed can_fail configuration requirements start (Ok verdict) = IsAnswerOf can_fail configuration requirements start (Ok verdict)
+IsFollowed can_fail configuration requirements start (Err (Refused fault)) = IsAnswerOf can_fail configuration requirements start (Err fault)
+IsFollowed can_fail configuration requirements start (Err (Stopped stop)) = Unit {0}
 
 -- the answer of a run that its follower does not stop
 abbrev pub followed_by : {Stop : Type 0} → Result Verdict CheckFault → Result Verdict (FollowFault Stop)

@@ -1,5 +1,5 @@
 -- How a run that is shown ends.
-use Rattle.std.specs.Prelude.{◌≡◌, ◌⊎◌, List, Result}
+use Rattle.std.specs.Prelude.{◌≡◌, ◌⊎◌, Result}
 use Rattle.apex_machine.specs.Configuration.{Configuration}
 use Rattle.placement.specs.Lanes.{Placing}
 use Rattle.placement.specs.Reading.{CanFail}
@@ -9,7 +9,7 @@ use Rattle.report.specs.declared.fault.CheckFault.{CheckFault}
 use Rattle.report.specs.declared.settings.Settings.{Settings}
 use Rattle.report.specs.Answers.{Answers, Given}
 use Rattle.shown_run.specs.Judged.{IsAnswerOf}
-use Rattle.user_rules.specs.declared.relation.Relation.{Relation}
+use Rattle.user_rules.specs.Remembered.{Requirements}
 use Rattle.verdict_merge.specs.declared.verdict.Verdict.{Verdict}
 use Rattle.shown_run.specs.declared.ending.ViewEnd.{ViewEnd}
 use Rattle.shown_run.specs.declared.ending.ViewEnd.TheVariants.{Checked, Unwritten}
@@ -19,9 +19,9 @@ abbrev pub EndsWith : (Result Verdict CheckFault → Type 0) → Ending ViewEnd 
 EndsWith Holds ending = (ending ≡ Own Unwritten) ⊎ ((outcome : Result Verdict CheckFault) × (ending ≡ Own (Checked outcome)) × Holds outcome)
 
 -- the end is the answer of a check of what is ahead of the placer
-abbrev pub IsShown : CanFail → Configuration → List Relation → Placing → Ending ViewEnd → Type 0
-IsShown can_fail configuration relations start ending = EndsWith (IsAnswerOf can_fail configuration relations start) ending
+abbrev pub IsShown : CanFail → Configuration → Requirements → Placing → Ending ViewEnd → Type 0
+IsShown can_fail configuration requirements start ending = EndsWith (IsAnswerOf can_fail configuration requirements start) ending
 
 -- the end is the answer of a check of these inputs
-abbrev pub EndsAs : Given → List Relation → Settings → Ending ViewEnd → Type 0
-EndsAs given relations settings ending = EndsWith (Answers given relations settings) ending
+abbrev pub EndsAs : Given → Requirements → Settings → Ending ViewEnd → Type 0
+EndsAs given requirements settings ending = EndsWith (Answers given requirements settings) ending

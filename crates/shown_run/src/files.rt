@@ -106,8 +106,8 @@ impl<S: TextSource + Drop + Send + 'static> Opened<S> {
             cores,
         } = self;
         let rules_text = rules.as_deref();
-        let rules = match read_rules(alloc, rules_text) {
-            Ok(rules) => rules,
+        let file = match read_rules(alloc, rules_text) {
+            Ok(file) => file,
             Err(refusal) => {
                 explainer.note_rules(&asked.names, &refusal, rules_text);
                 return refused_rules(refusal.fault);
@@ -116,14 +116,14 @@ impl<S: TextSource + Drop + Send + 'static> Opened<S> {
         let Ok(options) = asked.options.in_order(alloc) else {
             return out_of_memory();
         };
-        let Ok(relations) = all_relations(alloc, &options, &rules) else {
+        let Ok(relations) = all_relations(alloc, &options, &file.rules) else {
             return out_of_memory();
         };
         explainer.note_configuration(&config);
         let request = Request {
             names: &asked.names,
             options: &options,
-            rules: &rules,
+            file: &file,
         };
         let judged = Judged {
             config: &config,

@@ -3,7 +3,8 @@
 ghost use Rattle.std.specs.Prelude.{◌≡◌, [], false, length};
 ghost use Rattle.order_cert.specs.Kept.{place_of};
 ghost use Rattle.placement.specs.Lanes.{AreHonest};
-ghost use Rattle.user_rules.specs.Rules.{relations_of};
+ghost use Rattle.user_rules.specs.Memories.{nothing};
+ghost use Rattle.user_rules.specs.Rules.{required_of};
 ghost use Rattle.verdict_merge.specs.Rounds.{AllRun, AreGoing, cold_parts, parts_in};
 ghost use Rattle.shown_run.specs.Judged.{IsFollowed, followed_by};
 
@@ -18,7 +19,7 @@ use placement::Placer;
 use report::{CheckFault, Verdict, Witness};
 use std::alloc::Global;
 use std::sync::Wait;
-use user_rules::Rule;
+use user_rules::{Rule, RuleMemory};
 
 /// Who sees each record of a run as it is judged. A follower may stop the run.
 pub trait Follower {
@@ -38,14 +39,15 @@ pub trait Follower {
     fn reject(&mut self, ordered: &Ordered, cause: Cause) -> Result<(), Self::Stop>;
 }
 
-/// Judges all records that are ahead of the placer under these rules, one after another, and shows them to the follower. The witness
-/// receives the record at the place of a No or of a broken rule.
+/// Judges all records that are ahead of the placer under these memories and rules, one after another, and shows them to the follower. The
+/// witness receives the record at the place of a No or of a broken rule.
 ///
 /// Unless the follower stops the run, the answer is that of a check of what is ahead; it is known once the placer's threads are joined.
 pub fn follow<R: Wait, S: TextSource, C: TextSource, V: Witness, F: Follower>(
     rt: &R,
     alloc: Global,
     config: &Config,
+    memories: &[RuleMemory],
     rules: &[Rule],
     placer: &mut Placer<S, C>,
     witness: &mut V,
@@ -54,9 +56,9 @@ pub fn follow<R: Wait, S: TextSource, C: TextSource, V: Witness, F: Follower>(
     requires going { placer.old.ended ≡ false }
     requires first { place_of placer.old.kept ≡ 0 }
     requires cores { length placer.old.lanes ≡ config.now.cores }
-    ensures { AreHonest S.can_fail placer.new.lanes → IsFollowed (record { recordings = S.can_fail; certificate = C.can_fail }) config.now (relations_of rules.now) placer.old result }
+    ensures { AreHonest S.can_fail placer.new.lanes → IsFollowed (record { recordings = S.can_fail; certificate = C.can_fail }) config.now (required_of memories.now rules.now) placer.old result }
 {
-    let Ok(mut run) = Run::start(alloc, config, rules) else {
+    let Ok(mut run) = Run::start(alloc, config, memories, rules) else {
         return Err(out_of_memory());
     };
     if let Err(stop) = follower.begin(run.walk.pieces()) {
@@ -78,7 +80,8 @@ fn follow_all<R: Wait, S: TextSource, C: TextSource, V: Witness, F: Follower>(
     requires cores { length placer.old.lanes ≡ run.old.config.now.cores }
     requires cold { AllRun run.old.config.now (cold_parts run.old.config.now) [] (parts_in run.old.walk) }
     requires pieces { AreGoing run.old.config.now 0 run.old.walk }
-    ensures { AreHonest S.can_fail placer.new.lanes → IsFollowed (record { recordings = S.can_fail; certificate = C.can_fail }) run.old.config.now (relations_of run.old.rules.now) placer.old result }
+    requires kept { run.old.kept ≡ nothing run.old.memories.now }
+    ensures { AreHonest S.can_fail placer.new.lanes → IsFollowed (record { recordings = S.can_fail; certificate = C.can_fail }) run.old.config.now (required_of run.old.memories.now run.old.rules.now) placer.old result }
 {
     let mut first = 0u64;
     // There are fewer places than this many records.

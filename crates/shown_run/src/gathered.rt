@@ -3,7 +3,8 @@
 ghost use Rattle.std.specs.Prelude.{◌≡◌, ◌⊎◌, [], Err, IfOk, OnOk, false, length, true};
 ghost use Rattle.order_cert.specs.Kept.{place_of};
 ghost use Rattle.placement.specs.Lanes.{AreHonest};
-ghost use Rattle.user_rules.specs.Rules.{relations_of};
+ghost use Rattle.user_rules.specs.Memories.{nothing};
+ghost use Rattle.user_rules.specs.Rules.{required_of};
 ghost use Rattle.verdict_merge.specs.Rounds.{AllRun, AreGoing, cold_parts, parts_in};
 ghost use Rattle.shown_run.specs.Judged.{IsAnswerOf};
 ghost use Rattle.shown_run.specs.Stretches.{GoesOn, IsGathered, IsWhole, KeepsSame, answer_of};
@@ -18,10 +19,10 @@ use placement::Placer;
 use report::{CheckFault, Verdict, Witness};
 use std::alloc::Global;
 use std::sync::Wait;
-use user_rules::Rule;
+use user_rules::{Rule, RuleMemory};
 
-/// Judges all records that are ahead of the placer under these rules, and keeps the stretch that is asked for. The witness receives the
-/// record at the place of a No or of a broken rule.
+/// Judges all records that are ahead of the placer under these memories and rules, and keeps the stretch that is asked for. The witness
+/// receives the record at the place of a No or of a broken rule.
 ///
 /// The answer is that of a check of what is ahead; it is known once the placer's threads are joined. If the input is refused or memory is,
 /// no stretch is kept.
@@ -29,6 +30,7 @@ pub fn gather<R: Wait, S: TextSource, C: TextSource, V: Witness>(
     rt: &R,
     alloc: Global,
     config: &Config,
+    memories: &[RuleMemory],
     rules: &[Rule],
     asked: Asked,
     placer: &mut Placer<S, C>,
@@ -37,10 +39,10 @@ pub fn gather<R: Wait, S: TextSource, C: TextSource, V: Witness>(
     requires going { placer.old.ended ≡ false }
     requires first { place_of placer.old.kept ≡ 0 }
     requires cores { length placer.old.lanes ≡ config.now.cores }
-    ensures answer { AreHonest S.can_fail placer.new.lanes → IsAnswerOf (record { recordings = S.can_fail; certificate = C.can_fail }) config.now (relations_of rules.now) placer.old (answer_of result) }
+    ensures answer { AreHonest S.can_fail placer.new.lanes → IsAnswerOf (record { recordings = S.can_fail; certificate = C.can_fail }) config.now (required_of memories.now rules.now) placer.old (answer_of result) }
     ensures whole { IfOk result (λ found. IsWhole config.now found.1) }
 {
-    let Ok(mut run) = Run::start(alloc, config, rules) else {
+    let Ok(mut run) = Run::start(alloc, config, memories, rules) else {
         return Err(CheckFault::Memory);
     };
     let Ok(mut gathering) = Gathering::start(alloc, config, asked) else {
@@ -69,8 +71,9 @@ fn gather_all<R: Wait, S: TextSource, C: TextSource, V: Witness>(
     requires cores { length placer.old.lanes ≡ run.old.config.now.cores }
     requires cold { AllRun run.old.config.now (cold_parts run.old.config.now) [] (parts_in run.old.walk) }
     requires pieces { AreGoing run.old.config.now 0 run.old.walk }
+    requires kept { run.old.kept ≡ nothing run.old.memories.now }
     requires gathered { GoesOn run.old.config.now [] gathering.old }
-    ensures answer { AreHonest S.can_fail placer.new.lanes → IsAnswerOf (record { recordings = S.can_fail; certificate = C.can_fail }) run.old.config.now (relations_of run.old.rules.now) placer.old result }
+    ensures answer { AreHonest S.can_fail placer.new.lanes → IsAnswerOf (record { recordings = S.can_fail; certificate = C.can_fail }) run.old.config.now (required_of run.old.memories.now run.old.rules.now) placer.old result }
     ensures gathered { OnOk result (IsGathered run.old.config.now gathering.new) }
 {
     let mut first = 0u64;

@@ -1,8 +1,9 @@
 //! A run that is judged while it is shown: round by round for a picture, record by record for a trace.
 //!
-//! Promises: the answer of `gather` and of `follow` is that of a check of what is ahead of the placer, under the same rules. What `gather`
-//! keeps for a picture are the last records that were accepted, with the pieces that the run has reached before the first of them.
-//! `follow` shows a follower each record that is accepted, in order, with the pieces that have taken it. Memory that is refused ends both.
+//! Promises: the answer of `gather` and of `follow` is that of a check of what is ahead of the placer, under the same memories and rules.
+//! What `gather` keeps for a picture are the last records that were accepted, with the pieces that the run has reached before the first of
+//! them. `follow` shows a follower each record that is accepted, in order, with the pieces that have taken it. Memory that is refused ends
+//! both.
 //!
 //! # The pieces in between
 //!
@@ -16,9 +17,9 @@
 //!
 //! The files of a run that is shown: they are opened, judged by a check, and shown by a viewer.
 //!
-//! Promises: a run over files ends as the rules file and a check of the opened texts make it end, under relations that say what the options
-//! request and then what the rules of the file say; or not all files could be opened, or the output could not be written, or memory was
-//! refused. A viewer decides nothing of that: its end is the answer of the check.
+//! Promises: a run over files ends as the rules file and a check of the opened texts make it end, under the memories of the file and
+//! relations that say what the options request and then what the rules of the file say; or not all files could be opened, or the output
+//! could not be written, or memory was refused. A viewer decides nothing of that: its end is the answer of the check.
 #![tactic(auto)]
 
 mod ending;

@@ -2,7 +2,7 @@
 
 ghost use Rattle.std.specs.Prelude.{◌+◌, IfOk, length};
 ghost use Rattle.apex_machine.specs.Runs.{ArePlaced, AreOfCores};
-ghost use Rattle.user_rules.specs.Rules.{relations_of};
+ghost use Rattle.user_rules.specs.Rules.{requirements_of};
 ghost use Rattle.verdict_merge.specs.Rounds.{AreGoing, HaveRunOver, IsTested, parts_in};
 
 use crate::walk::{Walk, WalkFault};
@@ -10,8 +10,8 @@ use apex_types::Ordered;
 use module_config::Config;
 use piece_check::{Touched, Windows};
 use std::alloc::{AllocError, Global};
-use user_rules::Rule;
-use verdict_merge::{Breach, Lent, Refused, gather_round, judge_in_turn};
+use user_rules::{Rule, RuleMemory};
+use verdict_merge::{Breach, Lent, Refused, Remembering, has_any, judge_in_turn, tested_at_once};
 
 /// What became of a round: the least refusal, and the first view before it that breaks a rule.
 #[derive(Clone, Copy, Debug)]
@@ -44,8 +44,8 @@ impl Rounds {
     }
 
     /// Lets the pieces take the next records, the first of which is at this place. Each piece takes those that touch it, up to the first
-    /// that it rejects. After a refusal, the piece that rejects the record is as it was before that record, and the others may be before it
-    /// or after it.
+    /// that it rejects. The views are tested by the rules, with the values that the memories have. After a refusal, the piece that rejects
+    /// the record is as it was before that record, and the others may be before it or after it.
     ///
     /// `Memory` if it was refused; the pieces are then given up.
     pub fn take(
@@ -53,14 +53,16 @@ impl Rounds {
         config: &Config,
         first: u64,
         records: &[Ordered],
+        memories: &[RuleMemory],
         rules: &[Rule],
         walk: &mut Walk,
+        remembering: &mut Remembering,
     ) -> Result<Taken, WalkFault>
         requires going { AreGoing config.now first walk.old }
         requires placed { ArePlaced first records.now }
         requires cores { AreOfCores config.now.cores records.now }
         ensures outcome { IfOk result (λ taken. HaveRunOver config.now walk.old records.now taken.found walk.new) }
-        ensures tested { IfOk result (λ taken. IsTested config.now (relations_of rules.now) (parts_in walk.old) records.now taken.found taken.breach) }
+        ensures tested { IfOk result (λ taken. IsTested config.now (requirements_of memories.now remembering.old rules.now) (parts_in walk.old) records.now taken.found taken.breach remembering.new) }
         ensures going { IfOk result (λ _. AreGoing config.now (first + length records.now) walk.new) }
     {
         if self.touched.sort_out(config, records).is_err()
@@ -70,10 +72,12 @@ impl Rounds {
         }
         let windows = self.windows.as_slice();
         let lent = Lent::with_windows(config, first, records, &self.touched, windows);
-        let Ok(judged) = judge_in_turn(self.alloc, &lent, rules, walk.take_pieces()) else {
+        let lent = lent.keeping(has_any(memories));
+        let at_once = tested_at_once(memories, rules);
+        let Ok(judged) = judge_in_turn(self.alloc, &lent, at_once, walk.take_pieces()) else {
             return Err(WalkFault::Memory);
         };
-        let Ok(survey) = gather_round(self.alloc, &lent, judged) else {
+        let Ok(survey) = remembering.survey(self.alloc, &lent, memories, rules, judged) else {
             return Err(WalkFault::Memory);
         };
         walk.set_pieces(survey.pieces);

@@ -3,15 +3,14 @@
 ghost use Rattle.std.specs.Prelude.{◌≡◌, ◌-◌, Ok, option_copied, slice_get};
 ghost use Rattle.apex_machine.specs.Runs.{ArePlaced};
 ghost use Rattle.report.specs.Shown.{StillBreaks, StillRejects};
-ghost use Rattle.user_rules.specs.Rules.{relations_of};
-ghost use Rattle.shown_run.specs.Judged.{judging_of};
+ghost use Rattle.user_rules.specs.Rules.{required_of};
+ghost use Rattle.shown_run.specs.Judged.{judging_of, judging_with};
 
 use crate::walk::Walk;
 use apex_types::{Ordered, Place};
 use module_config::Config;
 use piece_check::Piece;
-use report::{Verdict, Witness};
-use user_rules::Rule;
+use report::{Asked, Verdict, Witness};
 use verdict_merge::Breach;
 
 /// Shows a witness the verdict over these records, of which the first is at this place. After a No, its piece must be as it was before
@@ -19,7 +18,7 @@ use verdict_merge::Breach;
 pub fn tell<V: Witness>(
     witness: &mut V,
     config: &Config,
-    rules: &[Rule],
+    asked: &Asked<'_>,
     walk: &Walk,
     verdict: &Verdict,
     breach: Option<Breach>,
@@ -27,8 +26,8 @@ pub fn tell<V: Witness>(
     records: &[Ordered],
 )
     requires placed { ArePlaced first records.now }
-    requires rejects { StillRejects config.now records.now (Ok verdict.now) (judging_of first walk.now) }
-    requires breaks { StillBreaks config.now (relations_of rules.now) records.now (Ok verdict.now) breach }
+    requires rejects { StillRejects config.now records.now (Ok verdict.now) (judging_of first walk.now asked.now.recollection.now) }
+    requires breaks { StillBreaks config.now (required_of asked.now.memories.now asked.now.rules.now) records.now (Ok verdict.now) (judging_with first walk.now asked.now.recollection.now breach) }
 {
     match verdict {
         Verdict::No { pos, piece, cause } => {
@@ -40,7 +39,7 @@ pub fn tell<V: Witness>(
         Verdict::Broken { pos, rule } => {
             let found = record_at(*pos, first, records);
             if let (Some(ordered), Some(breach)) = (found, breach) {
-                witness.broken(config, rules, ordered, &breach.seen.view, *rule);
+                witness.broken(config, asked, ordered, &breach.seen.view, *rule);
             }
         }
         Verdict::Yes { .. } => {}

@@ -5,25 +5,44 @@ use apex_types::limits::{LONGEST_RULE_NAME, MOST_LEVELS, MOST_RELATIONS, MOST_RU
 use asked_rules::{FIELD_NAMES, RuleKey, RulesFault};
 use record_read::{find_kind, find_out, find_service};
 use toml::{Table, Value};
+use user_rules::MOST_MEMORIES;
 
 /// The keys of all forms of relations.
-pub const RELATION_KEYS: [&str; 7] = ["field", "less", "equal", "greater", "not", "and", "or"];
+pub const RELATION_KEYS: [&str; 8] = [
+    "field", "memory", "less", "equal", "greater", "not", "and", "or",
+];
+
+/// The keys of all forms of memories.
+pub const MEMORY_KEYS: [&str; 8] = [
+    "name", "since", "count", "last", "back", "reset", "take", "per",
+];
+
+/// For whom a memory may keep a value each.
+pub const HOLDERS: [&str; 4] = ["module", "core", "partition", "process"];
+
+// The keys of a memory that have relations, in the order of the reader.
+const RELATIONS_OF_MEMORY: [&str; 5] = ["since", "count", "back", "reset", "last"];
 
 /// A table of a rules file, by what it describes.
 #[derive(Clone, Copy)]
 pub enum Form {
     File,
+    Memory,
     Rule,
     Relation,
+    /// What a comparison has beside a field or a memory, if that is no number.
+    Other,
 }
 
 impl Form {
     // Whether some table of this form has this key.
     fn has(self, key: &str) -> bool {
         match self {
-            Form::File => key == "rule",
+            Form::File => matches!(key, "rule" | "memory"),
+            Form::Memory => MEMORY_KEYS.iter().any(|known| *known == key),
             Form::Rule => matches!(key, "name" | "holds"),
             Form::Relation => RELATION_KEYS.iter().any(|known| *known == key),
+            Form::Other => matches!(key, "field" | "memory"),
         }
     }
 }
@@ -53,17 +72,20 @@ pub enum Step {
     Item(Join, usize),
 }
 
-/// The way from the relation under `holds` to one inside it.
+/// The way from the relation under a key of a rule or of a memory to one inside it.
 #[derive(Clone, Copy)]
 pub struct Way {
+    /// The key.
+    pub under: &'static str,
     steps: [Step; MOST_LEVELS],
     length: usize,
 }
 
 impl Way {
-    // The way to the relation itself.
-    fn new() -> Way {
+    // The way to the relation under this key itself.
+    fn new(under: &'static str) -> Way {
         Way {
+            under,
             steps: [Step::Not; MOST_LEVELS],
             length: 0,
         }
@@ -88,13 +110,21 @@ impl Way {
 /// What a value of a rules file describes.
 #[derive(Clone, Copy)]
 pub enum Slot<'a> {
+    Memories,
+    Memory,
     Rules,
     Rule,
     Name,
+    /// The name of a memory, which an earlier one has.
+    SameName,
+    Take,
+    Per,
+    /// The name of a memory that is compared.
+    Known,
     Relation,
     Relations(Join),
     Field,
-    /// What the field of this name is compared with, under this key.
+    /// What the field of this name, or a memory of it, is compared with, under this key. A memory of no field has the empty name.
     Number { field: &'a str, key: &'static str },
 }
 
@@ -107,8 +137,8 @@ pub enum Refused<'a> {
         keys: &'a Table,
         key: &'a str,
     },
-    /// The keys of a relation, which do not go together.
-    Keys(&'a Table),
+    /// The keys of a table of this form, which do not go together.
+    Keys(Form, &'a Table),
     /// A table of this form without a key.
     NoKey(Form, RuleKey),
     /// A value that is not what belongs there.
@@ -117,11 +147,19 @@ pub enum Refused<'a> {
     Depth,
 }
 
+/// A memory or a rule: the key of its list, its number there, and what is given for it.
+#[derive(Clone, Copy)]
+pub struct Owner<'a> {
+    pub list: &'static str,
+    pub number: usize,
+    pub value: &'a Value,
+}
+
 /// What the reader refuses, and where.
 #[derive(Clone, Copy)]
 pub struct Culprit<'a> {
-    /// The number of the rule, and what is given for it, if the fault is of a rule.
-    pub rule: Option<(usize, &'a Value)>,
+    /// The memory or the rule, if the fault is of one.
+    pub of: Option<Owner<'a>>,
     /// The way to the relation, if the fault is in one.
     pub way: Option<Way>,
     pub refused: Refused<'a>,
@@ -131,46 +169,179 @@ pub struct Culprit<'a> {
 pub fn culprit_of(keys: &Table, fault: RulesFault) -> Option<Culprit<'_>> {
     match fault {
         RulesFault::File(_) => Some(Culprit {
-            rule: None,
+            of: None,
             way: None,
             refused: refused_in_file(keys)?,
         }),
+        RulesFault::RuleMemory { memory, .. } => {
+            let memories = items_under(keys, "memory");
+            let value = memories.get(memory)?;
+            let above = memories.get(..memory).unwrap_or(&[]);
+            let refused = refused_in_memory(above, value)?;
+            culprit_in("memory", memory, value, refused)
+        }
         RulesFault::Rule { rule, .. } => {
-            let value = keys.get("rule")?.as_array()?.as_slice().get(rule)?;
-            let RefusedRule { way, refused } = refused_in_rule(value)?;
-            Some(Culprit {
-                rule: Some((rule, value)),
-                way,
-                refused,
-            })
+            let value = items_under(keys, "rule").get(rule)?;
+            let refused = refused_in_rule(items_under(keys, "memory"), value)?;
+            culprit_in("rule", rule, value, refused)
         }
         RulesFault::Memory => None,
     }
 }
 
-// What the reader refuses outside the rules, in a file with these keys.
+// What the reader refuses in the memory or the rule of this number in this list.
+fn culprit_in<'a>(
+    list: &'static str,
+    number: usize,
+    value: &'a Value,
+    refused: RefusedRule<'a>,
+) -> Option<Culprit<'a>> {
+    let RefusedRule { way, refused } = refused;
+    Some(Culprit {
+        of: Some(Owner {
+            list,
+            number,
+            value,
+        }),
+        way,
+        refused,
+    })
+}
+
+// The items of the list under a key; none if there is no such list.
+fn items_under<'a>(keys: &'a Table, key: &str) -> &'a [Value] {
+    match keys.get(key) {
+        Some(value) => match value.as_array() {
+            Some(items) => items.as_slice(),
+            None => &[],
+        },
+        None => &[],
+    }
+}
+
+// What the reader refuses outside the memories and the rules, in a file with these keys.
 fn refused_in_file(keys: &Table) -> Option<Refused<'_>> {
-    if keys.len() > 1 {
+    let most = if keys.contains_key("memory") { 2 } else { 1 };
+    if keys.len() > most {
         return Some(excess(Form::File, keys));
     }
     let Some(value) = keys.get("rule") else {
         return Some(missing(Form::File, keys, RuleKey::Rule));
     };
-    match value.as_array() {
-        Some(items) if items.len() <= MOST_RULES => None,
-        _ => Some(Refused::Value(Slot::Rules, value)),
+    if !is_list(value, MOST_RULES) {
+        return Some(Refused::Value(Slot::Rules, value));
+    }
+    let value = keys.get("memory")?;
+    if is_list(value, MOST_MEMORIES) {
+        None
+    } else {
+        Some(Refused::Value(Slot::Memories, value))
     }
 }
 
-// What the reader refuses in a rule, and the way there, if it is in the relation.
+// Whether a value is a list of at most this many items.
+fn is_list(value: &Value, most: usize) -> bool {
+    match value.as_array() {
+        Some(items) => items.len() <= most,
+        None => false,
+    }
+}
+
+// What the reader refuses in a memory or a rule, and the way there, if it is in a relation.
 #[derive(Clone, Copy)]
 struct RefusedRule<'a> {
     way: Option<Way>,
     refused: Refused<'a>,
 }
 
-// What the reader refuses in the rule that this value describes.
-fn refused_in_rule(value: &Value) -> Option<RefusedRule<'_>> {
+// What the reader refuses in the memory that this value describes, below these memories.
+fn refused_in_memory<'a>(above: &'a [Value], value: &'a Value) -> Option<RefusedRule<'a>> {
+    let Some(keys) = value.as_table() else {
+        return outside(Refused::Value(Slot::Memory, value));
+    };
+    if keys.len() > keys_allowed(keys) {
+        return outside(excess(Form::Memory, keys));
+    }
+    let Some(name) = keys.get("name") else {
+        return outside(missing(Form::Memory, keys, RuleKey::Name));
+    };
+    let Some(text) = name_in(name) else {
+        return outside(Refused::Value(Slot::Name, name));
+    };
+    if memory_named(above, text).is_some() {
+        return outside(Refused::Value(Slot::SameName, name));
+    }
+    if !["since", "count", "last"]
+        .iter()
+        .any(|key| keys.contains_key(*key))
+    {
+        return outside(missing(Form::Memory, keys, RuleKey::Keeps));
+    }
+    for key in RELATIONS_OF_MEMORY {
+        if let Some(relation) = keys.get(key) {
+            let found = refused_in_relation(above, relation, Way::new(key), MOST_LEVELS);
+            if found.is_some() {
+                return found;
+            }
+        }
+    }
+    refused_at_end(keys)
+}
+
+// What the reader refuses in a memory after its relations.
+fn refused_at_end(keys: &Table) -> Option<RefusedRule<'_>> {
+    if keys.contains_key("last") {
+        let Some(take) = keys.get("take") else {
+            return outside(missing(Form::Memory, keys, RuleKey::Take));
+        };
+        if field_in(take).is_none() {
+            return outside(Refused::Value(Slot::Take, take));
+        }
+    }
+    let per = keys.get("per")?;
+    match per.as_str() {
+        Some(name) if HOLDERS.iter().any(|known| *known == name) => None,
+        _ => outside(Refused::Value(Slot::Per, per)),
+    }
+}
+
+// How many keys a memory with these may have.
+fn keys_allowed(keys: &Table) -> usize {
+    let beside: &[&str] = if keys.contains_key("since") {
+        &["per"]
+    } else if keys.contains_key("count") {
+        &["per", "back", "reset"]
+    } else {
+        &["per", "take"]
+    };
+    let mut count = 2usize;
+    for key in beside {
+        if keys.contains_key(*key) {
+            count = count.saturating_add(1);
+        }
+    }
+    count
+}
+
+// The memory of this name among these.
+fn memory_named<'a>(memories: &'a [Value], name: &str) -> Option<&'a Table> {
+    for value in memories {
+        if let Some(keys) = value.as_table() {
+            if text_under(keys, "name") == Some(name) {
+                return Some(keys);
+            }
+        }
+    }
+    None
+}
+
+// The text under a key.
+fn text_under<'a>(keys: &'a Table, key: &str) -> Option<&'a str> {
+    keys.get(key)?.as_str()
+}
+
+// What the reader refuses in the rule that this value describes, in a file with these memories.
+fn refused_in_rule<'a>(memories: &'a [Value], value: &'a Value) -> Option<RefusedRule<'a>> {
     let Some(keys) = value.as_table() else {
         return outside(Refused::Value(Slot::Rule, value));
     };
@@ -186,10 +357,10 @@ fn refused_in_rule(value: &Value) -> Option<RefusedRule<'_>> {
     let Some(holds) = keys.get("holds") else {
         return outside(missing(Form::Rule, keys, RuleKey::Holds));
     };
-    refused_in_relation(holds, Way::new(), MOST_LEVELS)
+    refused_in_relation(memories, holds, Way::new("holds"), MOST_LEVELS)
 }
 
-/// The name of a rule that a value is.
+/// The name of a memory or a rule that a value is.
 pub fn name_in(value: &Value) -> Option<&str> {
     let name = value.as_str()?;
     let is_name = !name.is_empty()
@@ -198,27 +369,35 @@ pub fn name_in(value: &Value) -> Option<&str> {
     if is_name { Some(name) } else { None }
 }
 
-// What is refused in a rule outside its relation.
+// What is refused in a memory or a rule outside its relations.
 fn outside(refused: Refused<'_>) -> Option<RefusedRule<'_>> {
     Some(RefusedRule { way: None, refused })
 }
 
-// What the reader refuses in the relation that a value describes, to which this way leads, with at most this many levels.
-fn refused_in_relation(value: &Value, way: Way, levels: usize) -> Option<RefusedRule<'_>> {
+// What the reader refuses in the relation that a value describes, to which this way leads, with at most this many levels. It may name these
+// memories.
+fn refused_in_relation<'a>(
+    above: &'a [Value],
+    value: &'a Value,
+    way: Way,
+    levels: usize,
+) -> Option<RefusedRule<'a>> {
     if levels == 0 {
         return outside(Refused::Depth);
     }
-    match parts_of(value) {
+    match parts_of(above, value) {
         Parts::Refused(refused) => Some(RefusedRule {
             way: Some(way),
             refused,
         }),
         Parts::Good => None,
-        Parts::Negated(negated) => refused_in_relation(negated, way.then(Step::Not), levels - 1),
+        Parts::Negated(negated) => {
+            refused_in_relation(above, negated, way.then(Step::Not), levels - 1)
+        }
         Parts::Joined(join, items) => {
             for (index, item) in items.iter().enumerate() {
                 let way = way.then(Step::Item(join, index));
-                if let Some(found) = refused_in_relation(item, way, levels - 1) {
+                if let Some(found) = refused_in_relation(above, item, way, levels - 1) {
                     return Some(found);
                 }
             }
@@ -239,7 +418,7 @@ enum Parts<'a> {
 }
 
 // The relations in the one that a value describes.
-fn parts_of(value: &Value) -> Parts<'_> {
+fn parts_of<'a>(above: &'a [Value], value: &'a Value) -> Parts<'a> {
     let Some(keys) = value.as_table() else {
         return Parts::Refused(Refused::Value(Slot::Relation, value));
     };
@@ -260,7 +439,7 @@ fn parts_of(value: &Value) -> Parts<'_> {
             };
         }
     }
-    match refused_in_comparison(keys) {
+    match refused_in_comparison(above, keys) {
         Some(refused) => Parts::Refused(refused),
         None => Parts::Good,
     }
@@ -277,26 +456,60 @@ fn items_of(join: Join, list: &Value) -> Parts<'_> {
 }
 
 // What the reader refuses in a comparison with these keys.
-fn refused_in_comparison(keys: &Table) -> Option<Refused<'_>> {
+fn refused_in_comparison<'a>(above: &'a [Value], keys: &'a Table) -> Option<Refused<'a>> {
     if keys.len() > 2 {
         return Some(excess(Form::Relation, keys));
     }
-    let Some(value) = keys.get("field") else {
-        return Some(missing(Form::Relation, keys, RuleKey::Field));
-    };
-    let Some(field) = field_in(value) else {
-        return Some(Refused::Value(Slot::Field, value));
+    let field = match side_in(above, keys, Form::Relation) {
+        Ok(field) => field,
+        Err(refused) => return Some(refused),
     };
     for key in ["less", "equal", "greater"] {
         if let Some(value) = keys.get(key) {
-            return if is_number(field, value) {
-                None
-            } else {
-                Some(Refused::Value(Slot::Number { field, key }, value))
-            };
+            return refused_beside(above, field, key, value);
         }
     }
     Some(missing(Form::Relation, keys, RuleKey::Number))
+}
+
+// The name of the field that a table of this form names, or whose values the memory has that it names; empty for any other memory.
+fn side_in<'a>(above: &'a [Value], keys: &'a Table, form: Form) -> Result<&'a str, Refused<'a>> {
+    if let Some(value) = keys.get("memory") {
+        let Some(name) = value.as_str() else {
+            return Err(Refused::Value(Slot::Known, value));
+        };
+        return match memory_named(above, name) {
+            Some(memory) => Ok(text_under(memory, "take").unwrap_or("")),
+            None => Err(Refused::Value(Slot::Known, value)),
+        };
+    }
+    let Some(value) = keys.get("field") else {
+        return Err(missing(form, keys, RuleKey::Field));
+    };
+    match field_in(value) {
+        Some(field) => Ok(field),
+        None => Err(Refused::Value(Slot::Field, value)),
+    }
+}
+
+// What the reader refuses under this key, with which a field of this name is compared.
+fn refused_beside<'a>(
+    above: &'a [Value],
+    field: &'a str,
+    key: &'static str,
+    value: &'a Value,
+) -> Option<Refused<'a>> {
+    if let Some(keys) = value.as_table() {
+        if keys.len() > 1 {
+            return Some(excess(Form::Other, keys));
+        }
+        return side_in(above, keys, Form::Other).err();
+    }
+    if is_number(field, value) {
+        None
+    } else {
+        Some(Refused::Value(Slot::Number { field, key }, value))
+    }
 }
 
 // The name of a field that a value is.
@@ -326,7 +539,7 @@ fn is_number(field: &str, value: &Value) -> bool {
 fn excess(form: Form, keys: &Table) -> Refused<'_> {
     match strange_key(form, keys) {
         Some(key) => Refused::Key { form, keys, key },
-        None => Refused::Keys(keys),
+        None => Refused::Keys(form, keys),
     }
 }
 

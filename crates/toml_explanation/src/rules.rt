@@ -2,7 +2,8 @@
 
 use crate::key_lines::{Located, Position};
 use crate::refused_rules::{
-    Culprit, Form, RELATION_KEYS, Refused, Slot, Step, Way, culprit_of, name_in,
+    Culprit, Form, HOLDERS, MEMORY_KEYS, Owner, RELATION_KEYS, Refused, Slot, Step, Way,
+    culprit_of, name_in,
 };
 use apex_types::SERVICES;
 use apex_types::limits::{
@@ -13,6 +14,7 @@ use std::alloc::{AllocError, Global};
 use std::{fmt, str};
 use toml::de::Error;
 use toml::{Table, Value};
+use user_rules::MOST_MEMORIES;
 use wording::{Count, Found, Part, Words};
 
 const KIND_NAMES: [&str; 7] = ["call", "ret", "disp", "tick", "arrive", "depart", "err"];
@@ -72,8 +74,8 @@ fn tell_text(words: &mut Words, alloc: Global, file: &RefusedRules<'_>, text: &[
     };
     let position = Position::of_line(line_of(text, &culprit));
     say_file(words, file, position);
-    if let Some((rule, value)) = culprit.rule {
-        say_rule(words, rule, value, culprit.way);
+    if let Some(owner) = culprit.of {
+        say_owner(words, owner, culprit.way);
     }
     tell_refused(words, alloc, culprit.refused);
     position
@@ -104,16 +106,22 @@ fn say_file(words: &mut Words, file: &RefusedRules<'_>, position: Position) {
     words.say(format_args!("{}{position}: ", file.name));
 }
 
-// Reports a rule, by its number, by its name, if it has one, and by its place in the file, and the relation in it to which a way leads.
-fn say_rule(words: &mut Words, rule: usize, value: &Value, way: Option<Way>) {
-    words.say(format_args!("rule {rule}"));
+// Reports a memory or a rule, by its number, by its name, if it has one, and by its place in the file, and the relation in it to which a way
+// leads.
+fn say_owner(words: &mut Words, owner: Owner<'_>, way: Option<Way>) {
+    let Owner {
+        list,
+        number,
+        value,
+    } = owner;
+    words.say(format_args!("{list} {number}"));
     if let Some(name) = name_of(value) {
         words.say(format_args!(", \"{name}\""));
     }
-    let nth = rule.saturating_add(1);
-    words.say(format_args!(" ([[rule]] {nth} of the file)"));
+    let nth = number.saturating_add(1);
+    words.say(format_args!(" ([[{list}]] {nth} of the file)"));
     if let Some(way) = way {
-        words.say(", holds");
+        words.say(format_args!(", {}", way.under));
         for step in way.steps() {
             match step {
                 Step::Not => words.say(".not"),
@@ -124,7 +132,7 @@ fn say_rule(words: &mut Words, rule: usize, value: &Value, way: Option<Way>) {
     words.say(": ");
 }
 
-// The name of the rule that a value describes, if it has one.
+// The name of the memory or the rule that a value describes, if it has one.
 fn name_of(value: &Value) -> Option<&str> {
     name_in(value.as_table()?.get("name")?)
 }
@@ -139,13 +147,13 @@ fn tell_refused(words: &mut Words, alloc: Global, refused: Refused<'_>) {
             words.suggest(key, keys_missing(form, keys));
             tell_form(words, form);
         }
-        Refused::Keys(keys) => {
+        Refused::Keys(form, keys) => {
             words.say("the keys ");
             words.begin_part(Part::Recorded);
             say_keys(words, keys);
             words.end_part();
             words.say(" do not go together");
-            tell_form(words, Form::Relation);
+            tell_form(words, form);
         }
         Refused::NoKey(form, key) => {
             words.say(format_args!("the key {key} is missing"));
@@ -162,8 +170,14 @@ fn tell_refused(words: &mut Words, alloc: Global, refused: Refused<'_>) {
 fn keys_missing(form: Form, keys: &Table) -> &'static [&'static str] {
     let has = |key: &str| keys.contains_key(key);
     match form {
-        Form::File if has("rule") => &[],
-        Form::File => &["rule"],
+        Form::File => match (has("rule"), has("memory")) {
+            (false, false) => &["rule", "memory"],
+            (false, true) => &["rule"],
+            (true, false) => &["memory"],
+            (true, true) => &[],
+        },
+        Form::Memory => &MEMORY_KEYS,
+        Form::Other => &["field", "memory"],
         Form::Rule => match (has("name"), has("holds")) {
             (false, false) => &["name", "holds"],
             (false, true) => &["name"],
@@ -171,9 +185,12 @@ fn keys_missing(form: Form, keys: &Table) -> &'static [&'static str] {
             (true, true) => &[],
         },
         Form::Relation if has("not") || has("and") || has("or") => &[],
-        Form::Relation => match (has("field"), has("less") || has("equal") || has("greater")) {
+        Form::Relation => match (
+            has("field") || has("memory"),
+            has("less") || has("equal") || has("greater"),
+        ) {
             (false, false) => &RELATION_KEYS,
-            (false, true) => &["field"],
+            (false, true) => &["field", "memory"],
             (true, false) => &["less", "equal", "greater"],
             (true, true) => &[],
         },
@@ -202,10 +219,16 @@ fn tell_form(words: &mut Words, form: Form) {
     words.say_part(
         Part::Expected,
         match form {
-            Form::File => "[[rule]] before each rule, and no other key",
+            Form::File => {
+                "[[rule]] before each rule, [[memory]] before each memory, and no other key"
+            }
+            Form::Memory => {
+                "'name', one of 'since', 'count' and 'last', 'back' and 'reset' with 'count', 'take' with 'last', 'per', and no other key"
+            }
+            Form::Other => "'field' or 'memory', and no other key",
             Form::Rule => "the keys 'name' and 'holds', and no other",
             Form::Relation => {
-                "'field' and one of 'less', 'equal' and 'greater', or one of 'not', 'and' and 'or', and no other key"
+                "'field' or 'memory' and one of 'less', 'equal' and 'greater', or one of 'not', 'and' and 'or', and no other key"
             }
         },
     );
@@ -217,7 +240,15 @@ fn tell_value(words: &mut Words, alloc: Global, slot: Slot<'_>, value: &Value) {
     words.say(" is ");
     match (slot, value.as_str()) {
         (Slot::Name, Some(name)) => tell_name(words, name),
-        (Slot::Field, Some(name)) => tell_field(words, name),
+        (Slot::SameName, Some(name)) => {
+            words.say_part(Part::Recorded, Found(name.as_bytes()));
+            words.say(", which an earlier memory has");
+        }
+        (Slot::Known, Some(name)) => {
+            words.say_part(Part::Recorded, Found(name.as_bytes()));
+            words.say(", which is not the name of a memory above");
+        }
+        (Slot::Field | Slot::Take, Some(name)) => tell_field(words, name),
         (Slot::Number { field, .. }, Some(name)) => tell_number(words, alloc, field, name),
         _ => {
             words.say_part(Part::Recorded, Given(value));
@@ -233,9 +264,13 @@ struct Subject<'a>(Slot<'a>);
 impl fmt::Display for Subject<'_> {
     fn fmt<W: fmt::Write>(&self, f: &mut fmt::Formatter<W>) -> fmt::Result {
         match self.0 {
+            Slot::Memories | Slot::Known => write!(f, "the key 'memory'"),
+            Slot::Memory => write!(f, "the memory"),
             Slot::Rules => write!(f, "the key 'rule'"),
             Slot::Rule => write!(f, "the rule"),
-            Slot::Name => write!(f, "the key 'name'"),
+            Slot::Name | Slot::SameName => write!(f, "the key 'name'"),
+            Slot::Take => write!(f, "the key 'take'"),
+            Slot::Per => write!(f, "the key 'per'"),
             Slot::Relation => write!(f, "the relation"),
             Slot::Relations(join) => write!(f, "the key '{}'", join.key()),
             Slot::Field => write!(f, "the key 'field'"),
@@ -252,13 +287,21 @@ fn tell_expected(words: &mut Words, slot: Slot<'_>) {
         Slot::Rules => words.say(format_args!(
             "a list of at most {MOST_RULES} tables, with [[rule]] before each"
         )),
+        Slot::Memories => words.say(format_args!(
+            "a list of at most {MOST_MEMORIES} tables, with [[memory]] before each"
+        )),
+        Slot::Memory => words.say(
+            "a table with the key 'name' and one of 'since', 'count' and 'last'",
+        ),
         Slot::Rule => words.say("a table with the keys 'name' and 'holds'"),
+        Slot::SameName | Slot::Known => words.say("the name of a memory"),
+        Slot::Per => say_choice(words, &HOLDERS),
         Slot::Name => words.say(format_args!(
             "a string of 1 to {LONGEST_RULE_NAME} bytes from 0x20 to 0x7E"
         )),
         Slot::Relation => words.say("a table, such as { field = \"elapsed\", less = 100 }"),
         Slot::Relations(_) => words.say(format_args!("a list of 1 to {MOST_RELATIONS} relations")),
-        Slot::Field => words.say("the name of a field"),
+        Slot::Field | Slot::Take => words.say("the name of a field"),
         Slot::Number { field, .. } => match named(field) {
             Some(what) => words.say(format_args!("a whole number or the name of {what}")),
             None => words.say("a whole number"),
@@ -267,7 +310,22 @@ fn tell_expected(words: &mut Words, slot: Slot<'_>) {
     words.end_part();
 }
 
-// Reports a string that is not the name of a rule.
+// Reports names of which one is chosen.
+fn say_choice(words: &mut Words, names: &[&str]) {
+    for (index, name) in names.iter().enumerate() {
+        let is_last = index.saturating_add(1) == names.len();
+        words.say(if index == 0 {
+            ""
+        } else if is_last {
+            " or "
+        } else {
+            ", "
+        });
+        words.say(format_args!("'{name}'"));
+    }
+}
+
+// Reports a string that is not the name of a memory or a rule.
 fn tell_name(words: &mut Words, name: &str) {
     words.say_part(Part::Recorded, Found(name.as_bytes()));
     let stray = name.bytes().find(|byte| !(0x20 <= *byte && *byte <= 0x7E));
@@ -293,7 +351,11 @@ fn tell_field(words: &mut Words, name: &str) {
 fn tell_number(words: &mut Words, alloc: Global, field: &str, name: &str) {
     words.say_part(Part::Recorded, Found(name.as_bytes()));
     let Some(what) = named(field) else {
-        words.say(format_args!(", but the field '{field}' takes only whole numbers"));
+        if field.is_empty() {
+            words.say(", but this memory takes only whole numbers");
+        } else {
+            words.say(format_args!(", but the field '{field}' takes only whole numbers"));
+        }
         return;
     };
     words.say(format_args!(", which is not the name of {what}"));
@@ -357,20 +419,20 @@ fn service_names(alloc: Global) -> Result<Vec<&'static str>, AllocError> {
 // The line of what the reader refuses, or of the innermost table around it that is found.
 fn line_of(text: &[u8], culprit: &Culprit<'_>) -> Option<u64> {
     let file = Located::text(text);
-    let Some((rule, _)) = culprit.rule else {
+    let Some(owner) = culprit.of else {
         return file.line_of(key_of(culprit.refused)?);
     };
-    Some(line_in_rule(file.item("rule", rule)?, culprit))
+    Some(line_inside(file.item(owner.list, owner.number)?, culprit))
 }
 
-// The line of what the reader refuses in a rule, or of the innermost table around it that is found.
-fn line_in_rule(rule: Located<'_>, culprit: &Culprit<'_>) -> u64 {
-    let mut around = rule;
+// The line of what the reader refuses in a memory or a rule, or of the innermost table around it that is found.
+fn line_inside(owner: Located<'_>, culprit: &Culprit<'_>) -> u64 {
+    let mut around = owner;
     if let Some(way) = culprit.way {
-        let Some(holds) = rule.under("holds") else {
-            return rule.line;
+        let Some(relation) = owner.under(way.under) else {
+            return owner.line;
         };
-        around = holds;
+        around = relation;
         for step in way.steps() {
             let inside = match step {
                 Step::Not => around.under("not"),
@@ -397,14 +459,17 @@ fn key_of(refused: Refused<'_>) -> Option<&str> {
     match refused {
         Refused::Key { key, .. } => Some(key),
         Refused::Depth => Some("holds"),
-        Refused::Keys(_) | Refused::NoKey(..) => None,
+        Refused::Keys(..) | Refused::NoKey(..) => None,
         Refused::Value(slot, _) => match slot {
+            Slot::Memories | Slot::Known => Some("memory"),
             Slot::Rules => Some("rule"),
-            Slot::Name => Some("name"),
+            Slot::Name | Slot::SameName => Some("name"),
+            Slot::Take => Some("take"),
+            Slot::Per => Some("per"),
             Slot::Relations(join) => Some(join.key()),
             Slot::Field => Some("field"),
             Slot::Number { key, .. } => Some(key),
-            Slot::Rule | Slot::Relation => None,
+            Slot::Memory | Slot::Rule | Slot::Relation => None,
         },
     }
 }

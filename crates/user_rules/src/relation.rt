@@ -1,22 +1,23 @@
 // What a user's rule says of a view.
 
 ghost use Rattle.std.specs.Prelude.{◌≡◌, IfOk};
-ghost use Rattle.user_rules.specs.Meets.{MeansTheSame, meets};
+ghost use Rattle.user_rules.specs.Meets.{MeansTheSame, meets, with_values};
 
-use apex_types::{Field, View};
+use crate::quantity::Quantity;
+use apex_types::View;
 use std::alloc::AllocError;
 
-/// What a user's rule says of a view: a field is compared with a number, and relations are combined.
+/// What a user's rule says of a view and of the values of the memories at it: two quantities are compared, and relations are combined.
 ///
 /// A clone needs memory, and the same views meet it.
 #[derive(Debug, Drop)]
 pub enum Relation {
-    /// The field is below the number.
-    Less(Field, i64),
-    /// The field is the number.
-    Equal(Field, i64),
-    /// The field is above the number.
-    Greater(Field, i64),
+    /// The first is below the second.
+    Less(Quantity, Quantity),
+    /// The two are equal.
+    Equal(Quantity, Quantity),
+    /// The first is above the second.
+    Greater(Quantity, Quantity),
     /// Both hold.
     And(Box<Relation>, Box<Relation>),
     /// One of the two holds, or both do.
@@ -26,17 +27,18 @@ pub enum Relation {
 }
 
 impl Relation {
-    /// Whether a view meets the relation. Takes no memory; each level of a relation takes a little of the stack.
-    pub fn holds(&self, view: &View) -> bool
-        ensures { result ≡ meets self.now view.now }
+    /// Whether a view meets the relation, with these values of the memories at it. Takes no memory; each level of a relation takes a
+    /// little of the stack.
+    pub fn holds(&self, view: &View, values: &[i64]) -> bool
+        ensures { result ≡ meets self.now (with_values view.now values.now) }
     {
         match self {
-            Relation::Less(field, number) => view.get(*field) < *number,
-            Relation::Equal(field, number) => view.get(*field) == *number,
-            Relation::Greater(field, number) => view.get(*field) > *number,
-            Relation::And(left, right) => left.holds(view) && right.holds(view),
-            Relation::Or(left, right) => left.holds(view) || right.holds(view),
-            Relation::Not(negated) => !negated.holds(view),
+            Relation::Less(left, right) => left.of(view, values) < right.of(view, values),
+            Relation::Equal(left, right) => left.of(view, values) == right.of(view, values),
+            Relation::Greater(left, right) => left.of(view, values) > right.of(view, values),
+            Relation::And(left, right) => left.holds(view, values) && right.holds(view, values),
+            Relation::Or(left, right) => left.holds(view, values) || right.holds(view, values),
+            Relation::Not(negated) => !negated.holds(view, values),
         }
     }
 }
@@ -55,9 +57,9 @@ fn copy(relation: &Relation) -> Result<Relation, AllocError>
     ensures { IfOk result (MeansTheSame relation.now) }
 {
     match relation {
-        Relation::Less(field, number) => Ok(Relation::Less(*field, *number)),
-        Relation::Equal(field, number) => Ok(Relation::Equal(*field, *number)),
-        Relation::Greater(field, number) => Ok(Relation::Greater(*field, *number)),
+        Relation::Less(left, right) => Ok(Relation::Less(*left, *right)),
+        Relation::Equal(left, right) => Ok(Relation::Equal(*left, *right)),
+        Relation::Greater(left, right) => Ok(Relation::Greater(*left, *right)),
         Relation::And(left, right) => Ok(Relation::And(copy_boxed(left)?, copy_boxed(right)?)),
         Relation::Or(left, right) => Ok(Relation::Or(copy_boxed(left)?, copy_boxed(right)?)),
         Relation::Not(negated) => Ok(Relation::Not(copy_boxed(negated)?)),

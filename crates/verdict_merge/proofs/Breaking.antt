@@ -4,8 +4,8 @@ use Rattle.std.specs.List.{All}
 use Rattle.std.specs.Prelude.{Contains}
 use Rattle.std.proofs.lemmas.Bool.{cases_eq}
 use Rattle.std.proofs.lemmas.Bool.Decides.{nat_tests}
-use Rattle.std.proofs.lemmas.List.{get_or-set_other, get_or-set_same, get_or-take, length-set, length-take-le}
-use Rattle.std.proofs.lemmas.List.Elements.{Contains-append_cases, Contains-append_left, Contains-append_right}
+use Rattle.std.proofs.lemmas.List.{get_or-set_other, get_or-set_same, get_or-take, length-set, length-take-le, take-map}
+use Rattle.std.proofs.lemmas.List.Elements.{All-map, Contains-append_cases, Contains-append_left, Contains-append_right}
 use Rattle.std.proofs.lemmas.Option.{same_Some, slice_get-get_or}
 use Rattle.apex_types.specs.declared.record.Ordered.{Ordered}
 use Rattle.apex_types.specs.declared.view.View.{View}
@@ -13,19 +13,24 @@ use Rattle.apex_machine.specs.Configuration.{Configuration}
 use Rattle.apex_machine.specs.Pieces.{Part, pieces}
 use Rattle.apex_machine.specs.Runs.{ArePlaced}
 use Rattle.piece_check.specs.Parts.{piece_at}
-use Rattle.user_rules.proofs.FirstBroken.{view_here}
+use Rattle.user_rules.proofs.FirstBroken.{alone_here}
 use Rattle.user_rules.specs.declared.relation.Relation.{Relation}
 use Rattle.user_rules.specs.FirstBroken.{IsFirstRuleBroken, MeetsAll}
+use Rattle.user_rules.specs.Meets.{alone}
 use Rattle.verdict_merge.specs.declared.breach.Breach.{Breach}
 use Rattle.verdict_merge.specs.declared.breach.Seen.{Seen}
 use Rattle.verdict_merge.specs.declared.finding.Refused.{Refused}
-use Rattle.verdict_merge.specs.Rounds.{IsTested}
+use Rattle.verdict_merge.specs.Rounds.{IsTestedAlone}
 use Rattle.verdict_merge.specs.Views.{AreSeen, IsFirstBreach, AreViews, IsViewOf, breach_before, count_before, earlier, first_some, seen_of, up_to}
 use Rattle.verdict_merge.proofs.Among.{contains_cases, contains_here, contains_none}
 use Rattle.verdict_merge.proofs.Giving.{HaveRun}
 use Rattle.verdict_merge.proofs.Slotted.{HaveSlots, put_in, put_in_from, slot_at, views_in}
 use Rattle.verdict_merge.proofs.Viewing.{AreSound, Gives, seen_have_slots, view_there}
 use Rattle.verdict_merge.proofs.Watching.{held_at, length_held, views_are_wanted, wanted_within}
+
+-- a view meets every rule where there are no memories
+abbrev pub MeetsAlone : List Relation → View → Type 0
+MeetsAlone relations view = MeetsAll relations (alone view)
 
 -- what one piece sees
 
@@ -63,7 +68,7 @@ breach_on relations seen given index (Some breach) next less (there, before, fir
 )
 
 -- the view of one record that breaks a rule
-pub one_breach : (relations : List Relation) (given : Option View) (index rule : ℕ) (view : View) → given ≡ Some view → IsFirstRuleBroken relations view rule
+pub one_breach : (relations : List Relation) (given : Option View) (index rule : ℕ) (view : View) → given ≡ Some view → IsFirstRuleBroken relations (alone view) rule
     → IsFirstBreach relations (seen_of given index) (Some (record { seen = record { index = index; view = view }; rule = rule }))
 one_breach relations given index rule view is first =
     subst (λ one. IsFirstBreach relations (seen_of one index) (Some (record { seen = record { index = index; view = view }; rule = rule }))) (sym is) (
@@ -72,6 +77,16 @@ one_breach relations given index rule view is first =
       first,
     )
 
+-- the view of one record that meets every rule
+pub none_broken : (relations : List Relation) (given : Option View) (index : ℕ) (view : View) → given ≡ Some view → MeetsAlone relations view
+    → IsFirstBreach relations (seen_of given index) None
+none_broken relations given index view is met =
+    subst (λ one. IsFirstBreach relations (seen_of one index) None) (sym is)
+    (λ one there. elim (contains_cases (record { index = index; view = view }) one [] there) [
+      | inl same ↦ subst (λ (seen : Seen). MeetsAlone relations seen.view) (sym same) met
+      | inr none ↦ absurd (contains_none one none)
+    ])
+
 -- the views of all pieces
 
 -- a breach among the views in these slots: it is of the record at its index, and the views in the slots before meet every rule
@@ -79,12 +94,12 @@ pub record IsBreachIn (configuration : Configuration) (parts : ℕ → Part) (re
   pub within : breach.seen.index < length records
   pub sound : (before : List Ordered) (ordered : Ordered) (after : List Ordered) → records ≡ before ++ ordered ∷ after → breach.seen.index ≡ length before
       → IsViewOf configuration parts before ordered breach.seen.view
-  pub before : (index : ℕ) (view : View) → index < breach.seen.index → slot_at slots index ≡ Some view → MeetsAll relations view
-  pub first : IsFirstRuleBroken relations breach.seen.view breach.rule
+  pub before : (index : ℕ) (view : View) → index < breach.seen.index → slot_at slots index ≡ Some view → MeetsAlone relations view
+  pub first : IsFirstRuleBroken relations (alone breach.seen.view) breach.rule
 
 -- the first breach among the views in these slots; none if each meets every rule
 abbrev pub IsFirstIn : Configuration → (ℕ → Part) → List Relation → List Ordered → List (Option View) → Option Breach → Type 0
-IsFirstIn configuration parts relations records slots None = (index : ℕ) (view : View) → slot_at slots index ≡ Some view → MeetsAll relations view
+IsFirstIn configuration parts relations records slots None = (index : ℕ) (view : View) → slot_at slots index ≡ Some view → MeetsAlone relations view
 IsFirstIn configuration parts relations records slots (Some breach) = IsBreachIn configuration parts relations records slots breach
 
 -- what one more piece has seen is put in
@@ -99,15 +114,15 @@ first_more configuration parts relations number records found seen slots old nex
     have = seen_have_slots configuration parts number records found seen slots whole are
 
     -- a view in a slot was there, or is one of those seen
-    meets_at : (index : ℕ) (view : View) → slot_at (put_in seen slots) index ≡ Some view → ((one : View) → slot_at slots index ≡ Some one → MeetsAll relations one)
-        → ((one : Seen) → Contains seen one → one.index ≡ index → MeetsAll relations one.view) → MeetsAll relations view
+    meets_at : (index : ℕ) (view : View) → slot_at (put_in seen slots) index ≡ Some view → ((one : View) → slot_at slots index ≡ Some one → MeetsAlone relations one)
+        → ((one : Seen) → Contains seen one → one.index ≡ index → MeetsAlone relations one.view) → MeetsAlone relations view
     meets_at index view held there here = elim (put_in_from seen slots index view have held) [
       | inl is_shown ↦ there view is_shown
-      | inr (one, among, at, same) ↦ subst (MeetsAll relations) same (here one among at)
+      | inr (one, among, at, same) ↦ subst (MeetsAlone relations) same (here one among at)
     ]
 
-    at_seen : (breach : Breach) → Contains seen breach.seen → IsFirstRuleBroken relations breach.seen.view breach.rule
-        → ((index : ℕ) (view : View) → index < breach.seen.index → slot_at (put_in seen slots) index ≡ Some view → MeetsAll relations view)
+    at_seen : (breach : Breach) → Contains seen breach.seen → IsFirstRuleBroken relations (alone breach.seen.view) breach.rule
+        → ((index : ℕ) (view : View) → index < breach.seen.index → slot_at (put_in seen slots) index ≡ Some view → MeetsAlone relations view)
         → IsBreachIn configuration parts relations records (put_in seen slots) breach
     at_seen breach among first before = record {
       within = let less = have breach.seen among in omega (arith, less, whole);
@@ -117,7 +132,7 @@ first_more configuration parts relations number records found seen slots old nex
     }
 
     as_was : (breach : Breach) → IsBreachIn configuration parts relations records slots breach
-        → ((one : Seen) → Contains seen one → one.index < breach.seen.index → MeetsAll relations one.view)
+        → ((one : Seen) → Contains seen one → one.index < breach.seen.index → MeetsAlone relations one.view)
         → IsBreachIn configuration parts relations records (put_in seen slots) breach
     as_was breach was met = record {
       within = was.within;
@@ -156,11 +171,11 @@ all_first Fact views count within each = λ index one less.
 -- the breach that is reported of a round is the first of the views before the record that is refused
 module _ (configuration : Configuration) (parts : ℕ → Part) (relations : List Relation) (first : ℕ) (records : List Ordered) (found : Option Refused)
     (placed : ArePlaced first records) (outcome : HaveRun configuration parts records found) where
-  abbrev wanted : ℕ
+  abbrev pub wanted : ℕ
   wanted = count_before first records found
 
   -- the views in the first slots, with a fact of each slot
-  views_of : (slots : List (Option View)) → length slots ≡ length records → AreSound configuration parts records slots
+  pub views_of : (slots : List (Option View)) → length slots ≡ length records → AreSound configuration parts records slots
       → ((index : ℕ) → index < wanted → (view : View) × (slot_at slots index ≡ Some view))
       → (views : List View) × AreViews configuration parts (up_to found records) views × (length views ≡ wanted)
       × ((index : ℕ) (one : View) → index < wanted → slot_at slots index ≡ Some (get_or views index one))
@@ -177,13 +192,14 @@ module _ (configuration : Configuration) (parts : ℕ → Part) (relations : Lis
   -- if each of these views meets every rule
   none_tested : (slots : List (Option View)) → length slots ≡ length records → AreSound configuration parts records slots
       → ((index : ℕ) → index < wanted → (view : View) × (slot_at slots index ≡ Some view))
-      → ((index : ℕ) (view : View) → index < wanted → slot_at slots index ≡ Some view → MeetsAll relations view)
-      → IsTested configuration relations parts records found None
+      → ((index : ℕ) (view : View) → index < wanted → slot_at slots index ≡ Some view → MeetsAlone relations view)
+      → IsTestedAlone configuration relations parts records found None
   none_tested slots whole sound filled met =
       let are = views_of slots whole sound filled in record {
         views = are.0;
         viewed = are.1;
-        first = λ index one less. met index (get_or are.0 index one) (omega (arith, less, are.2)) (are.3 index one (omega (arith, less, are.2)));
+        first = All-map (MeetsAll relations) alone are.0
+            (λ index one less. met index (get_or are.0 index one) (omega (arith, less, are.2)) (are.3 index one (omega (arith, less, are.2))));
         reported = tt;
       }
 
@@ -191,7 +207,7 @@ module _ (configuration : Configuration) (parts : ℕ → Part) (relations : Lis
   one_tested : (slots : List (Option View)) (breach : Breach) → length slots ≡ length records → AreSound configuration parts records slots
       → ((index : ℕ) → index < wanted → (view : View) × (slot_at slots index ≡ Some view))
       → IsBreachIn configuration parts relations records slots breach → breach.seen.index < wanted
-      → IsTested configuration relations parts records found (Some breach)
+      → IsTestedAlone configuration relations parts records found (Some breach)
   one_tested slots breach whole sound filled is less =
       let at = breach.seen.index in
       let within : at < length slots = omega (arith, is.within, whole) in
@@ -211,15 +227,16 @@ module _ (configuration : Configuration) (parts : ℕ → Part) (relations : Lis
       ] in
       let are = views_of there (length-set slots at (Some breach.seen.view) ∙ whole) sound_there filled_there in
       let view : get_or are.0 at breach.seen.view ≡ breach.seen.view = same_Some (get_or are.0 at breach.seen.view) breach.seen.view (sym (are.3 at breach.seen.view less) ∙ same) in
-      let before : All (MeetsAll relations) (take at are.0) =
-      all_first (MeetsAll relations) are.0 at (omega (arith, less, are.2))
+      let before : All (MeetsAlone relations) (take at are.0) =
+      all_first (MeetsAlone relations) are.0 at (omega (arith, less, are.2))
       (λ index one smaller. is.before index (get_or are.0 index one) smaller
       (sym (other index (apart_by index smaller)) ∙ are.3 index one (omega (arith, smaller, less)))) in
       record {
         views = are.0;
         viewed = are.1;
-        first = view_here relations are.0 at breach.rule breach.seen.view (omega (arith, less, are.2)) before
-            (subst (λ one. IsFirstRuleBroken relations one breach.rule) (sym view) is.first);
+        first = alone_here relations are.0 at breach.rule breach.seen.view (omega (arith, less, are.2))
+            (subst (All (MeetsAll relations)) (sym (take-map alone at are.0)) (All-map (MeetsAll relations) alone (take at are.0) before))
+            (subst (λ one. IsFirstRuleBroken relations (alone one) breach.rule) (sym view) is.first);
         reported = slice_get-get_or are.0 at breach.seen.view (omega (arith, less, are.2)) ∙ ap (λ one. Some one) view;
       }
     where
@@ -228,11 +245,11 @@ module _ (configuration : Configuration) (parts : ℕ → Part) (relations : Lis
 
   pub is_tested : (slots : List (Option View)) (breach : Option Breach) → length slots ≡ length records → AreSound configuration parts records slots
       → ((index : ℕ) → index < wanted → (view : View) × (slot_at slots index ≡ Some view))
-      → IsFirstIn configuration parts relations records slots breach → IsTested configuration relations parts records found (breach_before wanted breach)
+      → IsFirstIn configuration parts relations records slots breach → IsTestedAlone configuration relations parts records found (breach_before wanted breach)
   is_tested slots None whole sound filled met = none_tested slots whole sound filled (λ index view less held. met index view held)
   is_tested slots (Some breach) whole sound filled is = by (nat_lt breach.seen.index wanted) refl
     where
-      by : (before : Bool) → nat_lt breach.seen.index wanted ≡ before → IsTested configuration relations parts records found (if before then Some breach else None)
+      by : (before : Bool) → nat_lt breach.seen.index wanted ≡ before → IsTestedAlone configuration relations parts records found (if before then Some breach else None)
       by true e = one_tested slots breach whole sound filled is (grind (arith, nat_tests, e))
       by false e =
           let most : wanted ≤ breach.seen.index = grind (arith, nat_tests, e) in

@@ -145,7 +145,7 @@ pub refuses_there : (configuration : Configuration) (number first : ℕ) (record
     (ordered : Ordered) → outcome.found ≡ Some refused → HasCome configuration number old records now seen index → IsFirstBreach relations seen outcome.breach → ArePlaced first records
     → HoldsBefore first old.part → index < length records → get_or records index ordered ≡ ordered → touches configuration (piece_at configuration number) ordered ≡ true
     → (refused.pos ≡ ordered.pos) × (refused.piece ≡ number) × FirstFails (demands configuration now.part ordered) refused.cause × (next.part ≡ now.part)
-    → IsOf configuration next → IsJudgedOver configuration number first records relations old outcome next
+    → IsOf configuration next → (over : IsJudgedOver configuration number first records relations old outcome next) × (over.seen ≡ seen)
 refuses_there configuration number first records relations old now next outcome seen refused index ordered found come breach placed holds_before within is touched (place, whose, fails, same) of_module =
     let piece = piece_at configuration number in
     let cut : drop index records ≡ ordered ∷ drop (suc index) records = subst (λ one. drop index records ≡ one ∷ drop (suc index) records) is (drop-cons records index ordered within) in
@@ -154,35 +154,39 @@ refuses_there configuration number first records relations old now next outcome 
     subst (λ part. PieceRun configuration piece old.part (take index records) part × Rejects configuration piece part ordered refused.cause) (sym same) (come.run, (touched, fails)) in
     let before : up_to outcome.found records ≡ take index records =
     ap (λ one. up_to one records) found ∙ ap (before_place refused.pos) split
-    ∙ before_of first (take index records) ordered (drop (suc index) records) refused.pos (subst (ArePlaced first) split placed) place in
-    record {
-      found = subst (λ one. HasRunOver configuration number old.part records one next.part) (sym found)
-          (whose, (take index records, ordered, drop (suc index) records, split, place, left.0, left.1));
-      seen = seen;
-      are = subst (λ list. AreSeen configuration piece old.part 0 list seen) (sym before) come.seen;
-      breach = breach;
-      going = record {
-        of_module = of_module;
-        whose = subst (IsPartOf piece) (sym same) come.whose;
-        holds_before = HoldsBefore_later (first + index) (first + length records) next.part (omega (arith, within)) (subst (HoldsBefore (first + index)) (sym same) (come.holds_before first placed holds_before));
-      };
-    }
+    ∙ before_of first (take index records) ordered (drop (suc index) records) refused.pos (subst (ArePlaced first) split placed) place in (
+      record {
+        found = subst (λ one. HasRunOver configuration number old.part records one next.part) (sym found)
+            (whose, (take index records, ordered, drop (suc index) records, split, place, left.0, left.1));
+        seen = seen;
+        are = subst (λ list. AreSeen configuration piece old.part 0 list seen) (sym before) come.seen;
+        breach = breach;
+        going = record {
+          of_module = of_module;
+          whose = subst (IsPartOf piece) (sym same) come.whose;
+          holds_before = HoldsBefore_later (first + index) (first + length records) next.part (omega (arith, within)) (subst (HoldsBefore (first + index)) (sym same) (come.holds_before first placed holds_before));
+        };
+      },
+      refl,
+    )
 
 -- the piece has come after the last record
 pub goes_through : (configuration : Configuration) (number first : ℕ) (records : List Ordered) (relations : List Relation) (old now : Holding) (outcome : PieceOutcome) (seen : List Seen) (index : ℕ)
     → outcome.found ≡ None → HasCome configuration number old records now seen index → IsFirstBreach relations seen outcome.breach → index ≡ length records → ArePlaced first records
-    → HoldsBefore first old.part → IsJudgedOver configuration number first records relations old outcome now
+    → HoldsBefore first old.part → (over : IsJudgedOver configuration number first records relations old outcome now) × (over.seen ≡ seen)
 goes_through configuration number first records relations old now outcome seen index none come breach all placed holds_before =
     let piece = piece_at configuration number in
-    let whole : take index records ≡ records = ap (λ n. take n records) all ∙ take-length records in
-    record {
-      found = subst (λ one. HasRunOver configuration number old.part records one now.part) (sym none) (subst (λ list. PieceRun configuration piece old.part list now.part) whole come.run);
-      seen = seen;
-      are = subst (λ list. AreSeen configuration piece old.part 0 list seen) (whole ∙ sym (ap (λ one. up_to one records) none)) come.seen;
-      breach = breach;
-      going = record {
-        of_module = come.of_module;
-        whose = come.whose;
-        holds_before = subst (λ n. HoldsBefore (first + n) now.part) all (come.holds_before first placed holds_before);
-      };
-    }
+    let whole : take index records ≡ records = ap (λ n. take n records) all ∙ take-length records in (
+      record {
+        found = subst (λ one. HasRunOver configuration number old.part records one now.part) (sym none) (subst (λ list. PieceRun configuration piece old.part list now.part) whole come.run);
+        seen = seen;
+        are = subst (λ list. AreSeen configuration piece old.part 0 list seen) (whole ∙ sym (ap (λ one. up_to one records) none)) come.seen;
+        breach = breach;
+        going = record {
+          of_module = come.of_module;
+          whose = come.whose;
+          holds_before = subst (λ n. HoldsBefore (first + n) now.part) all (come.holds_before first placed holds_before);
+        };
+      },
+      refl,
+    )

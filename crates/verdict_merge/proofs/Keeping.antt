@@ -2,7 +2,7 @@
 use Rattle.std.proofs.Common.{◌≡◌, ◌⊎◌, ◌<◌, ◌≤◌, ◌∙◌, ℕ, zero, suc, List, [], ◌∷◌, ◌++◌, Option, Some, None, get_or, length, map, refl, sym, ap, subst, inl, inr, arith}
 use Rattle.std.specs.List.{All}
 use Rattle.std.specs.Prelude.{Contains}
-use Rattle.std.proofs.lemmas.List.{append-nil, length-append}
+use Rattle.std.proofs.lemmas.List.{append-nil, length-append, length-map}
 use Rattle.std.proofs.lemmas.List.Elements.{Contains-append_cases}
 use Rattle.apex_types.specs.declared.record.Ordered.{Ordered}
 use Rattle.apex_types.specs.declared.view.View.{View}
@@ -13,6 +13,7 @@ use Rattle.user_rules.proofs.Firsts.{all_after}
 use Rattle.user_rules.specs.declared.broken.Broken.{Broken}
 use Rattle.user_rules.specs.declared.relation.Relation.{Relation}
 use Rattle.user_rules.specs.FirstBroken.{IsFirstRuleBroken, IsFirstViewBroken, MeetsAll}
+use Rattle.user_rules.specs.Meets.{Valued, alone}
 use Rattle.verdict_merge.specs.declared.breach.Seen.{Seen}
 use Rattle.verdict_merge.specs.declared.kept.Kept.{Kept}
 use Rattle.verdict_merge.specs.Keeping.{AreRising, HasKept, seen_in}
@@ -63,13 +64,13 @@ none_more given index kept none =
 
 -- the views that are kept, and the index of each
 
-kept_views : (indices : List ℕ) (views : List View) → length indices ≡ length views → map (λ (one : Seen). one.view) (seen_in indices views) ≡ views
+kept_views : (indices : List ℕ) (views : List View) → length indices ≡ length views → map (λ (one : Seen). alone one.view) (seen_in indices views) ≡ map alone views
 kept_views [] [] even = refl
 kept_views [] (view ∷ views) even = absurd (omega (arith, even))
 kept_views (index ∷ indices) [] even = absurd (omega (arith, even))
-kept_views (index ∷ indices) (view ∷ views) even = ap (λ list. view ∷ list) (kept_views indices views (omega (arith, even)))
+kept_views (index ∷ indices) (view ∷ views) even = ap (λ list. alone view ∷ list) (kept_views indices views (omega (arith, even)))
 
-kept_at : (indices : List ℕ) (views : List View) (place index : ℕ) (view : View) → length indices ≡ length views → place < length views
+pub kept_at : (indices : List ℕ) (views : List View) (place index : ℕ) (view : View) → length indices ≡ length views → place < length views
     → get_or (seen_in indices views) place (record { index = index; view = view }) ≡ record { index = get_or indices place index; view = get_or views place view }
 kept_at [] [] place index view even within = absurd (omega (arith, within))
 kept_at [] (one ∷ views) place index view even within = absurd (omega (arith, even))
@@ -104,13 +105,13 @@ rising_on (first ∷ others) given index less (rises, rising) = (
     ]
 
 -- the first view that breaks a rule is that of the first record whose view does
-first_among : (relations : List Relation) (seen : List Seen) (before : List View) (view : View) (after : List View) (rule : ℕ) (default : Seen)
-    → map (λ (one : Seen). one.view) seen ≡ before ++ view ∷ after → AreRising seen → All (MeetsAll relations) before → IsFirstRuleBroken relations view rule
+first_among : (relations : List Relation) (seen : List Seen) (before : List Valued) (view : Valued) (after : List Valued) (rule : ℕ) (default : Seen)
+    → map (λ (one : Seen). alone one.view) seen ≡ before ++ view ∷ after → AreRising seen → All (MeetsAll relations) before → IsFirstRuleBroken relations view rule
     → IsFirstBreach relations seen (Some (record { seen = get_or seen (length before) default; rule = rule }))
 first_among relations [] [] view after rule default split rising met first = absurd cc
 first_among relations [] (one ∷ before) view after rule default split rising met first = absurd cc
 first_among relations (one ∷ others) [] view after rule default split (rises, rising) met first =
-    let same : one.view ≡ view = cc in (
+    let same : alone one.view ≡ view = cc in (
       contains_here one others,
       (λ other there smaller. elim (contains_cases one other others there) [
         | inl is ↦ absurd (omega (arith, smaller, ap (λ (seen : Seen). seen.index) is))
@@ -119,24 +120,25 @@ first_among relations (one ∷ others) [] view after rule default split (rises, 
       subst (λ view. IsFirstRuleBroken relations view rule) (sym same) first,
     )
 first_among relations (one ∷ others) (front ∷ before) view after rule default split (rises, rising) met first =
-    let same : one.view ≡ front = cc in
-    let tail : map (λ (one : Seen). one.view) others ≡ before ++ view ∷ after = cc in
+    let same : alone one.view ≡ front = cc in
+    let tail : map (λ (one : Seen). alone one.view) others ≡ before ++ view ∷ after = cc in
     let rest = first_among relations others before view after rule default tail rising (all_after (MeetsAll relations) front before met) first in (
       contains_after one (get_or others (length before) default) others rest.0,
       (λ other there smaller. elim (contains_cases one other others there) [
-        | inl is ↦ subst (MeetsAll relations) (sym (ap (λ (seen : Seen). seen.view) is ∙ same)) (met 0 front (omega arith))
+        | inl is ↦ subst (MeetsAll relations) (sym (ap (λ (seen : Seen). alone seen.view) is ∙ same)) (met 0 front (omega arith))
         | inr later ↦ rest.1 other later smaller
       ]),
       rest.2,
     )
 
 -- a view that is found is one of the list
-pub broken_within : (relations : List Relation) (views : List View) (broken : Broken) → IsFirstViewBroken relations views broken → broken.view < length views
+pub broken_within : (relations : List Relation) (views : List View) (broken : Broken) → IsFirstViewBroken relations (map alone views) broken
+    → broken.view < length views
 broken_within relations views broken first =
-    omega (arith, first.counted, ap length first.split, length-append first.before (first.view ∷ first.after))
+    omega (arith, length-map views alone, first.counted, ap length first.split, length-append first.before (first.view ∷ first.after))
 
 pub first_kept : (relations : List Relation) (indices : List ℕ) (views : List View) (broken : Broken) (index : ℕ) (view : View) → length indices ≡ length views
-    → AreRising (seen_in indices views) → IsFirstViewBroken relations views broken
+    → AreRising (seen_in indices views) → IsFirstViewBroken relations (map alone views) broken
     → index ≡ get_or indices broken.view index → view ≡ get_or views broken.view view
     → IsFirstBreach relations (seen_in indices views) (Some (record { seen = record { index = index; view = view }; rule = broken.rule }))
 first_kept relations indices views broken index view even rising first is same =
@@ -150,10 +152,10 @@ first_kept relations indices views broken index view even rising first is same =
     subst (λ one. IsFirstBreach relations (seen_in indices views) (Some (record { seen = one; rule = broken.rule }))) here breach
 
 -- if each view meets every rule, no record has one that does not
-pub none_kept : (relations : List Relation) (indices : List ℕ) (views : List View) → All (MeetsAll relations) views → IsFirstBreach relations (seen_in indices views) None
+pub none_kept : (relations : List Relation) (indices : List ℕ) (views : List View) → All (MeetsAll relations) (map alone views) → IsFirstBreach relations (seen_in indices views) None
 none_kept relations [] views all one there = absurd (contains_none one there)
 none_kept relations (index ∷ indices) [] all one there = absurd (contains_none one there)
 none_kept relations (index ∷ indices) (view ∷ views) all one there = elim (contains_cases (record { index = index; view = view }) one (seen_in indices views) there) [
-  | inl same ↦ subst (MeetsAll relations) (sym (ap (λ (seen : Seen). seen.view) same)) (all 0 view (omega arith))
-  | inr later ↦ none_kept relations indices views (all_after (MeetsAll relations) view views all) one later
+  | inl same ↦ subst (MeetsAll relations) (sym (ap (λ (seen : Seen). alone seen.view) same)) (all 0 (alone view) (omega arith))
+  | inr later ↦ none_kept relations indices views (all_after (MeetsAll relations) (alone view) (map alone views) all) one later
 ]

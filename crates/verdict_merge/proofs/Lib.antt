@@ -24,3 +24,5 @@ pub mod Keeping
 pub mod Histories
 pub mod Steps
 pub mod RoundPieces
+pub mod Ordering
+pub mod Surveying

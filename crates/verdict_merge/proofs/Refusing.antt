@@ -15,7 +15,7 @@ use Rattle.module_config.proofs.Numbers.{number-at, numbered-at}
 use Rattle.piece_check.proofs.Numbering.{length-pieces, piece_at_channel, piece_at_partition}
 use Rattle.piece_check.specs.Parts.{piece_at}
 use Rattle.user_rules.specs.declared.broken.Broken.{Broken as BrokenView}
-use Rattle.user_rules.specs.declared.relation.Relation.{Relation}
+use Rattle.user_rules.specs.Remembered.{Requirements}
 use Rattle.user_rules.specs.FirstBroken.{IsFirstBroken}
 use Rattle.verdict_merge.specs.declared.finding.Refused.{Refused}
 use Rattle.verdict_merge.specs.declared.verdict.Verdict.{Verdict}
@@ -64,11 +64,11 @@ no_step_there configuration records found ends is_shown reached run next step =
     (runs_join configuration piece (part piece cold) is_shown.before (is_shown.ordered ∷ []) (part piece next)).1 (part piece reached, before, there) in
     runs_and_refuses configuration piece (part piece cold) is_shown.before is_shown.ordered found.cause (part piece next) whole is_shown.refused
 
-refused_at : (configuration : Configuration) (relations : List Relation) (records : List Ordered) (found : Refused)
+refused_at : (configuration : Configuration) (requirements : Requirements) (records : List Ordered) (found : Refused)
     → WindowsAreConfigured configuration → EndsAreApart configuration → ArePlaced 0 records
-    → (is_shown : IsNo configuration (cold_parts configuration) records found) → ViewsMeet configuration relations (cold_parts configuration) is_shown.before
-    → IsRefusedAt configuration relations records found.pos
-refused_at configuration relations records found windows ends placed is_shown meet =
+    → (is_shown : IsNo configuration (cold_parts configuration) records found) → ViewsMeet configuration requirements (cold_parts configuration) is_shown.before
+    → IsRefusedAt configuration requirements records found.pos
+refused_at configuration requirements records found windows ends placed is_shown meet =
     let front = placed_front 0 is_shown.before (is_shown.ordered ∷ is_shown.after) (subst (ArePlaced 0) is_shown.split placed) in
     let run = machine_runs configuration is_shown.before windows front (runs_up_to configuration (cold_parts configuration) records found is_shown) in
     record {
@@ -79,7 +79,7 @@ refused_at configuration relations records found windows ends placed is_shown me
       place = omega (arith, no_at configuration (cold_parts configuration) 0 records found placed is_shown);
       reached = run.0;
       run = run.1;
-      meets = run_meets configuration relations is_shown.before run.0 run.1 ends meet;
+      meets = run_meets configuration requirements is_shown.before run.0 run.1 ends meet;
       no_step = no_step_there configuration records found ends is_shown run.0 run.1;
     }
 
@@ -88,10 +88,10 @@ refused_at configuration relations records found windows ends placed is_shown me
 abbrev broken_of : ℕ → ℕ → BrokenView
 broken_of view rule = record { view = view; rule = rule }
 
-broken_at : (configuration : Configuration) (relations : List Relation) (records : List Ordered) (pos rule : ℕ)
+broken_at : (configuration : Configuration) (requirements : Requirements) (records : List Ordered) (pos rule : ℕ)
     → WindowsAreConfigured configuration → EndsAreApart configuration → ArePlaced 0 records
-    → IsBroken configuration relations (cold_parts configuration) 0 records pos rule → IsBrokenAt configuration relations records pos rule
-broken_at configuration relations records pos rule windows ends placed is =
+    → IsBroken configuration requirements (cold_parts configuration) 0 records pos rule → IsBrokenAt configuration requirements records pos rule
+broken_at configuration requirements records pos rule windows ends placed is =
     let front = placed_front 0 is.through is.after (subst (ArePlaced 0) is.split placed) in
     let run = machine_runs configuration is.through windows front is.runs in
     let views = views_are_of_the_run configuration (cold_state configuration) [] is.through run.0 is.views ends (stays_tied.0 configuration) (λ piece known. refl) is.viewed run.1 in
@@ -103,7 +103,7 @@ broken_at configuration relations records pos rule windows ends placed is =
       place = omega (arith, is.last, is.place);
       final = run.0;
       run = run.1;
-      first = subst (λ list. IsFirstBroken relations list (Some (broken_of pos rule))) views (subst (λ broken. IsFirstBroken relations is.views (Some broken)) reported is.first);
+      first = subst (λ list. IsFirstBroken requirements list (Some (broken_of pos rule))) views (subst (λ broken. IsFirstBroken requirements is.views (Some broken)) reported is.first);
     }
   where
     same : (broken : BrokenView) → broken.view ≡ pos → broken.rule ≡ rule → broken ≡ broken_of pos rule
@@ -111,16 +111,16 @@ broken_at configuration relations records pos rule windows ends placed is =
         ap (λ one. broken_of one broken.rule) view ∙ ap (λ one. broken_of pos one) number
 
 -- the machine runs up to what a verdict reports
-pub run_up_to_no : (configuration : Configuration) (relations : List Relation) (records : List Ordered) (verdict : Verdict)
-    → WindowsAreConfigured configuration → EndsAreApart configuration → ArePlaced 0 records → IsVerdict configuration relations records verdict
-    → IsRunUpToNo configuration relations records verdict
-run_up_to_no configuration relations records (Yes count) windows ends placed is = tt
-run_up_to_no configuration relations records (No place piece cause) windows ends placed (is_shown, meet) =
-    refused_at configuration relations records (record { pos = place; piece = piece; cause = cause }) windows ends placed is_shown meet
-run_up_to_no configuration relations records (Broken place rule) windows ends placed is = broken_at configuration relations records place rule windows ends placed is
+pub run_up_to_no : (configuration : Configuration) (requirements : Requirements) (records : List Ordered) (verdict : Verdict)
+    → WindowsAreConfigured configuration → EndsAreApart configuration → ArePlaced 0 records → IsVerdict configuration requirements records verdict
+    → IsRunUpToNo configuration requirements records verdict
+run_up_to_no configuration requirements records (Yes count) windows ends placed is = tt
+run_up_to_no configuration requirements records (No place piece cause) windows ends placed (is_shown, meet) =
+    refused_at configuration requirements records (record { pos = place; piece = piece; cause = cause }) windows ends placed is_shown meet
+run_up_to_no configuration requirements records (Broken place rule) windows ends placed is = broken_at configuration requirements records place rule windows ends placed is
 
 pub verdict_is_of_the_machine : VerdictIsOfTheMachine
-verdict_is_of_the_machine configuration relations records verdict windows ends placed is = (
-  run_where_yes configuration relations records verdict windows ends placed is,
-  run_up_to_no configuration relations records verdict windows ends placed is,
+verdict_is_of_the_machine configuration requirements records verdict windows ends placed is = (
+  run_where_yes configuration requirements records verdict windows ends placed is,
+  run_up_to_no configuration requirements records verdict windows ends placed is,
 )

@@ -1,5 +1,5 @@
 -- The pieces of a round, and what became of them.
-use Rattle.std.proofs.Common.{◌≡◌, ◌<◌, ◌+◌, ◌∙◌, ℕ, zero, suc, List, [], ◌∷◌, ◌++◌, Option, Some, length, get_or, refl, ap, sym, subst, arith, append_assoc, below_more}
+use Rattle.std.proofs.Common.{◌≡◌, ◌<◌, ◌+◌, ◌∙◌, ℕ, zero, suc, List, [], ◌∷◌, ◌++◌, Option, Some, length, get_or, refl, ap, sym, subst, arith, append_assoc, below_more, Bool}
 use Rattle.std.proofs.lemmas.List.{get_or_append_left, length-append, length-map}
 use Rattle.std.proofs.Math.Seq.{get_or-append_seam}
 use Rattle.apex_types.specs.declared.record.Ordered.{Ordered}
@@ -8,12 +8,12 @@ use Rattle.apex_machine.specs.Pieces.{Part, pieces}
 use Rattle.piece_check.specs.Parts.{Holding, piece_at}
 use Rattle.user_rules.specs.declared.relation.Relation.{Relation}
 use Rattle.verdict_merge.specs.declared.outcome.Lent.{Lent}
-use Rattle.verdict_merge.specs.Rounds.{AreJudgedOver, AreGoing, HasRunOver, IsGoing, IsJudgedOver, holding_at}
+use Rattle.verdict_merge.specs.Rounds.{AreJudgedOver, AreGoing, HasRunOver, IsGoing, IsPieceJudged, holding_at}
 use Rattle.verdict_merge.specs.Views.{AreSeen, up_to as up_to_refusal}
 use Rattle.verdict_merge.specs.declared.judged.Judged.{Judged}
 use Rattle.verdict_merge.specs.declared.log.Event.{Event}
 use Rattle.verdict_merge.specs.Boards.{IsBoard, IsPlaced}
-use Rattle.verdict_merge.specs.Contents.{AreGoingFrom, AreJudged, Content, IsJudged, content_of, part_at, parts_held}
+use Rattle.verdict_merge.specs.Contents.{AreGoingFrom, AreJudged, Content, IsJudged, content_of, holding_of, part_at, parts_held}
 
 -- the part of a piece by its number
 pub part_held : (holdings : List Holding) (number : ℕ) → part_at (parts_held holdings) number ≡ (holding_at holdings number).part
@@ -42,25 +42,37 @@ all_going configuration place holdings going =
     subst (λ n. IsGoing configuration n place (holding_at holdings one)) same (going.each one (omega (arith, within, going.whole))))
 
 -- what a piece makes of the records rests on its part alone
-pub judged_by_part : (configuration : Configuration) (number first : ℕ) (records : List Ordered) (relations : List Relation) (old other : Holding) (judged : Judged) → old.part ≡ other.part
-    → IsJudgedOver configuration number first records relations old judged.outcome judged.piece → IsJudgedOver configuration number first records relations other judged.outcome judged.piece
-judged_by_part configuration number first records relations old other judged same over = record {
-  found = subst (λ part. HasRunOver configuration number part records judged.outcome.found judged.piece.part) same over.found;
-  seen = over.seen;
-  are = subst (λ part. AreSeen configuration (piece_at configuration number) part 0 (up_to_refusal judged.outcome.found records) over.seen) same over.are;
-  breach = over.breach;
-  going = over.going;
+pub judged_by_part : (configuration : Configuration) (number first : ℕ) (records : List Ordered) (relations : List Relation) (keeps : Bool) (old other : Holding) (judged : Judged) → old.part ≡ other.part
+    → IsPieceJudged configuration number first records relations keeps old judged → IsPieceJudged configuration number first records relations keeps other judged
+judged_by_part configuration number first records relations keeps old other judged same is = record {
+  over = record {
+    found = subst (λ part. HasRunOver configuration number part records judged.outcome.found judged.piece.part) same is.over.found;
+    seen = is.over.seen;
+    are = subst (λ part. AreSeen configuration (piece_at configuration number) part 0 (up_to_refusal judged.outcome.found records) is.over.seen) same is.over.are;
+    breach = is.over.breach;
+    going = is.over.going;
+  };
+  kept = is.kept;
 }
+
+-- what a piece of a round makes of what is lent to it, under rules that mean what those of the round do, is what it makes of the round
+pub judged_in_round : (round : Content) (lent : Lent) (relations : List Relation) (number : ℕ) (piece : Holding) (judged : Judged) → content_of lent round.relations round.parts ≡ round
+    → relations ≡ round.relations → piece.part ≡ part_at round.parts number
+    → IsPieceJudged lent.config.now number lent.first lent.records.now relations lent.keeps piece judged → IsJudged round number judged
+judged_in_round round lent relations number piece judged same means held is =
+    let meant = subst (λ meaning. IsPieceJudged lent.config.now number lent.first lent.records.now meaning lent.keeps piece judged) means is in
+    let of_part = judged_by_part lent.config.now number lent.first lent.records.now round.relations lent.keeps piece (holding_of (part_at round.parts number)) judged held meant in
+    subst (λ content. IsJudged content number judged) same of_part
 
 -- what became of the pieces of a round is what became of these
 pub all_judged_over : (lent : Lent) (relations : List Relation) (holdings : List Holding) (judged : List Judged) → AreJudged (content_of lent relations (parts_held holdings)) judged
-    → AreJudgedOver lent.config.now lent.first lent.records.now relations holdings judged
+    → AreJudgedOver lent.config.now lent.first lent.records.now relations lent.keeps holdings judged
 all_judged_over lent relations holdings judged all =
     let same : length (parts_held holdings) ≡ length holdings = length-map holdings (λ piece. piece.part) in
     record {
       whole = all.whole ∙ same;
       each = λ number within one is.
-          judged_by_part lent.config.now number lent.first lent.records.now relations _ (holding_at holdings number) one (part_held holdings number)
+          judged_by_part lent.config.now number lent.first lent.records.now relations lent.keeps _ (holding_at holdings number) one (part_held holdings number)
           (all.each number (omega (arith, within, same)) one is);
     }
 

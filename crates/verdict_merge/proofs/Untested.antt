@@ -3,6 +3,7 @@ use Rattle.std.proofs.Common.{◌≡◌, ℕ, List, [], Option, Some, None, refl
 use Rattle.apex_types.specs.declared.view.View.{View}
 use Rattle.user_rules.specs.declared.relation.Relation.{Relation}
 use Rattle.user_rules.specs.FirstBroken.{MeetsAll}
+use Rattle.user_rules.specs.Meets.{alone}
 use Rattle.verdict_merge.specs.declared.breach.Breach.{Breach}
 use Rattle.verdict_merge.specs.declared.finding.Refused.{Refused}
 use Rattle.verdict_merge.specs.Views.{HasTested}
@@ -14,7 +15,7 @@ untested relations given index None none = rw none (None, (λ one there. absurd 
 untested relations given index (Some breach) none = rw none (None, (λ one there. absurd (contains_none one there)), refl)
 
 -- a view meets no rules
-meets_none : (view : View) → MeetsAll [] view
+meets_none : (view : View) → MeetsAll [] (alone view)
 meets_none view = λ k default below. absurd (omega (arith, below))
 
 -- without rules, the breach so far is kept

@@ -14,9 +14,10 @@ use Rattle.apex_machine.specs.State.{cold_state}
 use Rattle.apex_laws.proofs.Joins.{found_is_refused, nothing_found_is_a_run, refused_found, run_finds_nothing}
 use Rattle.apex_laws.proofs.Refusals.{one_first_refusal}
 use Rattle.piece_check.specs.Parts.{piece_at}
-use Rattle.apex_types.specs.declared.view.View.{View}
 use Rattle.user_rules.specs.declared.broken.Broken.{Broken as BrokenView}
-use Rattle.user_rules.specs.FirstBroken.{IsFirstBroken}
+use Rattle.user_rules.specs.FirstBroken.{IsFirstAmong}
+use Rattle.user_rules.specs.Meets.{Valued}
+use Rattle.user_rules.specs.Remembered.{required_by, valued}
 use Rattle.verdict_merge.specs.declared.finding.Refused.{Refused}
 use Rattle.verdict_merge.specs.declared.verdict.Verdict.{Verdict}
 use Rattle.verdict_merge.specs.declared.verdict.Verdict.TheVariants.{Yes, No, Broken}
@@ -290,7 +291,7 @@ some_follows findings count = by (least_of [] findings None refl)
     by (Some least, is) = (No least.pos least.piece least.cause, is)
 
 -- without a rule no rule is broken
-pub no_rule_broken : (views : List View) (broken : BrokenView) → ¬ IsFirstBroken [] views (Some broken)
+pub no_rule_broken : (views : List Valued) (broken : BrokenView) → ¬ IsFirstAmong [] views (Some broken)
 no_rule_broken views broken is = nothing_split is.first.earlier is.first.relation is.first.later is.first.split
   where
     nothing_split : {A : Type 0} (earlier : List A) (one : A) (later : List A) → ◌≡◌ {A = List A} [] (earlier ++ one ∷ later) → ⊥
@@ -299,10 +300,10 @@ no_rule_broken views broken is = nothing_split is.first.earlier is.first.relatio
 
 -- without a rule the verdict is that of the pieces
 pieces_verdict : (configuration : Configuration) (records : List Ordered) (verdict : Verdict)
-    → (IsVerdict configuration [] records verdict → IsPiecesVerdict configuration records verdict) × (IsPiecesVerdict configuration records verdict → IsVerdict configuration [] records verdict)
+    → (IsVerdict configuration (required_by [] []) records verdict → IsPiecesVerdict configuration records verdict) × (IsPiecesVerdict configuration records verdict → IsVerdict configuration (required_by [] []) records verdict)
 pieces_verdict configuration records (Yes all) = (λ is. (is.0, is.1), λ is. (is.0, is.1, tt))
 pieces_verdict configuration records (No pos piece cause) = (λ is. is.0, λ is. (is, tt))
-pieces_verdict configuration records (Broken pos rule) = (λ is. no_rule_broken is.views is.broken is.first, λ is. absurd is)
+pieces_verdict configuration records (Broken pos rule) = (λ is. no_rule_broken (valued (required_by [] []) is.views) is.broken is.first, λ is. absurd is)
 
 pub verdict_is_of_the_findings : VerdictIsOfTheFindings
 verdict_is_of_the_findings configuration records findings verdict placed all = (

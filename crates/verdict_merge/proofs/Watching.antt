@@ -30,7 +30,7 @@ refused_within configuration old new records first count (Some least) placed (wi
     (omega (arith, place, at), omega (arith, place, at, whole))
 
 -- this many records come before the one that is rejected
-counted_are : (configuration : Configuration) (parts : ℕ → Part) (first : ℕ) (records : List Ordered) (found : Option Refused) → ArePlaced first records → HaveRun configuration parts records found
+pub counted_are : (configuration : Configuration) (parts : ℕ → Part) (first : ℕ) (records : List Ordered) (found : Option Refused) → ArePlaced first records → HaveRun configuration parts records found
     → count_before first records found ≡ length (up_to found records)
 counted_are configuration parts first records None placed outcome = refl
 counted_are configuration parts first records (Some found) placed is_shown =

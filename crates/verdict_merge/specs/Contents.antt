@@ -1,5 +1,5 @@
 -- What a round is, and the results of its pieces.
-use Rattle.std.specs.Prelude.{◌≡◌, ◌<◌, ℕ, zero, suc, List, [], ◌∷◌, None, false, length, map, slice_index_or}
+use Rattle.std.specs.Prelude.{◌≡◌, ◌<◌, ℕ, zero, suc, List, [], ◌∷◌, None, Bool, false, length, map, slice_index_or}
 use Rattle.apex_types.specs.declared.record.Ordered.{Ordered}
 use Rattle.apex_machine.specs.Configuration.{Configuration}
 use Rattle.apex_machine.specs.Pieces.{ModulePart, Part, pieces}
@@ -7,15 +7,17 @@ use Rattle.apex_machine.specs.Runs.{ArePlaced, AreOfCores}
 use Rattle.piece_check.specs.Parts.{Holding}
 use Rattle.user_rules.specs.declared.relation.Relation.{Relation}
 use Rattle.verdict_merge.specs.declared.outcome.Lent.{Lent}
-use Rattle.verdict_merge.specs.Rounds.{IsGoing, IsJudgedOver}
+use Rattle.verdict_merge.specs.Rounds.{IsGoing, IsPieceJudged}
 use Rattle.verdict_merge.specs.declared.judged.Judged.{Judged}
 
--- a round: the module, the place of its first record, its records, what the rules mean, and the parts of the pieces before it
+-- a round: the module, the place of its first record, its records, what the rules mean, whether views are kept, and the parts of the pieces
+-- before it
 pub record Content : Type 0 where
   pub configuration : Configuration
   pub first : ℕ
   pub records : List Ordered
   pub relations : List Relation
+  pub keeps : Bool
   pub parts : List Part
 
 -- the parts that pieces hold
@@ -35,6 +37,7 @@ content_of lent relations parts = record {
   first = lent.first;
   records = lent.records.now;
   relations = relations;
+  keeps = lent.keeps;
   parts = parts;
 }
 
@@ -45,6 +48,7 @@ no_content = record {
   first = 0;
   records = [];
   relations = [];
+  keeps = false;
   parts = [];
 }
 
@@ -66,7 +70,7 @@ holding_of part = record { part = part; settings = None; exhausted = false }
 -- the piece of this number judged the records of the round, with this result
 abbrev pub IsJudged : Content → ℕ → Judged → Type 0
 IsJudged content number judged =
-    IsJudgedOver content.configuration number content.first content.records content.relations (holding_of (part_at content.parts number)) judged.outcome judged.piece
+    IsPieceJudged content.configuration number content.first content.records content.relations content.keeps (holding_of (part_at content.parts number)) judged
 
 -- each piece of the round judged its records; there is one result for each, at its number
 pub record AreJudged (content : Content) (judged : List Judged) : Type 0 where

@@ -4,6 +4,8 @@ pub mod Verdicts
 pub mod Refusals
 pub mod Views
 pub mod Keeping
+pub mod Merging
+pub mod Memories
 pub mod Logs
 pub mod Contents
 pub mod Boards

@@ -1,5 +1,5 @@
 -- What all pieces make of the next records.
-use Rattle.std.specs.Prelude.{◌≡◌, ◌<◌, ◌+◌, false, ℕ, zero, suc, List, [], ◌∷◌, ◌++◌, IfSome, IsTrue, Option, Some, None, length, map, slice_get, slice_index_or}
+use Rattle.std.specs.Prelude.{◌≡◌, ◌<◌, ◌+◌, Bool, true, false, ℕ, zero, suc, List, [], ◌∷◌, ◌++◌, IfSome, IsTrue, Option, Some, None, length, map, slice_get, slice_index_or}
 use Rattle.apex_types.specs.declared.cause.Cause.{Cause}
 use Rattle.apex_types.specs.declared.record.Ordered.{Ordered}
 use Rattle.apex_machine.specs.Configuration.{Configuration}
@@ -10,8 +10,12 @@ use Rattle.apex_machine.specs.State.{cold_state}
 use Rattle.piece_check.specs.declared.fault.PieceFault.{PieceFault}
 use Rattle.piece_check.specs.Parts.{Holding, HoldsBefore, IsOf, IsPartOf, piece_at}
 use Rattle.apex_types.specs.declared.view.View.{View}
+use Rattle.user_rules.specs.declared.memory.Cell.{Cell}
 use Rattle.user_rules.specs.declared.relation.Relation.{Relation}
-use Rattle.user_rules.specs.FirstBroken.{IsFirstBroken}
+use Rattle.user_rules.specs.FirstBroken.{IsFirstAmong, IsFirstBroken}
+use Rattle.user_rules.specs.Meets.{alone}
+use Rattle.user_rules.specs.Passed.{passed}
+use Rattle.user_rules.specs.Remembered.{Requirements, kept_after}
 use Rattle.verdict_merge.specs.declared.breach.Breach.{Breach}
 use Rattle.verdict_merge.specs.declared.breach.Seen.{Seen}
 use Rattle.verdict_merge.specs.declared.finding.Refused.{Refused}
@@ -19,6 +23,8 @@ use Rattle.verdict_merge.specs.declared.outcome.PieceOutcome.{PieceOutcome}
 use Rattle.verdict_merge.specs.Findings.{refusal_of}
 use Rattle.verdict_merge.specs.declared.survey.Survey.{Survey}
 use Rattle.verdict_merge.specs.declared.judged.Judged.{Judged}
+use Rattle.verdict_merge.specs.declared.kept.Kept.{Kept}
+use Rattle.verdict_merge.specs.Keeping.{seen_in}
 use Rattle.verdict_merge.specs.Views.{AreSeen, AreViews, IsFirstBreach, broken_of, up_to}
 
 -- the parts of all pieces by their numbers, as they are before the first record
@@ -106,14 +112,26 @@ pub record IsJudgedOver (configuration : Configuration) (number first : ℕ) (re
   pub breach : IsFirstBreach relations seen outcome.breach
   pub going : IsGoing configuration number (first + length records) new
 
+-- a piece keeps the views that it saw, if it must; a list of kept views has the index of each record beside its view
+abbrev pub AreKeptFor : Bool → List Seen → Option Kept → Type 0
+AreKeptFor false seen kept = Unit {0}
+AreKeptFor true seen None = ⊥
+AreKeptFor true seen (Some kept) = seen_in kept.indices.items kept.views.items ≡ seen
+
+-- the piece of this number judged records from this place on, and kept its views if it must
+pub record IsPieceJudged (configuration : Configuration) (number first : ℕ) (records : List Ordered) (relations : List Relation) (keeps : Bool) (old : Holding) (judged : Judged) : Type 0 where
+  pub over : IsJudgedOver configuration number first records relations old judged.outcome judged.piece
+  pub kept : AreKeptFor keeps over.seen judged.kept
+
 -- all pieces together
 
--- what callers see of the pieces: the number of records that they have judged, the pieces in the order of their numbers, and the breach
--- of a rule in the last round
+-- what callers see of the pieces: the number of records that they have judged, the pieces in the order of their numbers, the breach of a
+-- rule in the last round, and what memories have kept of the views
 pub record Judging : Type 0 where
   pub count : ℕ
   pub pieces : List Holding
   pub breach : Option Breach
+  pub kept : List (List Cell)
 
 -- a piece by its number
 abbrev pub holding_at : List Holding → ℕ → Holding
@@ -146,27 +164,37 @@ HaveRunOver configuration old records None new = AllRun configuration (parts_in 
 HaveRunOver configuration old records (Some found) new = EndsInNo configuration (parts_in old) records found (parts_in new)
 
 -- each of these pieces judged records from this place on; there is one answer for each, at its number
-pub record AreJudgedOver (configuration : Configuration) (first : ℕ) (records : List Ordered) (relations : List Relation) (old : List Holding) (judged : List Judged) : Type 0 where
+pub record AreJudgedOver (configuration : Configuration) (first : ℕ) (records : List Ordered) (relations : List Relation) (keeps : Bool) (old : List Holding) (judged : List Judged) : Type 0 where
   pub whole : length judged ≡ length old
   pub each : (number : ℕ) → number < length old → (one : Judged) → one ≡ slice_index_or judged number one
-      → IsJudgedOver configuration number first records relations (holding_at old number) one.outcome one.piece
+      → IsPieceJudged configuration number first records relations keeps (holding_at old number) one
 
 -- the pieces after the round
 abbrev pub pieces_in : List Judged → List Holding
 pieces_in judged = map (λ one. one.piece) judged
 
--- among the views of the records before the rejected one, the first that breaks a rule is this one, and the breach reports it
-pub record IsTested (configuration : Configuration) (relations : List Relation) (parts : ℕ → Part) (records : List Ordered) (found : Option Refused) (breach : Option Breach) : Type 0 where
+-- the views of the records before the rejected one are tested by relations alone: the first of them that breaks a rule is this one, and the
+-- breach reports it
+pub record IsTestedAlone (configuration : Configuration) (relations : List Relation) (parts : ℕ → Part) (records : List Ordered) (found : Option Refused) (breach : Option Breach) : Type 0 where
   pub views : List View
   pub viewed : AreViews configuration parts (up_to found records) views
-  pub first : IsFirstBroken relations views (broken_of breach)
+  pub first : IsFirstAmong relations (map alone views) (broken_of breach)
   pub reported : IfSome breach (λ one. slice_get views one.seen.index ≡ Some one.seen.view)
 
--- all pieces judged records from this place on: their outcome, and the first view that breaks a rule; they may judge the records after
--- these
+-- among the views of the records before the rejected one, with the values of memories at them, the first that breaks a rule is this one, and
+-- the breach reports it; the memories have then kept the views before it
+pub record IsTested (configuration : Configuration) (requirements : Requirements) (parts : ℕ → Part) (records : List Ordered) (found : Option Refused) (breach : Option Breach) (kept : List (List Cell)) : Type 0 where
+  pub views : List View
+  pub viewed : AreViews configuration parts (up_to found records) views
+  pub first : IsFirstBroken requirements views (broken_of breach)
+  pub reported : IfSome breach (λ one. slice_get views one.seen.index ≡ Some one.seen.view)
+  pub remembered : kept ≡ kept_after requirements.memories requirements.kept (passed (broken_of breach) views)
+
+-- all pieces judged records from this place on: their outcome, and the first view that breaks a rule where there are no memories; they may
+-- judge the records after these
 pub record IsSurveyed (configuration : Configuration) (first : ℕ) (records : List Ordered) (relations : List Relation) (old : List Holding) (survey : Survey) : Type 0 where
   pub outcome : HaveRunOver configuration old records survey.found survey.pieces.items
-  pub tested : IsTested configuration relations (parts_in old) records survey.found survey.breach
+  pub tested : IsTestedAlone configuration relations (parts_in old) records survey.found survey.breach
   pub going : AreGoing configuration (first + length records) survey.pieces.items
 
 -- all pieces are there, and may judge the records after those that they have judged

@@ -1,6 +1,5 @@
 -- The verdict over one order of records.
 use Rattle.std.specs.Prelude.{◌≡◌, ◌↔◌, ◌<◌, ◌+◌, ℕ, suc, List, [], ◌∷◌, ◌++◌, Option, Some, None, length}
-use Rattle.std.specs.List.{All}
 use Rattle.apex_types.specs.declared.record.Ordered.{Ordered}
 use Rattle.apex_types.specs.declared.view.View.{View}
 use Rattle.apex_machine.specs.Configuration.{Configuration}
@@ -10,8 +9,11 @@ use Rattle.apex_machine.specs.State.{State, cold_state}
 use Rattle.apex_machine.specs.Step.{Run}
 use Rattle.apex_machine.specs.Views.{run_views}
 use Rattle.user_rules.specs.declared.broken.Broken.{Broken as BrokenView}
+use Rattle.user_rules.specs.declared.memory.Cell.{Cell}
+use Rattle.user_rules.specs.declared.memory.RuleMemory.{RuleMemory}
 use Rattle.user_rules.specs.declared.relation.Relation.{Relation}
-use Rattle.user_rules.specs.FirstBroken.{IsFirstBroken, MeetsAll}
+use Rattle.user_rules.specs.FirstBroken.{AllMeet, IsFirstBroken}
+use Rattle.user_rules.specs.Remembered.{Requirements, after, required_by}
 use Rattle.verdict_merge.specs.declared.finding.Refused.{Refused}
 use Rattle.verdict_merge.specs.declared.verdict.Verdict.{Verdict}
 use Rattle.verdict_merge.specs.declared.verdict.Verdict.TheVariants.{Yes, No, Broken}
@@ -23,16 +25,32 @@ use Rattle.verdict_merge.specs.Views.{AreViews}
 abbrev pub no_of : Refused → Verdict
 no_of found = No found.pos found.piece found.cause
 
--- each view of these records meets every relation; without relations this says nothing
-abbrev pub ViewsMeet : Configuration → List Relation → (ℕ → Part) → List Ordered → Type 0
-ViewsMeet configuration [] parts records = Unit {0}
-ViewsMeet configuration (relation ∷ relations) parts records =
-    (views : List View) × AreViews configuration parts records views × All (MeetsAll (relation ∷ relations)) views
+-- the views of these records, with the values of memories at them, meet every relation; without relations this says nothing
+abbrev pub MeetUnder : Configuration → List RuleMemory → List (List Cell) → List Relation → (ℕ → Part) → List Ordered → Type 0
+MeetUnder configuration memories kept [] parts records = Unit {0}
+MeetUnder configuration memories kept (relation ∷ relations) parts records =
+    (views : List View) × AreViews configuration parts records views
+    × AllMeet (record { memories = memories; kept = kept; relations = relation ∷ relations }) views
+
+abbrev pub ViewsMeet : Configuration → Requirements → (ℕ → Part) → List Ordered → Type 0
+ViewsMeet configuration requirements parts records = MeetUnder configuration requirements.memories requirements.kept requirements.relations parts records
+
+-- the same, and what is required of the records after these; without relations that is nothing again
+abbrev pub MeetAndLead : Configuration → List RuleMemory → List (List Cell) → List Relation → (ℕ → Part) → List Ordered → Requirements → Type 0
+MeetAndLead configuration memories kept [] parts records later = later.relations ≡ []
+MeetAndLead configuration memories kept (relation ∷ relations) parts records later =
+    (views : List View) × AreViews configuration parts records views
+    × AllMeet (record { memories = memories; kept = kept; relations = relation ∷ relations }) views
+    × (later ≡ after (record { memories = memories; kept = kept; relations = relation ∷ relations }) views)
+
+abbrev pub ViewsLead : Configuration → Requirements → (ℕ → Part) → List Ordered → Requirements → Type 0
+ViewsLead configuration requirements parts records later =
+    MeetAndLead configuration requirements.memories requirements.kept requirements.relations parts records later
 
 -- a broken rule among records, after the number of records that the pieces have judged: all pieces run through the record at that
 -- place, the views before it meet every relation, and its own view is the first that does not, by this rule; nothing is said of the
 -- records after it
-pub record IsBroken (configuration : Configuration) (relations : List Relation) (parts : ℕ → Part) (count : ℕ) (records : List Ordered) (pos rule : ℕ) : Type 0 where
+pub record IsBroken (configuration : Configuration) (requirements : Requirements) (parts : ℕ → Part) (count : ℕ) (records : List Ordered) (pos rule : ℕ) : Type 0 where
   pub through : List Ordered
   pub after : List Ordered
   pub split : records ≡ through ++ after
@@ -40,7 +58,7 @@ pub record IsBroken (configuration : Configuration) (relations : List Relation) 
   pub views : List View
   pub viewed : AreViews configuration parts through views
   pub broken : BrokenView
-  pub first : IsFirstBroken relations views (Some broken)
+  pub first : IsFirstBroken requirements views (Some broken)
   pub last : length through ≡ suc broken.view
   pub place : pos ≡ count + broken.view
   pub number : rule ≡ broken.rule
@@ -48,24 +66,24 @@ pub record IsBroken (configuration : Configuration) (relations : List Relation) 
 -- the verdict over records, after the number of records that the pieces have judged, from these parts: Yes with the number of all
 -- records, if each piece has a run over them and each view meets every relation; a No, if the views before its place meet every
 -- relation; or the first rule that is broken
-abbrev pub IsVerdictFrom : Configuration → List Relation → (ℕ → Part) → ℕ → List Ordered → Verdict → Type 0
-IsVerdictFrom configuration relations parts count records (Yes all) =
-    (all ≡ length records + count) × ((final : ℕ → Part) × AllRun configuration parts records final) × ViewsMeet configuration relations parts records
-IsVerdictFrom configuration relations parts count records (No pos piece cause) =
-    (is_shown : IsNo configuration parts records (record { pos = pos; piece = piece; cause = cause })) × ViewsMeet configuration relations parts is_shown.before
-IsVerdictFrom configuration relations parts count records (Broken pos rule) = IsBroken configuration relations parts count records pos rule
+abbrev pub IsVerdictFrom : Configuration → Requirements → (ℕ → Part) → ℕ → List Ordered → Verdict → Type 0
+IsVerdictFrom configuration requirements parts count records (Yes all) =
+    (all ≡ length records + count) × ((final : ℕ → Part) × AllRun configuration parts records final) × ViewsMeet configuration requirements parts records
+IsVerdictFrom configuration requirements parts count records (No pos piece cause) =
+    (is_shown : IsNo configuration parts records (record { pos = pos; piece = piece; cause = cause })) × ViewsMeet configuration requirements parts is_shown.before
+IsVerdictFrom configuration requirements parts count records (Broken pos rule) = IsBroken configuration requirements parts count records pos rule
 
 -- the verdict over one order of records, from the cold state on
-abbrev pub IsVerdict : Configuration → List Relation → List Ordered → Verdict → Type 0
-IsVerdict configuration relations records verdict = IsVerdictFrom configuration relations (cold_parts configuration) 0 records verdict
+abbrev pub IsVerdict : Configuration → Requirements → List Ordered → Verdict → Type 0
+IsVerdict configuration requirements records verdict = IsVerdictFrom configuration requirements (cold_parts configuration) 0 records verdict
 
 -- what a Yes means: the records are a run of the machine from the cold state, in which each view meets every relation
-abbrev pub IsRunWhereYes : Configuration → List Relation → List Ordered → Verdict → Type 0
-IsRunWhereYes configuration relations records (Yes count) =
+abbrev pub IsRunWhereYes : Configuration → Requirements → List Ordered → Verdict → Type 0
+IsRunWhereYes configuration requirements records (Yes count) =
     (final : State) × (run : Run configuration (cold_state configuration) records final)
-    × All (MeetsAll relations) (run_views configuration (cold_state configuration) records final run) × (count ≡ length records)
-IsRunWhereYes configuration relations records (No pos piece cause) = Unit {0}
-IsRunWhereYes configuration relations records (Broken pos rule) = Unit {0}
+    × AllMeet requirements (run_views configuration (cold_state configuration) records final run) × (count ≡ length records)
+IsRunWhereYes configuration requirements records (No pos piece cause) = Unit {0}
+IsRunWhereYes configuration requirements records (Broken pos rule) = Unit {0}
 
 -- what decides against a recording in a round whose first record is at this place: the rule that is broken, else the refusal
 abbrev pub against : ℕ → Option Refused → Option BrokenView → Option Verdict
@@ -100,12 +118,12 @@ Follows findings count (Broken pos rule) = ⊥
 -- an order of records has at most one verdict
 abbrev pub OneVerdict : Type 0
 OneVerdict =
-    (configuration : Configuration) (relations : List Relation) (records : List Ordered) (one other : Verdict) → ArePlaced 0 records
-    → IsVerdict configuration relations records one → IsVerdict configuration relations records other → one ≡ other
+    (configuration : Configuration) (requirements : Requirements) (records : List Ordered) (one other : Verdict) → ArePlaced 0 records
+    → IsVerdict configuration requirements records one → IsVerdict configuration requirements records other → one ≡ other
 
 -- without rules, the verdict is exactly what follows from what each piece finds in all the records
 abbrev pub VerdictIsOfTheFindings : Type 0
 VerdictIsOfTheFindings =
     (configuration : Configuration) (records : List Ordered) (findings : List Refused) (verdict : Verdict) → ArePlaced 0 records
     → AllFind configuration 0 (pieces configuration) records findings
-    → IsVerdict configuration [] records verdict ↔ Follows findings (length records) verdict
+    → IsVerdict configuration (required_by [] []) records verdict ↔ Follows findings (length records) verdict

@@ -11,6 +11,7 @@ use Rattle.piece_check.specs.Parts.{piece_at}
 use Rattle.user_rules.specs.declared.broken.Broken.{Broken}
 use Rattle.user_rules.specs.declared.relation.Relation.{Relation}
 use Rattle.user_rules.specs.FirstBroken.{IsFirstRuleBroken, MeetsAll}
+use Rattle.user_rules.specs.Meets.{alone}
 use Rattle.verdict_merge.specs.declared.breach.Breach.{Breach}
 use Rattle.verdict_merge.specs.declared.breach.Seen.{Seen}
 use Rattle.verdict_merge.specs.declared.finding.Refused.{Refused}
@@ -49,15 +50,15 @@ abbrev pub count_before : ℕ → List Ordered → Option Refused → ℕ
 count_before first records None = length records
 count_before first records (Some found) = found.pos - first
 
--- what breaks a rule
+-- what breaks a rule, where there are no memories
 
 -- the first of these views that breaks a rule, with the first rule that it breaks; none if each meets every rule
 abbrev pub IsFirstBreach : List Relation → List Seen → Option Breach → Type 0
-IsFirstBreach relations seen None = (one : Seen) → Contains seen one → MeetsAll relations one.view
+IsFirstBreach relations seen None = (one : Seen) → Contains seen one → MeetsAll relations (alone one.view)
 IsFirstBreach relations seen (Some breach) =
     Contains seen breach.seen
-    × ((one : Seen) → Contains seen one → one.index < breach.seen.index → MeetsAll relations one.view)
-    × IsFirstRuleBroken relations breach.seen.view breach.rule
+    × ((one : Seen) → Contains seen one → one.index < breach.seen.index → MeetsAll relations (alone one.view))
+    × IsFirstRuleBroken relations (alone breach.seen.view) breach.rule
 
 -- the breach so far, or else the next one
 abbrev pub first_some : Option Breach → Option Breach → Option Breach

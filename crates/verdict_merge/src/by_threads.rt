@@ -1,15 +1,17 @@
 // One piece judges the records of a round, and several threads test the views of those that it judges.
 
-ghost use Rattle.std.specs.Prelude.{◌≡◌, ◌<◌, [], IfOk, IfSome, IsTrue, List, OnErr, Option, length, suc};
+ghost use Rattle.std.specs.Prelude.{◌≡◌, ◌<◌, [], true, IfOk, IfSome, IsTrue, List, OnErr, Option, length, map, suc};
 ghost use Rattle.apex_machine.specs.Pieces.{pieces};
 ghost use Rattle.apex_machine.specs.Runs.{ArePlaced, AreOfCores};
 ghost use Rattle.apex_machine.specs.Views.{view_in};
 ghost use Rattle.piece_check.specs.Parts.{HoldsBefore, IsOf, holder};
+ghost use Rattle.user_rules.specs.FirstBroken.{IsFirstAmong};
+ghost use Rattle.user_rules.specs.Meets.{alone};
 ghost use Rattle.user_rules.specs.Rules.{relations_of};
 ghost use Rattle.user_rules.specs.declared.relation.Relation.{Relation};
 ghost use Rattle.verdict_merge.specs.declared.breach.Breach.{Breach};
 ghost use Rattle.verdict_merge.specs.Keeping.{AreRising, HasKept, HasRoom, KeepsRoom, seen_in, view_unless};
-ghost use Rattle.verdict_merge.specs.Rounds.{HasJudged, IsGoing, IsJudgedOver, MayGoOver, MayStep};
+ghost use Rattle.verdict_merge.specs.Rounds.{HasJudged, IsGoing, IsJudgedOver, IsPieceJudged, MayGoOver, MayStep};
 ghost use Rattle.verdict_merge.specs.Views.{IsFirstBreach};
 
 use crate::breach::{Breach, Seen};
@@ -22,7 +24,7 @@ use apex_types::{Ordered, View};
 use piece_check::{Piece, subject_of};
 use std::alloc::Global;
 use std::thread::Threads;
-use user_rules::{Rule, first_broken};
+use user_rules::{Broken, Rule, first_broken, first_broken_in_turn};
 
 // From how many rules on the views of a piece are kept and tested by several threads. With so many, the list of views costs little beside
 // their tests.
@@ -57,13 +59,70 @@ impl Kept {
         requires rising { AreRising (seen_in self.now.indices.items self.now.views.items) }
         ensures { IsFirstBreach (relations_of rules.now) (seen_in self.now.indices.items self.now.views.items) result }
     {
-        let broken = first_broken(rt, rules, &self.views)?;
+        self.breach_at(rules, first_broken(rt, rules, &self.views))
+    }
+
+    // The same on the caller's thread alone.
+    fn first_breach_in_turn(&self, rules: &[Rule]) -> Option<Breach>
+        requires rising { AreRising (seen_in self.now.indices.items self.now.views.items) }
+        ensures { IsFirstBreach (relations_of rules.now) (seen_in self.now.indices.items self.now.views.items) result }
+    {
+        self.breach_at(rules, first_broken_in_turn(rules, &self.views))
+    }
+
+    // The breach of the view that breaks a rule first.
+    fn breach_at(&self, rules: &[Rule], broken: Option<Broken>) -> Option<Breach>
+        requires rising { AreRising (seen_in self.now.indices.items self.now.views.items) }
+        requires first { IsFirstAmong (relations_of rules.now) (map alone self.now.views.items) broken }
+        ensures { IsFirstBreach (relations_of rules.now) (seen_in self.now.indices.items self.now.views.items) result }
+    {
+        let broken = broken?;
         let index = self.indices[broken.view];
         let view = self.views[broken.view];
         Some(Breach {
             seen: Seen { index, view },
             rule: broken.rule,
         })
+    }
+}
+
+/// What `judge_piece` does if the views are kept: they are tested by the rules once the piece has gone over the round.
+///
+/// Memory if memory was refused; the piece is then given up.
+pub(crate) fn judge_and_keep_all(
+    alloc: Global,
+    lent: &Lent,
+    rules: &[Rule],
+    number: usize,
+    mut piece: Piece,
+) -> Result<Judged, Memory>
+    requires piece { number < length (pieces lent.now.config.now) }
+    requires going { IsGoing lent.now.config.now number lent.now.first piece }
+    requires placed { ArePlaced lent.now.first lent.now.records.now }
+    requires cores { AreOfCores lent.now.config.now.cores lent.now.records.now }
+    ensures { IfOk result (IsPieceJudged lent.now.config.now number lent.now.first lent.now.records.now (relations_of rules.now) true piece) }
+{
+    let Some(mut kept) = Kept::with_room(alloc, lent.records.len()) else {
+        drop(piece);
+        return Err(Memory);
+    };
+    let seat = Seat {
+        lent: *lent,
+        number,
+    };
+    match go_over_untested(&seat, &mut piece, &mut kept) {
+        Ok(found) => {
+            let breach = kept.first_breach_in_turn(rules);
+            Ok(Judged {
+                piece,
+                outcome: PieceOutcome { found, breach },
+                kept: Some(kept),
+            })
+        }
+        Err(memory) => {
+            drop(piece);
+            Err(memory)
+        }
     }
 }
 
@@ -82,13 +141,13 @@ pub fn judge_piece_by_threads<R: Threads + Sync>(
     requires going { IsGoing lent.now.config.now number lent.now.first piece }
     requires placed { ArePlaced lent.now.first lent.now.records.now }
     requires cores { AreOfCores lent.now.config.now.cores lent.now.records.now }
-    ensures { IfOk result (λ one. IsJudgedOver lent.now.config.now number lent.now.first lent.now.records.now (relations_of rules.now) piece one.outcome one.piece) }
+    ensures { IfOk result (IsPieceJudged lent.now.config.now number lent.now.first lent.now.records.now (relations_of rules.now) lent.now.keeps piece) }
 {
-    if rules.len() < MANY_RULES {
-        return judge_piece(lent, rules, number, piece);
+    if lent.keeps || rules.len() < MANY_RULES {
+        return judge_piece(alloc, lent, rules, number, piece);
     }
     let Some(mut kept) = Kept::with_room(alloc, lent.records.len()) else {
-        return judge_piece(lent, rules, number, piece);
+        return judge_piece(alloc, lent, rules, number, piece);
     };
     let seat = Seat {
         lent: *lent,
@@ -100,6 +159,7 @@ pub fn judge_piece_by_threads<R: Threads + Sync>(
             Ok(Judged {
                 piece,
                 outcome: PieceOutcome { found, breach },
+                kept: None,
             })
         }
         Err(memory) => {
@@ -123,7 +183,8 @@ fn go_over_untested(
     requires room { HasRoom (length seat.now.lent.records.now) kept.old }
     ensures outcome { IfOk result (λ found. (relations : List Relation) (breach : Option Breach)
         → IsFirstBreach relations (seen_in kept.new.indices.items kept.new.views.items) breach
-        → IsJudgedOver seat.now.lent.config.now seat.now.number seat.now.lent.first seat.now.lent.records.now relations piece.old (record { found = found; breach = breach }) piece.new) }
+        → (over : IsJudgedOver seat.now.lent.config.now seat.now.number seat.now.lent.first seat.now.lent.records.now relations piece.old (record { found = found; breach = breach }) piece.new)
+        × (seen_in kept.new.indices.items kept.new.views.items ≡ over.seen)) }
     ensures rising { IfOk result (λ _. AreRising (seen_in kept.new.indices.items kept.new.views.items)) }
     ensures memory { OnErr result (IsTrue piece.new.exhausted) }
 {

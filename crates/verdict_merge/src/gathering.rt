@@ -47,7 +47,7 @@ impl Gathering {
 }
 
 // How many records, counted from this place on, come before the rejected one.
-fn records_before(first: u64, records: &[Ordered], found: &Option<Refused>) -> usize
+pub(crate) fn records_before(first: u64, records: &[Ordered], found: &Option<Refused>) -> usize
     requires { IfSome found.now (λ refused. (first ≤ refused.pos) × (refused.pos - first ≤ length records.now)) }
     ensures { result ≡ count_before first records.now found.now }
 {

@@ -49,7 +49,7 @@ impl<'a, J: Naming> Job<'a, J> {
     /// Lets the piece judge the records of the round, and tests its views by the rules, which must mean the same as those of the round.
     ///
     /// Memory if the piece was refused memory; it is then given up.
-    pub fn run(self, rules: &[Rule]) -> Result<Done<J>, Memory>
+    pub fn run(self, alloc: Global, rules: &[Rule]) -> Result<Done<J>, Memory>
         requires { relations_of rules.now ≡ J.round.relations }
         ensures worker { IfOk result (λ done. done.worker ≡ self.entry.worker) }
         ensures number { IfOk result (λ done. done.number ≡ self.entry.number) }
@@ -62,7 +62,7 @@ impl<'a, J: Naming> Job<'a, J> {
             lent,
             of: _,
         } = self;
-        match judge_piece(&lent, rules, number, piece) {
+        match judge_piece(alloc, &lent, rules, number, piece) {
             Ok(judged) => Ok(Done {
                 worker,
                 number,

@@ -6,8 +6,9 @@
 //! - A round in which no piece rejects a record is a run of each piece. Otherwise the least refusal is reported. Its piece runs up to
 //!   that record and rejects it, and is left as it was before the record. The lower-numbered pieces run through the record, and all
 //!   others run up to it.
-//! - Each view is tested where it is made, or by several threads if there are many rules. The round reports the first view that breaks a
-//!   rule, with the first rule that it breaks.
+//! - Without memories each view is tested where it is made, or by several threads if there are many rules. With memories the views of a
+//!   round are tested in the order of their records. The round reports the first view that breaks a rule, with the first rule that it
+//!   breaks.
 //! - A Yes means that the records are a run of the machine from the cold state, in which each view meets every rule. A No means that
 //!   the records before its place are such a run, after which the machine has no step for the record at the place. A broken rule
 //!   means that the records up to its place are a run, and that the view there is the first that breaks a rule.
@@ -26,6 +27,10 @@
 //! `judge_piece_by_threads` does what `judge_piece` does. If there are many rules, the piece keeps its views with the indices of their
 //! records (`Kept`), and several threads test them once the piece has gone over the round. If memory for the views is refused, they are
 //! tested where they are made.
+//!
+//! With memories, each piece keeps its views and tests none (`Lent::keeps`). They are put to the indices of their records, and one thread
+//! goes over those before the rejected record: it reads the values of the memories at a view, tests the rules, and lets the memories keep the
+//! view (`Remembering`). Between rounds only what the memories have kept stays.
 //!
 //! `Verdict::against` says what decides: the rule of the breach, else the refusal. `check_plain` judges all records as one round, one piece
 //! after another. A `Finding` is a refusal or a broken rule, and `merge` gives the first of a list of findings; the check keeps the least
@@ -79,11 +84,13 @@ mod laws;
 mod log;
 mod outcome;
 mod plain;
+mod remembering;
 mod round;
 mod round_fault;
 mod start;
 mod survey;
 mod verdict;
+mod views;
 mod workers;
 
 pub use board::Board;
@@ -96,10 +103,12 @@ pub use gathering::Gathering;
 pub use job::Job;
 pub use judge::Judge;
 pub use judged::{Judged, judge_in_turn, judge_piece};
+pub use kept::Kept;
 pub use laws::{one_verdict, verdict_is_of_the_findings, verdict_is_of_the_machine};
 pub use log::Event;
 pub use outcome::{Lent, PieceOutcome, go_over};
 pub use plain::check_plain;
+pub use remembering::{Remembering, has_any, tested_at_once};
 pub use round::{Naming, Round};
 pub use round_fault::{PostFault, PostRefusal, RoundFault};
 pub use start::start_pieces;

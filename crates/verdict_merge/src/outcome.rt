@@ -1,6 +1,6 @@
 // One piece judges the records of a round.
 
-ghost use Rattle.std.specs.Prelude.{◌≡◌, ◌<◌, All, IfOk, IfSome, OnErr, IsTrue, length};
+ghost use Rattle.std.specs.Prelude.{◌≡◌, ◌<◌, All, false, IfOk, IfSome, OnErr, IsTrue, length};
 ghost use Rattle.apex_machine.specs.Pieces.{pieces};
 ghost use Rattle.apex_machine.specs.Runs.{ArePlaced, AreOfCores};
 ghost use Rattle.apex_machine.specs.Views.{view_in};
@@ -31,6 +31,8 @@ pub struct Lent<'a> {
     pub touched: &'a Touched,
     /// Windows that were looked up, those of a record under its index. A piece looks up what is not there.
     pub windows: &'a [WindowAt],
+    /// Whether each piece keeps the views of the records that it judges, for a test in the order of all records.
+    pub keeps: bool,
     pub ghost sorted: { AreSortedOut config.now records.now (indices_of touched.now) },
     pub ghost found: { All (IsWindowAt config.now) windows.now },
 }
@@ -47,6 +49,7 @@ impl<'a> Lent<'a> {
         ensures config { result.config.now ≡ config.now }
         ensures first { result.first ≡ first }
         ensures records { result.records.now ≡ records.now }
+        ensures keeps { result.keeps ≡ false }
     {
         Lent::with_windows(config, first, records, touched, &[])
     }
@@ -64,6 +67,7 @@ impl<'a> Lent<'a> {
         ensures config { result.config.now ≡ config.now }
         ensures first { result.first ≡ first }
         ensures records { result.records.now ≡ records.now }
+        ensures keeps { result.keeps ≡ false }
     {
         Lent {
             config,
@@ -71,6 +75,32 @@ impl<'a> Lent<'a> {
             records,
             touched,
             windows,
+            keeps: false,
+        }
+    }
+
+    /// What is lent, to pieces that keep their views or that do not.
+    pub fn keeping(self, keeps: bool) -> Lent<'a>
+        ensures config { result.config.now ≡ self.entry.config.now }
+        ensures first { result.first ≡ self.entry.first }
+        ensures records { result.records.now ≡ self.entry.records.now }
+        ensures keeps { result.keeps ≡ keeps }
+    {
+        let Lent {
+            config,
+            first,
+            records,
+            touched,
+            windows,
+            keeps: _,
+        } = self;
+        Lent {
+            config,
+            first,
+            records,
+            touched,
+            windows,
+            keeps,
         }
     }
 }
@@ -236,7 +266,7 @@ fn breach_of(rules: &[Rule], piece: &Piece, index: usize, ordered: &Ordered) -> 
     ensures { IsFirstBreach (relations_of rules.now) (seen_of (view_in piece.now.part ordered.now) index) result }
 {
     let view = piece.view(ordered)?;
-    let rule = first_rule_broken(rules, &view)?;
+    let rule = first_rule_broken(rules, &view, &[])?;
     Some(Breach {
         seen: Seen { index, view },
         rule,

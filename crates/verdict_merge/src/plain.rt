@@ -1,8 +1,8 @@
 // The verdict over one order of records, on one thread.
 
-ghost use Rattle.std.specs.Prelude.{IfOk};
+ghost use Rattle.std.specs.Prelude.{[], IfOk};
 ghost use Rattle.apex_machine.specs.Runs.{ArePlaced, AreOfCores};
-ghost use Rattle.user_rules.specs.Rules.{relations_of};
+ghost use Rattle.user_rules.specs.Rules.{required_of};
 ghost use Rattle.verdict_merge.specs.Refusals.{IsRunUpToNo};
 ghost use Rattle.verdict_merge.specs.Verdicts.{IsRunWhereYes, IsVerdict};
 
@@ -20,7 +20,7 @@ use user_rules::Rule;
 
 /// The verdict over the records in this order, which are at the places 0, 1, 2, .. and of configured cores. It is Yes if each piece
 /// makes its local steps over all of them and each view meets every rule. Otherwise it reports what comes first: the least refusal of
-/// the pieces, or a view before it that breaks a rule.
+/// the pieces, or a view before it that breaks a rule. There are no memories.
 ///
 /// For the machine, from its cold state, a No means that the records before the place are a run in which each view meets every rule,
 /// and that there is no step for the record at the place. A broken rule means that the records up to the place are a run, and that the
@@ -35,9 +35,9 @@ pub fn check_plain(
 ) -> Result<Verdict, Memory>
     requires placed { ArePlaced 0 records.now }
     requires cores { AreOfCores config.now.cores records.now }
-    ensures verdict { IfOk result (IsVerdict config.now (relations_of rules.now) records.now) }
-    ensures run { IfOk result (IsRunWhereYes config.now (relations_of rules.now) records.now) }
-    ensures no { IfOk result (IsRunUpToNo config.now (relations_of rules.now) records.now) }
+    ensures verdict { IfOk result (IsVerdict config.now (required_of [] rules.now) records.now) }
+    ensures run { IfOk result (IsRunWhereYes config.now (required_of [] rules.now) records.now) }
+    ensures no { IfOk result (IsRunUpToNo config.now (required_of [] rules.now) records.now) }
 {
     config.keeps_limits();
     let pieces = start_pieces(alloc, config)?;

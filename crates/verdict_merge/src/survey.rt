@@ -30,10 +30,10 @@ pub struct Survey {
 ///
 /// Memory if memory was refused.
 pub fn gather_round(alloc: Global, lent: &Lent, judged: Vec<Judged>) -> Result<Survey, Memory>
-    requires outcome { (relations : List Relation) × (old : List Holding) × AreGoing lent.now.config.now lent.now.first old × AreJudgedOver lent.now.config.now lent.now.first lent.now.records.now relations old judged.items }
+    requires outcome { (relations : List Relation) × (old : List Holding) × AreGoing lent.now.config.now lent.now.first old × AreJudgedOver lent.now.config.now lent.now.first lent.now.records.now relations lent.now.keeps old judged.items }
     requires placed { ArePlaced lent.now.first lent.now.records.now }
     requires cores { AreOfCores lent.now.config.now.cores lent.now.records.now }
-    ensures { (relations : List Relation) (old : List Holding) → AreGoing lent.now.config.now lent.now.first old → AreJudgedOver lent.now.config.now lent.now.first lent.now.records.now relations old judged.items → IfOk result (IsSurveyed lent.now.config.now lent.now.first lent.now.records.now relations old) }
+    ensures { (relations : List Relation) (old : List Holding) → AreGoing lent.now.config.now lent.now.first old → AreJudgedOver lent.now.config.now lent.now.first lent.now.records.now relations lent.now.keeps old judged.items → IfOk result (IsSurveyed lent.now.config.now lent.now.first lent.now.records.now relations old) }
 {
     let mut gathering = Gathering::new();
     'pieces: for number in 0..judged.len() {
@@ -59,7 +59,12 @@ fn pieces_left(alloc: Global, judged: Vec<Judged>) -> Result<Vec<Piece>, Memory>
         return Err(Memory);
     };
     'judged: for one in judged {
-        let Judged { piece, outcome: _ } = one;
+        let Judged {
+            piece,
+            outcome: _,
+            kept,
+        } = one;
+        drop(kept);
         left.push_reserved(piece);
     }
     Ok(left)

@@ -59,7 +59,7 @@ pub fn run_round<G: Gate + Sync, R: Threads + Wait + Sync>(
     requires going { AreGoing lent.now.config.now lent.now.first pieces.items }
     requires placed { ArePlaced lent.now.first lent.now.records.now }
     requires cores { AreOfCores lent.now.config.now.cores lent.now.records.now }
-    ensures judged { IfOk result (λ judged. AreJudgedOver lent.now.config.now lent.now.first lent.now.records.now (relations_of rules.now) pieces.items judged.items) }
+    ensures judged { IfOk result (λ judged. AreJudgedOver lent.now.config.now lent.now.first lent.now.records.now (relations_of rules.now) lent.now.keeps pieces.items judged.items) }
     ensures no_workers { result ≡ Err RoundFault.NoWorkers ↔ workers ≡ 0 }
 {
     if workers == 0 {
@@ -128,7 +128,7 @@ fn work<J: Naming, G: Gate, R: Threads + Wait + Sync>(
         let judged = if workers > 1 {
             job.run_by_threads(rt, alloc, rules)
         } else {
-            job.run(rules)
+            job.run(alloc, rules)
         };
         let done = match judged {
             Ok(done) => done,

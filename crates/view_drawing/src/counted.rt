@@ -3,12 +3,13 @@
 ghost use Rattle.std.specs.Prelude.{◌≡◌, ◌⊎◌, false, length};
 ghost use Rattle.order_cert.specs.Kept.{place_of};
 ghost use Rattle.placement.specs.Lanes.{AreHonest};
-ghost use Rattle.user_rules.specs.Rules.{relations_of};
+ghost use Rattle.user_rules.specs.Rules.{required_of};
 ghost use Rattle.program_ends.specs.declared.ending.Ending.TheVariants.{Own};
 ghost use Rattle.program_ends.specs.Endings.{out_of_memory};
 ghost use Rattle.shown_run.specs.declared.ending.ViewEnd.TheVariants.{Checked, Unwritten};
 ghost use Rattle.shown_run.specs.Endings.{refusing};
 ghost use Rattle.shown_run.specs.Shown.{IsShown};
+ghost use Rattle.view_drawing.specs.Followed.{outcome_of};
 
 use crate::traced::is_past;
 use crate::viewing::{Format, ViewAsked};
@@ -26,7 +27,7 @@ use shown_run::{FollowFault, Follower, Shown, ViewEnd, follow};
 use sink::Sink;
 use std::alloc::{AllocError, Global};
 use std::sync::Wait;
-use user_rules::Rule;
+use user_rules::{Rule, RuleMemory};
 
 /// Shows the figures of a run, up to the record before the one that is rejected, or to the last place that may be counted. If the input has a
 /// fault, the figures are those of the records before it.
@@ -35,6 +36,7 @@ pub fn show_numbers<R: Wait, S: TextSource, C: TextSource, W: Sink>(
     alloc: Global,
     asked: ViewAsked,
     shown: &Shown<'_>,
+    memories: &[RuleMemory],
     rules: &[Rule],
     placer: &mut Placer<S, C>,
     explainer: &mut Explainer,
@@ -43,24 +45,55 @@ pub fn show_numbers<R: Wait, S: TextSource, C: TextSource, W: Sink>(
     requires going { placer.old.ended ≡ false }
     requires first { place_of placer.old.kept ≡ 0 }
     requires cores { length placer.old.lanes ≡ shown.now.config.now.cores }
-    ensures { AreHonest S.can_fail placer.new.lanes → IsShown (record { recordings = S.can_fail; certificate = C.can_fail }) shown.now.config.now (relations_of rules.now) placer.old result }
+    ensures { AreHonest S.can_fail placer.new.lanes → IsShown (record { recordings = S.can_fail; certificate = C.can_fail }) shown.now.config.now (required_of memories.now rules.now) placer.old result }
 {
-    let config = shown.config;
     let mut counting = Counting {
-        config,
+        config: shown.config,
         last: asked.at,
         numbers: Numbers::new(alloc),
     };
-    let format = asked.format;
-    match follow(rt, alloc, config, rules, placer, explainer, &mut counting) {
+    let followed = follow(
+        rt,
+        alloc,
+        shown.config,
+        memories,
+        rules,
+        placer,
+        explainer,
+        &mut counting,
+    );
+    end_numbers(
+        alloc,
+        asked.format,
+        shown,
+        &counting.numbers,
+        followed,
+        explainer,
+        output,
+    )
+}
+
+// Writes the figures of a run that was followed so far, and ends as it does.
+fn end_numbers<W: Sink>(
+    alloc: Global,
+    format: Format,
+    shown: &Shown<'_>,
+    numbers: &Numbers,
+    followed: Result<Verdict, FollowFault<AllocError>>,
+    explainer: &mut Explainer,
+    output: &mut W,
+) -> Ending<ViewEnd>
+    ensures { (result ≡ Own Unwritten) ⊎ (result ≡ out_of_memory refusing) ⊎ (result ≡ Own (Checked (outcome_of followed))) }
+{
+    match followed {
         Ok(verdict) => {
             let outcome = Ok(verdict);
-            note_broken(explainer, alloc, shown.options, shown.rules, &outcome);
-            write_figures(alloc, format, config, &counting.numbers, outcome, output)
+            note_broken(explainer, alloc, shown.options, shown.file, &outcome);
+            write_figures(alloc, format, shown.config, numbers, outcome, output)
         }
         Err(FollowFault::Refused(CheckFault::Memory)) => out_of_memory(),
         Err(FollowFault::Refused(fault)) => {
-            write_figures(alloc, format, config, &counting.numbers, Err(fault), output)
+            write_figures(alloc, format, shown.config, numbers, Err(fault), output)
         }
         Err(FollowFault::Stopped(_)) => out_of_memory(),
     }

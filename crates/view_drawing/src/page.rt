@@ -4,11 +4,11 @@ ghost use Rattle.std.specs.Prelude.{◌≡◌, ◌⊎◌, ◌<◌, ◌+◌, ◌�
 ghost use Rattle.order_cert.specs.Kept.{place_of};
 ghost use Rattle.apex_types.specs.declared.record.Ordered.{Ordered};
 ghost use Rattle.placement.specs.Lanes.{AreHonest};
-ghost use Rattle.user_rules.specs.Rules.{relations_of};
+ghost use Rattle.user_rules.specs.Rules.{required_of};
 ghost use Rattle.verdict_merge.specs.Rounds.{AllRun, AreGoing, parts_in};
 ghost use Rattle.shown_run.specs.Kept.{IsKept};
 ghost use Rattle.shown_run.specs.Walks.{EachRuns};
-ghost use Rattle.shown_run.specs.Stretches.{IsWhole};
+ghost use Rattle.shown_run.specs.Stretches.{IsWhole, answer_of};
 ghost use Rattle.program_ends.specs.declared.ending.Ending.TheVariants.{Own};
 ghost use Rattle.program_ends.specs.Endings.{out_of_memory};
 ghost use Rattle.shown_run.specs.declared.ending.ViewEnd.TheVariants.{Checked, Unwritten};
@@ -30,13 +30,13 @@ use report::{CheckFault, Verdict};
 use run_numbers::Numbers;
 use run_view::{Change, Followed, LastSeen, Lawful, MessageLinks, Received, Sent};
 use sarif_report::name_of_cause;
-use shown_run::{Asked, Shown, Stretch, ViewEnd, Walk, gather};
+use shown_run::{Asked, Rejected, Shown, Stretch, ViewEnd, Walk, gather};
 use sink::Sink;
 use std::alloc::{AllocError, Global};
 use std::collections::VecDeque;
 use std::fs::{File, Files};
 use std::sync::Wait;
-use user_rules::Rule;
+use user_rules::{Rule, RuleMemory};
 use view_page::{PageFault, PageTexts, Scale, Strip, strips_of, write_html, write_svg};
 use view_picture::{Added, Picture, Status};
 use view_trace::Axis;
@@ -48,6 +48,7 @@ pub fn show_picture<R, S: TextSource, C: TextSource, W: Sink>(
     alloc: Global,
     asked: ViewAsked,
     shown: &Shown<'_>,
+    memories: &[RuleMemory],
     rules: &[Rule],
     placer: &mut Placer<S, C>,
     explainer: &mut Explainer,
@@ -58,7 +59,7 @@ where
     requires going { placer.old.ended ≡ false }
     requires first { place_of placer.old.kept ≡ 0 }
     requires cores { length placer.old.lanes ≡ shown.now.config.now.cores }
-    ensures shown { AreHonest S.can_fail placer.new.lanes → IsShown (record { recordings = S.can_fail; certificate = C.can_fail }) shown.now.config.now (relations_of rules.now) placer.old result }
+    ensures shown { AreHonest S.can_fail placer.new.lanes → IsShown (record { recordings = S.can_fail; certificate = C.can_fail }) shown.now.config.now (required_of memories.now rules.now) placer.old result }
     ensures failed { result ≡ Own Unwritten → W.failures output.old < W.failures output.new }
 {
     let stretch = Asked {
@@ -70,12 +71,33 @@ where
         rt,
         alloc,
         shown.config,
+        memories,
         rules,
         stretch,
         placer,
         &mut witness,
     );
     let lawful = witness.into_lawful();
+    end_picture(rt, alloc, asked, shown, gathered, lawful, explainer, output)
+}
+
+// Shows what was gathered of a run, and ends as it does.
+fn end_picture<R, W: Sink>(
+    rt: &R,
+    alloc: Global,
+    asked: ViewAsked,
+    shown: &Shown<'_>,
+    gathered: Result<(Verdict, Stretch), CheckFault>,
+    lawful: Result<Vec<Lawful>, AllocError>,
+    explainer: &mut Explainer,
+    output: &mut W,
+) -> Ending<ViewEnd>
+where
+    R: Files<File = File>,
+    requires { IfOk gathered (λ found. IsWhole shown.now.config.now found.1) }
+    ensures end { (result ≡ Own Unwritten) ⊎ (result ≡ out_of_memory refusing) ⊎ (result ≡ Own (Checked (answer_of gathered))) }
+    ensures failed { result ≡ Own Unwritten → W.failures output.old < W.failures output.new }
+{
     match gathered {
         Ok((verdict, stretch)) => match lawful {
             Ok(lawful) => {
@@ -117,7 +139,7 @@ where
     ensures failed { result ≡ Own Unwritten → W.failures output.old < W.failures output.new }
 {
     let outcome = Ok(gathered.verdict);
-    note_broken(explainer, alloc, shown.options, shown.rules, &outcome);
+    note_broken(explainer, alloc, shown.options, shown.file, &outcome);
     match write_picture(rt, alloc, asked, shown, gathered, explainer, output) {
         Ok(()) => Ending::Own(ViewEnd::Checked(outcome)),
         Err(PageFault::Memory) => out_of_memory(),
@@ -140,29 +162,37 @@ where
     requires { IsWhole shown.now.config.now gathered.stretch }
     ensures failed { result ≡ Err PageFault.Unwritten → W.failures output.old < W.failures output.new }
 {
-    let heading = heading_of(alloc, asked.at, &gathered.verdict, &gathered.stretch)?;
-    let outcome = Ok(gathered.verdict);
-    let names = shown.names;
-    let files = RunFiles { rt, alloc, names };
-    let explanation = explanation_of(alloc, &files, &outcome, explainer)?;
-    let ending = Ending::Own(ViewEnd::Checked(outcome));
-    let line = Line::of(&ending);
-    let Drawn { picture, numbers } = drawn_of(rt, alloc, shown, gathered)?;
-    let figures = figures_of(alloc, shown.config, &numbers)?;
+    let words = words_of(rt, alloc, asked.at, shown, &gathered, explainer)?;
+    let mut drawn = drawn_of(rt, alloc, shown, gathered)?;
+    drawn
+        .picture
+        .mark_named(explainer.explanation().words().places())?;
+    write_drawn(alloc, asked, &words, &drawn, output)
+}
+
+// Writes what was drawn of a run, with these words.
+fn write_drawn<W: Sink>(
+    alloc: Global,
+    asked: ViewAsked,
+    words: &PageWords,
+    drawn: &Drawn,
+    output: &mut W,
+) -> Result<(), PageFault>
+    ensures failed { result ≡ Err PageFault.Unwritten → W.failures output.old < W.failures output.new }
+{
     let scale = scale_of(asked.axis);
-    let strips = strips_of(&picture, scale)?;
-    let files = files_in_words(alloc, names)?;
+    let strips = strips_of(&drawn.picture, scale)?;
     let texts = PageTexts {
-        heading: heading.as_str(),
-        line: line.text(),
-        explanation: explanation.as_str(),
-        files: files.as_str(),
-        figures: figures.as_str(),
+        heading: words.heading.as_str(),
+        line: words.line.text(),
+        explanation: words.explanation.as_str(),
+        files: words.files.as_str(),
+        figures: drawn.figures.as_str(),
     };
     write_in(
         alloc,
         asked.format,
-        &picture,
+        &drawn.picture,
         scale,
         strips.as_slice(),
         &texts,
@@ -196,6 +226,38 @@ fn scale_of(axis: Axis) -> Scale {
         Axis::Place => Scale::Places,
         Axis::Time => Scale::Ticks,
     }
+}
+
+// What a page says beside its picture.
+#[derive(Drop)]
+struct PageWords {
+    heading: String,
+    line: Line,
+    explanation: String,
+    files: String,
+}
+
+// What the page of what was gathered of a run says.
+fn words_of<R: Files<File = File>>(
+    rt: &R,
+    alloc: Global,
+    at: Option<u64>,
+    shown: &Shown<'_>,
+    gathered: &Gathered,
+    explainer: &Explainer,
+) -> Result<PageWords, AllocError> {
+    let outcome = Ok(gathered.verdict);
+    let names = shown.names;
+    let run_files = RunFiles { rt, alloc, names };
+    let explanation = explanation_of(alloc, &run_files, &outcome, explainer)?;
+    let heading = heading_of(alloc, at, &gathered.verdict, &gathered.stretch)?;
+    let files = files_in_words(alloc, names)?;
+    Ok(PageWords {
+        heading,
+        line: Line::of(&Ending::Own(ViewEnd::Checked(outcome))),
+        explanation,
+        files,
+    })
 }
 
 // What the picture shows, in one sentence.
@@ -264,14 +326,14 @@ fn figures_of(alloc: Global, config: &Config, numbers: &Numbers) -> Result<Strin
     text_of(alloc, config.cores(), numbers)
 }
 
-// A picture, and the figures of the records in it that were accepted.
+// A picture, and the figures of the records in it that were accepted, in words.
 #[derive(Drop)]
 struct Drawn {
     picture: Picture,
-    numbers: Numbers,
+    figures: String,
 }
 
-// The picture of a stretch, and its figures.
+// The picture of what was gathered of a run, and its figures.
 fn drawn_of<R: Files<File = File>>(
     rt: &R,
     alloc: Global,
@@ -280,12 +342,24 @@ fn drawn_of<R: Files<File = File>>(
 ) -> Result<Drawn, AllocError>
     requires { IsWhole shown.now.config.now gathered.stretch }
 {
+    let rows = rows_of(rt, alloc, shown, &gathered.stretch)?;
+    drawn_with(alloc, shown.config, &rows, gathered)
+}
+
+// The picture of what was gathered of a run whose rows are these, and its figures.
+fn drawn_with(
+    alloc: Global,
+    config: &Config,
+    rows: &ShownRows<'_>,
+    gathered: Gathered,
+) -> Result<Drawn, AllocError>
+    requires { IsWhole config.now gathered.stretch }
+{
     let Gathered {
         verdict: _,
         stretch,
         lawful,
     } = gathered;
-    let rows = rows_of(rt, alloc, shown, &stretch)?;
     let Stretch {
         before,
         kept,
@@ -293,37 +367,37 @@ fn drawn_of<R: Files<File = File>>(
         is_broken,
         after,
     } = stretch;
-    let mut drawing = Drawing::begin(alloc, shown.config, before)?;
-    drawing.accept_all(&rows, kept, is_broken)?;
-    let Drawn {
-        mut picture,
-        numbers,
-    } = drawing.end();
-    let is_judged = rejected.is_none() && !is_broken;
-    if let Some(rejected) = rejected {
-        let added = added(&rows, &rejected.ordered, Status::Rejected);
-        picture.reject(&added, name_of_cause(rejected.cause), lawful.as_slice())?;
-    }
-    follow_all(&mut picture, &rows, after.as_slice(), is_judged)?;
-    Ok(Drawn { picture, numbers })
+    let rest = Rest {
+        rejected,
+        lawful,
+        is_broken,
+        after,
+    };
+    let mut drawing = Drawing::begin(alloc, config, before)?;
+    drawing.accept_all(rows, kept, is_broken)?;
+    drawing.follow_all(rows, &rest)?;
+    drawing.end(alloc)
 }
 
-// Adds the records after those that were judged, or after the one that decided.
-fn follow_all<'a>(
-    picture: &mut Picture,
-    rows: &'a ShownRows<'a>,
-    after: &'a [Ordered],
-    is_judged: bool,
-) -> Result<(), AllocError> {
-    let status = if is_judged {
-        Status::Beyond
-    } else {
-        Status::After
-    };
-    for ordered in after {
-        picture.follow(&added(rows, ordered, status))?;
+// What a picture shows after the records that were accepted: the record that was rejected with what would have been lawful there, and the
+// records after it.
+#[derive(Drop)]
+struct Rest {
+    rejected: Option<Rejected>,
+    lawful: Vec<Lawful>,
+    is_broken: bool,
+    after: Vec<Ordered>,
+}
+
+impl Rest {
+    // How the records after those that were accepted, or after the one that decided, were judged.
+    fn status(&self) -> Status {
+        if self.rejected.is_none() && !self.is_broken {
+            Status::Beyond
+        } else {
+            Status::After
+        }
     }
-    Ok(())
 }
 
 // The rows of the records of a stretch.
@@ -364,35 +438,55 @@ impl<'a> Drawing<'a> {
         ensures config { IfOk result (λ drawing. drawing.config.now ≡ config.now) }
         ensures walk { IfOk result (λ drawing. drawing.walk ≡ walk) }
     {
-        let mut seen = LastSeen::new(alloc);
-        let mut changes = Vec::new(alloc);
-        let mut picture = Picture::new(alloc, config.frame());
-        let pieces = walk.pieces();
-        seen.look(config, pieces, None, &mut changes)?;
-        picture.begin(pieces, changes.as_slice())?;
-        Ok(Drawing {
+        let mut drawing = Drawing {
             config,
             walk,
-            seen,
+            seen: LastSeen::new(alloc),
             links: MessageLinks::new(alloc),
-            changes,
-            picture,
+            changes: Vec::new(alloc),
+            picture: Picture::new(alloc, config.frame()),
             numbers: Numbers::new(alloc),
-        })
+        };
+        drawing.show_first()?;
+        Ok(drawing)
     }
 
-    // The picture and the figures of the records so far.
-    fn end(self) -> Drawn {
-        let Drawing {
-            config: _,
-            walk: _,
-            seen: _,
-            links: _,
-            changes: _,
-            picture,
-            numbers,
-        } = self;
-        Drawn { picture, numbers }
+    // Shows the pieces before the first record.
+    fn show_first(&mut self) -> Result<(), AllocError>
+        ensures config { self.new.config ≡ self.old.config }
+        ensures walk { self.new.walk ≡ self.old.walk }
+    {
+        let pieces = self.walk.pieces();
+        self.seen
+            .look(self.config, pieces, None, &mut self.changes)?;
+        self.picture.begin(pieces, self.changes.as_slice())?;
+        Ok(())
+    }
+
+    // Adds what comes after the records that were accepted.
+    fn follow_all<'b>(
+        &mut self,
+        rows: &'b ShownRows<'b>,
+        rest: &'b Rest,
+    ) -> Result<(), AllocError> {
+        if let Some(rejected) = &rest.rejected {
+            let added = added(rows, &rejected.ordered, Status::Rejected);
+            let cause = name_of_cause(rejected.cause);
+            self.picture.reject(&added, cause, rest.lawful.as_slice())?;
+        }
+        for ordered in rest.after.iter() {
+            self.picture.follow(&added(rows, ordered, rest.status()))?;
+        }
+        Ok(())
+    }
+
+    // The picture, and the figures of the records that were accepted.
+    fn end(self, alloc: Global) -> Result<Drawn, AllocError> {
+        let figures = figures_of(alloc, self.config, &self.numbers)?;
+        Ok(Drawn {
+            picture: self.picture,
+            figures,
+        })
     }
 
     // Adds records that follow one another and were accepted. The last of them may break a rule.

@@ -4,10 +4,9 @@ use answer_words::Explainer;
 use apex_types::{Cause, Ordered, View};
 use module_config::Config;
 use piece_check::Piece;
-use report::Witness;
+use report::{Asked, Witness};
 use run_view::{Lawful, lawful_of};
 use std::alloc::{AllocError, Global};
-use user_rules::Rule;
 
 /// The witness of a picture: it lets the explainer explain what decides a run, and keeps what would have been lawful there.
 #[derive(Drop)]
@@ -50,11 +49,11 @@ impl Witness for PictureWitness<'_> {
     fn broken(
         &mut self,
         _config: &Config,
-        _rules: &[Rule],
+        asked: &Asked<'_>,
         ordered: &Ordered,
         view: &View,
         _rule: usize,
     ) {
-        self.explainer.explain_broken(ordered, view);
+        self.explainer.explain_broken(asked, ordered, view);
     }
 }

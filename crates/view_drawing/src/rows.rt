@@ -39,21 +39,7 @@ impl<'a> ShownRows<'a> {
         let files = RunFiles { rt, alloc, names };
         let mut cores = Vec::new(alloc);
         for (core, name) in names.cores.iter().enumerate() {
-            let numbers = numbers_of(alloc, core, records)?;
-            let mut rows = Vec::new(alloc);
-            for found in files.rows_of(name.as_str(), numbers.as_slice())?.iter() {
-                rows.push(ShownRow {
-                    line: found.line,
-                    text: text_of(alloc, &found.fields)?,
-                })?;
-            }
-            cores.push(CoreRows {
-                first: match numbers.first() {
-                    Some(first) => *first,
-                    None => 0,
-                },
-                rows,
-            })?;
+            cores.push(core_rows(&files, core, name.as_str(), records)?)?;
         }
         Ok(ShownRows { names, cores })
     }
@@ -84,6 +70,29 @@ impl<'a> ShownRows<'a> {
             },
         }
     }
+}
+
+// The rows of those of these records that are of this core, as far as they are found in its file.
+fn core_rows<R: Files<File = F>, F: Read + Drop>(
+    files: &RunFiles<'_, R>,
+    core: usize,
+    name: &str,
+    records: &[&Ordered],
+) -> Result<CoreRows, AllocError> {
+    let numbers = numbers_of(files.alloc, core, records)?;
+    let first = match numbers.first() {
+        Some(first) => *first,
+        None => 0,
+    };
+    let found = files.rows_of(name, numbers.as_slice())?;
+    let mut rows = Vec::new(files.alloc);
+    for row in found.iter() {
+        rows.push(ShownRow {
+            line: row.line,
+            text: text_of(files.alloc, &row.fields)?,
+        })?;
+    }
+    Ok(CoreRows { first, rows })
 }
 
 // The fields of a row, with commas between them.

@@ -3,12 +3,13 @@
 ghost use Rattle.std.specs.Prelude.{◌≡◌, ◌⊎◌, false, length};
 ghost use Rattle.order_cert.specs.Kept.{place_of};
 ghost use Rattle.placement.specs.Lanes.{AreHonest};
-ghost use Rattle.user_rules.specs.Rules.{relations_of};
+ghost use Rattle.user_rules.specs.Rules.{required_of};
 ghost use Rattle.program_ends.specs.declared.ending.Ending.TheVariants.{Own};
 ghost use Rattle.program_ends.specs.Endings.{out_of_memory};
 ghost use Rattle.shown_run.specs.declared.ending.ViewEnd.TheVariants.{Checked, Unwritten};
 ghost use Rattle.shown_run.specs.Endings.{refusing};
 ghost use Rattle.shown_run.specs.Shown.{IsShown};
+ghost use Rattle.view_drawing.specs.Followed.{outcome_of};
 
 use crate::page::explanation_of;
 use crate::viewing::ViewAsked;
@@ -27,7 +28,7 @@ use sink::Sink;
 use std::alloc::Global;
 use std::fs::{File, Files};
 use std::sync::Wait;
-use user_rules::Rule;
+use user_rules::{Rule, RuleMemory};
 use view_trace::{TraceFault, Tracer};
 
 /// Shows a run as a trace, up to the record that decides, or to the last place that may be shown. If the input has a fault, the trace of the records
@@ -37,6 +38,7 @@ pub fn show_trace<R, S: TextSource, C: TextSource, W: Sink>(
     alloc: Global,
     asked: ViewAsked,
     shown: &Shown<'_>,
+    memories: &[RuleMemory],
     rules: &[Rule],
     placer: &mut Placer<S, C>,
     explainer: &mut Explainer,
@@ -47,15 +49,39 @@ where
     requires going { placer.old.ended ≡ false }
     requires first { place_of placer.old.kept ≡ 0 }
     requires cores { length placer.old.lanes ≡ shown.now.config.now.cores }
-    ensures { AreHonest S.can_fail placer.new.lanes → IsShown (record { recordings = S.can_fail; certificate = C.can_fail }) shown.now.config.now (relations_of rules.now) placer.old result }
+    ensures { AreHonest S.can_fail placer.new.lanes → IsShown (record { recordings = S.can_fail; certificate = C.can_fail }) shown.now.config.now (required_of memories.now rules.now) placer.old result }
 {
     let config = shown.config;
     let tracer = Tracer::new(alloc, asked.axis, output);
     let mut tracing = Tracing::new(alloc, config, asked.at, tracer);
-    match follow(rt, alloc, config, rules, placer, explainer, &mut tracing) {
+    let followed = follow(
+        rt,
+        alloc,
+        config,
+        memories,
+        rules,
+        placer,
+        explainer,
+        &mut tracing,
+    );
+    end_followed(rt, alloc, shown, &mut tracing, followed, explainer)
+}
+
+// Ends the trace of a run that was followed, and ends as it does.
+fn end_followed<R: Files<File = File>, W: Sink>(
+    rt: &R,
+    alloc: Global,
+    shown: &Shown<'_>,
+    tracing: &mut Tracing<'_, '_, W>,
+    followed: Result<Verdict, FollowFault<TraceFault>>,
+    explainer: &mut Explainer,
+) -> Ending<ViewEnd>
+    ensures { (result ≡ Own Unwritten) ⊎ (result ≡ out_of_memory refusing) ⊎ (result ≡ Own (Checked (outcome_of followed))) }
+{
+    match followed {
         Ok(verdict) => {
             let outcome = Ok(verdict);
-            note_broken(explainer, alloc, shown.options, shown.rules, &outcome);
+            note_broken(explainer, alloc, shown.options, shown.file, &outcome);
             end_trace(rt, alloc, shown, tracing, explainer, outcome)
         }
         Err(FollowFault::Refused(CheckFault::Memory)) => out_of_memory(),
@@ -71,7 +97,7 @@ fn end_trace<R: Files<File = File>, W: Sink>(
     rt: &R,
     alloc: Global,
     shown: &Shown<'_>,
-    mut tracing: Tracing<'_, '_, W>,
+    tracing: &mut Tracing<'_, '_, W>,
     explainer: &Explainer,
     outcome: Result<Verdict, CheckFault>,
 ) -> Ending<ViewEnd>

@@ -3,7 +3,7 @@
 ghost use Rattle.std.specs.Prelude.{◌≡◌, false, length};
 ghost use Rattle.order_cert.specs.Kept.{place_of};
 ghost use Rattle.placement.specs.Lanes.{AreHonest};
-ghost use Rattle.user_rules.specs.Rules.{relations_of};
+ghost use Rattle.user_rules.specs.Rules.{required_of};
 ghost use Rattle.shown_run.specs.Shown.{IsShown};
 
 use crate::counted::show_numbers;
@@ -18,7 +18,7 @@ use sink::Sink;
 use std::alloc::Global;
 use std::fs::{File, Files};
 use std::sync::Wait;
-use user_rules::Rule;
+use user_rules::{Rule, RuleMemory};
 use view_trace::Axis;
 
 /// What is written.
@@ -50,6 +50,7 @@ impl Viewer for ViewAsked {
         rt: &R,
         alloc: Global,
         shown: &Shown<'_>,
+        memories: &[RuleMemory],
         rules: &[Rule],
         placer: &mut Placer<S, C>,
         explainer: &mut Explainer,
@@ -60,11 +61,13 @@ impl Viewer for ViewAsked {
     {
         match self.format {
             Format::Html | Format::Svg => show_picture(
-                rt, alloc, *self, shown, rules, placer, explainer, output,
+                rt, alloc, *self, shown, memories, rules, placer, explainer, output,
             ),
-            Format::Trace => show_trace(rt, alloc, *self, shown, rules, placer, explainer, output),
+            Format::Trace => show_trace(
+                rt, alloc, *self, shown, memories, rules, placer, explainer, output,
+            ),
             Format::Summary | Format::Json => show_numbers(
-                rt, alloc, *self, shown, rules, placer, explainer, output,
+                rt, alloc, *self, shown, memories, rules, placer, explainer, output,
             ),
         }
     }

@@ -102,10 +102,11 @@ pub(crate) fn class_of_again(status: Status) -> &'static str
 }
 
 // The class of the ground of a record, if it has one of its own.
-pub(crate) fn class_of_ground(status: Status) -> Option<&'static str>
+pub(crate) fn class_of_ground(status: Status, is_named: bool) -> Option<&'static str>
     ensures { IfSome result (λ class. is_own class.now ≡ true) }
 {
     match status {
+        Status::Accepted if is_named => Some("ground-named"),
         Status::Accepted => None,
         Status::Rejected => Some("ground-rejected"),
         Status::Broken => Some("ground-rejected"),

@@ -218,5 +218,6 @@ const POINTS: &str =
 <li><svg class=\"point\" width=\"18\" height=\"18\" aria-hidden=\"true\"><g class=\"mark tick\"><line x1=\"9\" x2=\"9\" y1=\"2\" y2=\"16\"/></g></svg>tick of a core</li>
 <li><svg width=\"34\" height=\"18\" aria-hidden=\"true\"><g class=\"arrow wake\"><path class=\"way\" d=\"m 3,9 l 25,0\"/></g></svg>ends a wait</li>
 <li><svg width=\"34\" height=\"18\" aria-hidden=\"true\"><g class=\"arrow message\"><path class=\"way\" d=\"m 3,9 l 25,0\"/></g></svg>a message, from its sender to its receiver</li>
+<li><svg width=\"34\" height=\"18\" aria-hidden=\"true\"><rect class=\"ground-named\" x=\"2\" y=\"2\" width=\"30\" height=\"14\"/></svg>a record whose place the explanation names</li>
 <li><code>0:1</code> is process 1 of partition 0</li>
 ";

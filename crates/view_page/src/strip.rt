@@ -255,7 +255,7 @@ fn tell_places(out: &mut Markup, picture: &Picture, strip: Strip) -> Result<(), 
     Ok(())
 }
 
-// The grounds of the lanes, and of the records that are rejected or not judged.
+// The grounds of the lanes, and of the records that are rejected, named by the explanation, or not judged.
 fn tell_grounds(out: &mut Markup, picture: &Picture, layout: &Layout) -> Result<(), AllocError> {
     for row in layout.rows.iter() {
         tell_rect(
@@ -272,7 +272,7 @@ fn tell_grounds(out: &mut Markup, picture: &Picture, layout: &Layout) -> Result<
         let Some(one) = picture.columns().get(column) else {
             continue;
         };
-        let Some(class) = class_of_ground(one.status) else {
+        let Some(class) = class_of_ground(one.status, picture.is_named(one.place)) else {
             continue;
         };
         let Sides { left, right } = layout.sides(one, column);

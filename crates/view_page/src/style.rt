@@ -15,6 +15,7 @@ pub const STYLE: &str = "
 .answer .line { fill: #14181d; font: 13px ui-monospace, 'DejaVu Sans Mono', monospace; white-space: pre; }
 .ground { fill: #f1f3f5; }
 .ground-rejected { fill: #b84300; fill-opacity: .14; }
+.ground-named { fill: #00684b; fill-opacity: .14; }
 .frame { fill: none; stroke: #b84300; stroke-width: 2; }
 .ground-after { fill: url(#after); }
 .hit { fill: transparent; }
@@ -73,6 +74,7 @@ pub const STYLE: &str = "
 .strip .rejected .label, .strip .broken .label { fill: #ff9a57; }
 .ground { fill: #20262d; }
 .ground-rejected { fill: #ff9a57; }
+.ground-named { fill: #4fd0a5; }
 .frame { stroke: #ff9a57; }
 .slot { stroke: #46505b; }
 .record:hover .hit, .again:hover .hit { fill: #a3adb8; }

@@ -1,7 +1,8 @@
 // A picture as it grows, record by record.
 
-ghost use Rattle.std.specs.Prelude.{◌≡◌, ◌<◌, IfOk, length};
-ghost use Rattle.view_picture.specs.Records.{record_count};
+ghost use Rattle.std.specs.Prelude.{◌≡◌, ◌<◌, IfOk, OnOk, length, nat_eq};
+ghost use Rattle.std.specs.List.{list_any};
+ghost use Rattle.view_picture.specs.Records.{named_places, record_count};
 
 use crate::arrow::Arrow;
 use crate::column::{Column, Source, Status, location_text, source_text};
@@ -11,7 +12,7 @@ use crate::lane_key::LaneKey;
 use crate::marks::actor_of;
 use crate::process_bars::Hold;
 use crate::touched::{is_at_core, names};
-use apex_types::{Body, CoreId, Ordered, Who};
+use apex_types::{Body, CoreId, Ordered, Place, Who};
 use piece_check::Piece;
 use run_view::{Change, CoreView, Followed, Lawful, ProcessView};
 use std::alloc::{AllocError, Global};
@@ -23,6 +24,8 @@ pub struct Picture {
     // How many ticks a major frame has.
     frame: u64,
     pub(crate) columns: Vec<Column>,
+    // The places that the explanation of the answer names.
+    named: Vec<u64>,
     // In the order in which they are shown.
     pub(crate) lanes: Vec<Lane>,
     pub(crate) arrows: Vec<Arrow>,
@@ -56,6 +59,7 @@ impl Picture {
             alloc,
             frame,
             columns: Vec::new(alloc),
+            named: Vec::new(alloc),
             lanes: Vec::new(alloc),
             arrows: Vec::new(alloc),
             cores: Vec::new(alloc),
@@ -123,6 +127,22 @@ impl Picture {
         let column = self.columns.len();
         self.end_bars(column);
         self.add_column(added, String::new(self.alloc))
+    }
+
+    /// The explanation of the answer names these places, and no others.
+    pub fn mark_named(&mut self, places: &[u64]) -> Result<(), AllocError>
+        ensures count { record_count self.new ≡ record_count self.old }
+        ensures named { OnOk result (named_places self.new ≡ places.now) }
+    {
+        self.named = places.to_vec(self.alloc)?;
+        Ok(())
+    }
+
+    /// Whether the explanation of the answer names this place.
+    pub fn is_named(&self, place: Place) -> bool
+        ensures { result ≡ list_any (λ named. nat_eq named place) (named_places self.now) }
+    {
+        self.named.contains(&place.number())
     }
 
     /// How many records there are.

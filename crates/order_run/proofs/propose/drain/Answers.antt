@@ -1,5 +1,5 @@
 use Rattle.std.proofs.Common.{◌∙◌, refl}
-use Rattle.user_rules.specs.Rules.{relations_of}
+use Rattle.user_rules.specs.Rules.{required_of}
 use Rattle.order_run.proofs.Way.{stops, way_begun}
 use Rattle.order_run.proofs.propose.drain.Goals as goal
 
@@ -17,12 +17,12 @@ loop-preserved g c = record {
 
 pub returns-in_err-is_put-clause-goes_on : goal.returns-in_err-is_put-clause-goes_on
 returns-in_err-is_put-clause-goes_on g c = λ bytes start way.
-    stops c.args.config.now (relations_of c.args.rules.now) bytes start c.from_residual.result c.put_next.new.run (g.G.Guide.left c.put_next.new.guide) (g.W.Sink.bytes c.put_next.new.out) c.from_residual.ensures.0
+    stops c.args.config.now (required_of c.args.memories.now c.args.rules.now) bytes start c.from_residual.result c.put_next.new.run (g.G.Guide.left c.put_next.new.guide) (g.W.Sink.bytes c.put_next.new.out) c.from_residual.ensures.0
     (c.in_err-is_put.ensures.goes_on bytes start (c.loop.invariant.goes_on bytes start way))
 
 pub returns-clause-goes_on : goal.returns-clause-goes_on
 returns-clause-goes_on g c = λ bytes start way.
-    way_begun c.args.config.now (relations_of c.args.rules.now) bytes start c.loop.run (g.G.Guide.left c.loop.guide) (g.W.Sink.bytes c.loop.out) (c.loop.invariant.goes_on bytes start way)
+    way_begun c.args.config.now (required_of c.args.memories.now c.args.rules.now) bytes start c.loop.run (g.G.Guide.left c.loop.guide) (g.W.Sink.bytes c.loop.out) (c.loop.invariant.goes_on bytes start way)
 
 pub returns-then-not-is_put-clause-goes_on : goal.returns-then-not-is_put-clause-goes_on
 returns-then-not-is_put-clause-goes_on g c = λ bytes start way. c.in_ok-is_put.ensures.goes_on bytes start (c.loop.invariant.goes_on bytes start way)

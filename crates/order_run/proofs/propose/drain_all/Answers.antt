@@ -1,5 +1,5 @@
 use Rattle.std.proofs.Common.{below_more, ◌≡◌, [], IfSome, sym, subst, arith}
-use Rattle.user_rules.specs.Rules.{relations_of}
+use Rattle.user_rules.specs.Rules.{required_of}
 use Rattle.order_run.specs.Left.{HasEnded}
 use Rattle.order_run.proofs.Way.{stops}
 use Rattle.order_run.proofs.propose.drain_all.Goals as goal
@@ -9,7 +9,7 @@ drain-requires-clause-under_way g c = let given = c.requires in (given.0, given.
 
 pub returns-in_err-drain-clause-goes_on : goal.returns-in_err-drain-clause-goes_on
 returns-in_err-drain-clause-goes_on g c = λ bytes start way.
-    stops c.args.config.now (relations_of c.args.rules.now) bytes start c.from_residual.result c.drain.new.run (g.G.Guide.left c.drain.new.guide) (g.W.Sink.bytes c.drain.new.out) c.from_residual.ensures.0
+    stops c.args.config.now (required_of c.args.memories.now c.args.rules.now) bytes start c.from_residual.result c.drain.new.run (g.G.Guide.left c.drain.new.guide) (g.W.Sink.bytes c.drain.new.out) c.from_residual.ensures.0
     (c.in_err-drain.ensures.goes_on bytes start (c.loop-core.invariant.goes_on bytes start way))
 
 pub loop-core-preserved : goal.loop-core-preserved

@@ -1,15 +1,15 @@
-use Rattle.user_rules.specs.Rules.{relations_of}
+use Rattle.user_rules.specs.Rules.{required_of}
 use Rattle.order_run.proofs.Way.{stops, way_begun}
 use Rattle.order_run.proofs.propose.follow.Goals as goal
 
 pub returns-in_err-next : goal.returns-in_err-next
 returns-in_err-next g c = λ bytes start way.
-    stops c.args.config.now (relations_of c.args.rules.now) bytes start c.from_residual.result _ _ _ c.from_residual.ensures.0
-    (way_begun c.args.config.now (relations_of c.args.rules.now) bytes start c.loop.run (g.G.Guide.left c.loop.guide) (g.W.Sink.bytes c.loop.out) (c.loop.invariant bytes start way))
+    stops c.args.config.now (required_of c.args.memories.now c.args.rules.now) bytes start c.from_residual.result _ _ _ c.from_residual.ensures.0
+    (way_begun c.args.config.now (required_of c.args.memories.now c.args.rules.now) bytes start c.loop.run (g.G.Guide.left c.loop.guide) (g.W.Sink.bytes c.loop.out) (c.loop.invariant bytes start way))
 
 pub returns-in_err-is_put : goal.returns-in_err-is_put
 returns-in_err-is_put g c = λ bytes start way.
-    stops c.args.config.now (relations_of c.args.rules.now) bytes start c.from_residual-in_err-is_put.result c.put_next.new.run (g.G.Guide.left c.put_next.new.guide) (g.W.Sink.bytes c.put_next.new.out) c.from_residual-in_err-is_put.ensures.0
+    stops c.args.config.now (required_of c.args.memories.now c.args.rules.now) bytes start c.from_residual-in_err-is_put.result c.put_next.new.run (g.G.Guide.left c.put_next.new.guide) (g.W.Sink.bytes c.put_next.new.out) c.from_residual-in_err-is_put.ensures.0
     (c.in_err-is_put.ensures.goes_on bytes start (rw c.in_ok-next.ensures (c.loop.invariant bytes start way)))
 
 pub returns-then-not-is_put : goal.returns-then-not-is_put

@@ -10,7 +10,7 @@ use Rattle.report.specs.Outcome.{argument_fault_of}
 use Rattle.report.proofs.Answering.{answered, refused_configuration, refused_count, refused_settings, want_of_memory}
 use Rattle.report.proofs.Lawful.{scan_placed}
 use Rattle.report.proofs.Whole.{known_lanes, scanned_texts}
-use Rattle.user_rules.specs.Rules.{relations_of}
+use Rattle.user_rules.specs.Rules.{required_of}
 use Rattle.verdict_merge.proofs.Refusing.{run_up_to_no}
 use Rattle.verdict_merge.proofs.Ruled.{run_where_yes}
 use Rattle.report.proofs.checking.check_inputs.Goals as goal
@@ -39,19 +39,19 @@ pub returns : goal.returns
 returns g c = λ recordings certificate e is.
     let texts : Texts = record { config = c.args.inputs.config; recordings = recordings; certificate = certificate } in
     let can_fail : CanFail = c.args.inputs.can_fail in
-    let relations = relations_of c.args.rules.now in
+    let required = required_of c.args.memories.now c.args.rules.now in
     let config = c.in-Ok.config in
     let none : argument_fault_of c.args.options.settings ≡ None = sym c.fault.ensures ∙ c.in_default.is in
     let same : c.deref.result.now ≡ config = c.deref.ensures ∙ c.in-Ok-new.ensures.ok in
     let lanes = known_lanes (λ reader. g.R.TextSource.remaining reader) c.inputs.inside.recordings.items recordings (ap (λ given. given.recordings) c.inputs.view_is ∙ e) in
     let readers : length c.inputs.inside.recordings.items ≡ config.cores = omega arith in
     let count : length recordings ≡ config.cores = sym lanes.0 ∙ readers in
-    subst (IsAnswer c.args.options.settings texts can_fail relations c.judge_all-answer.result) (sym c.settle.ensures)
-    (answered c.args.options.settings texts can_fail relations config c.judge_all-answer.result c.judge_all-answer.new.last none (subst (λ given. configuration_of given.config ≡ Ok config) c.inputs.view_is c.in-Ok.ensures.value) count
+    subst (IsAnswer c.args.options.settings texts can_fail required c.judge_all-answer.result) (sym c.settle.ensures)
+    (answered c.args.options.settings texts can_fail required config c.judge_all-answer.result c.judge_all-answer.new.last none (subst (λ given. configuration_of given.config ≡ Ok config) c.inputs.view_is c.in-Ok.ensures.value) count
     (λ scanned verdict scan found. (
-      run_where_yes config relations scanned.placed verdict c.keeps_limits.ensures.windows c.keeps_limits.ensures.ends
+      run_where_yes config required scanned.placed verdict c.keeps_limits.ensures.windows c.keeps_limits.ensures.ends
           (scan_placed can_fail (length recordings) (items_at recordings) (pairs_of certificate) scanned scan) found,
-      run_up_to_no config relations scanned.placed verdict c.keeps_limits.ensures.windows c.keeps_limits.ensures.ends
+      run_up_to_no config required scanned.placed verdict c.keeps_limits.ensures.windows c.keeps_limits.ensures.ends
           (scan_placed can_fail (length recordings) (items_at recordings) (pairs_of certificate) scanned scan) found,
     ))
     (elim (rw same at (c.judge_all-answer.ensures c.close.ensures.honest)) [

@@ -1,5 +1,5 @@
 use Rattle.std.proofs.Common.{◌≡◌, sym, subst}
-use Rattle.user_rules.specs.Rules.{relations_of}
+use Rattle.user_rules.specs.Rules.{requirements_of}
 use Rattle.verdict_merge.specs.Rounds.{IsTested, parts_of}
 use Rattle.verdict_merge.specs.Verdicts.{against}
 use Rattle.verdict_merge.specs.Views.{broken_of}
@@ -11,28 +11,31 @@ use Rattle.report.proofs.rounds.judge_round.Goals as goal
 pub against-requires : goal.against-requires
 against-requires g c =
     let config = c.args.terms.now.config.now in
-    let relations = relations_of c.args.terms.now.rules.now in
+    let requirements = requirements_of c.args.terms.now.memories.now c.args.judge.now.kept c.args.terms.now.rules.now in
+    let kept = c.round.new.self.kept in
     let parts = parts_of c.args.judge.now in
-    let tested : IsTested config relations parts c.args.round.now c.in-Ok.found c.breach.result =
-    subst (IsTested config relations parts c.args.round.now c.in-Ok.found) (sym c.breach.ensures) c.in-Ok.ensures.tested in
-    breach_within config relations parts c.args.round.now c.in-Ok.found c.breach.result tested
+    let tested : IsTested config requirements parts c.args.round.now c.in-Ok.found c.breach.result kept =
+    subst (λ breach. IsTested config requirements parts c.args.round.now c.in-Ok.found breach kept) (sym c.breach.ensures) c.in-Ok.ensures.tested in
+    breach_within config requirements parts c.args.round.now c.in-Ok.found c.breach.result kept tested
 
 pub returns-in-Ok-clause-decided : goal.returns-in-Ok-clause-decided
 returns-in-Ok-clause-decided g c =
     let config = c.args.terms.now.config.now in
-    let relations = relations_of c.args.terms.now.rules.now in
+    let requirements = requirements_of c.args.terms.now.memories.now c.args.judge.now.kept c.args.terms.now.rules.now in
+    let kept = c.round.new.self.kept in
     let parts = parts_of c.args.judge.now in
-    let tested : IsTested config relations parts c.args.round.now c.in-Ok.found c.breach.result =
-    subst (IsTested config relations parts c.args.round.now c.in-Ok.found) (sym c.breach.ensures) c.in-Ok.ensures.tested in
-    round_decides config relations c.args.judge.now c.round.new.self c.args.round.now c.in-Ok.found c.breach.result c.requires.may c.in-Ok.ensures.judged
+    let tested : IsTested config requirements parts c.args.round.now c.in-Ok.found c.breach.result kept =
+    subst (λ breach. IsTested config requirements parts c.args.round.now c.in-Ok.found breach kept) (sym c.breach.ensures) c.in-Ok.ensures.tested in
+    round_decides config requirements c.args.judge.now c.round.new.self c.args.round.now c.in-Ok.found c.breach.result c.requires.may c.in-Ok.ensures.judged
     tested c.against.result (c.against.ensures c.args.judge.now.count c.requires.may.placed)
 
 pub returns-in-Ok-clause-breach : goal.returns-in-Ok-clause-breach
 returns-in-Ok-clause-breach g c =
     let config = c.args.terms.now.config.now in
-    let relations = relations_of c.args.terms.now.rules.now in
+    let requirements = requirements_of c.args.terms.now.memories.now c.args.judge.now.kept c.args.terms.now.rules.now in
+    let kept = c.round.new.self.kept in
     let judging = c.args.judge.now in
     let judged = c.round.new.self in
     let decides : c.against.result ≡ against judging.count c.in-Ok.found (broken_of judged.breach) =
     subst (λ breach. c.against.result ≡ against judging.count c.in-Ok.found (broken_of breach)) c.breach.ensures (c.against.ensures judging.count c.requires.may.placed) in
-    round_leaves config relations judging judged c.args.round.now c.in-Ok.found judged.breach c.requires.may.placed c.in-Ok.ensures.judged c.in-Ok.ensures.tested c.against.result decides
+    round_leaves config requirements judging judged c.args.round.now c.in-Ok.found judged.breach kept c.requires.may.placed c.in-Ok.ensures.judged c.in-Ok.ensures.tested c.against.result decides

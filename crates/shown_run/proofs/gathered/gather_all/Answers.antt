@@ -3,7 +3,8 @@ use Rattle.std.proofs.Common.{◌≡◌, ◌+◌, ◌∙◌, ◌++◌, List, [],
 use Rattle.placement.specs.Reading.{CanFail}
 use Rattle.report.proofs.Going.{filled_on}
 use Rattle.report.specs.Rounds.{IsDecided}
-use Rattle.user_rules.specs.Rules.{relations_of}
+use Rattle.user_rules.specs.Remembered.{with_kept}
+use Rattle.user_rules.specs.Rules.{required_of}
 use Rattle.verdict_merge.specs.Rounds.{AreGoing}
 use Rattle.shown_run.specs.Kept.{AreRecent}
 use Rattle.shown_run.specs.declared.recent.Recent.{Recent}
@@ -20,11 +21,12 @@ pub rounds-init : goal.rounds-init
 rounds-init g c = record {
   going = c.requires.going;
   config = refl;
+  memories = refl;
   rules = refl;
   lanes = c.requires.cores;
   place = c.requires.first;
   pieces = c.requires.pieces;
-  outcome = ([], (λ honest scanned ahead. ahead), hold_nothing c.args.run.now.config.now (relations_of c.args.run.now.rules.now) c.args.run.now.walk c.requires.cold, c.requires.gathered);
+  outcome = ([], (λ honest scanned ahead. ahead), hold_nothing c.args.run.now.config.now (required_of c.args.run.now.memories.now c.args.run.now.rules.now) c.args.run.now.walk c.args.run.now.kept c.requires.cold c.requires.kept, c.requires.gathered);
 }
 
 -- what is gathered after a round
@@ -35,7 +37,7 @@ pub returns-in-Some-clause-answer : goal.returns-in-Some-clause-answer
 returns-in-Some-clause-answer g c = λ honest.
     let can_fail : CanFail = record { recordings = g.S.TextSource.can_fail; certificate = g.C.TextSource.can_fail } in
     let config = c.args.run.now.config.now in
-    let relations = relations_of c.args.run.now.rules.now in
+    let required = required_of c.args.run.now.memories.now c.args.run.now.rules.now in
     let is = c.rounds.invariant in
     let outcome = is.outcome in
     let round = c.in-Ok.round in
@@ -44,49 +46,50 @@ returns-in-Some-clause-answer g c = λ honest.
     let honest_then = c.end_with.ensures.honest honest in
     let answered : answer_after next round.end c.in-Ok-judge.verdict ≡ Some c.in-Some.answer =
     subst (λ place. answer_after place round.end c.in-Ok-judge.verdict ≡ Some c.in-Some.answer) c.in-Ok.ensures.next (sym c.answer-answer.ensures ∙ c.in-Some.is) in
-    let decided : IsDecided config relations (judging_of c.rounds.first c.rounds.run.walk) records c.in-Ok-judge.verdict (judging_of next c.judge.new.self.walk) =
-    rw (c.deref.ensures.value, is.config, is.rules) at c.in-Ok-judge.ensures.decided in
-    let shown = round_answer can_fail config relations c.args.placer.now c.next_round.new.placer c.rounds.first next c.rounds.run.walk c.judge.new.self.walk outcome.0 records round.end
+    let decided : IsDecided config (with_kept required c.rounds.run.kept) (judging_of c.rounds.first c.rounds.run.walk c.rounds.run.kept) records c.in-Ok-judge.verdict (judging_of next c.judge.new.self.walk c.judge.new.self.kept) =
+    rw (c.deref.ensures.value, is.config, is.memories, is.rules) at c.in-Ok-judge.ensures.decided in
+    let shown = round_answer can_fail config required c.args.placer.now c.next_round.new.placer c.rounds.first next c.rounds.run.walk c.judge.new.self.walk c.rounds.run.kept c.judge.new.self.kept outcome.0 records round.end
     c.in-Ok-judge.verdict c.in-Some.answer answered
     (filled_on can_fail c.args.placer.now c.rounds.placer c.next_round.new.placer outcome.0 records (filled_of round.end) (outcome.1 (c.next_round.ensures.honest honest_then)) (c.in-Ok.ensures.filled honest_then))
     outcome.2 c.in-Ok.ensures.placed decided in
     elim c.end_with.ensures.answer [
-      | inl same ↦ subst (IsAnswerOf can_fail config relations c.args.placer.now) (sym same) shown
+      | inl same ↦ subst (IsAnswerOf can_fail config required c.args.placer.now) (sym same) shown
       | inr memory ↦ inl memory
     ]
 
 pub returns-in-Some-clause-gathered : goal.returns-in-Some-clause-gathered
 returns-in-Some-clause-gathered g c =
     let config = c.args.run.now.config.now in
-    let relations = relations_of c.args.run.now.rules.now in
+    let required = required_of c.args.run.now.memories.now c.args.run.now.rules.now in
     let is = c.rounds.invariant in
     let outcome = is.outcome in
     let round = c.in-Ok.round in
     let records = round.records.items in
-    let decided : IsDecided config relations (judging_of c.rounds.first c.rounds.run.walk) records c.in-Ok-judge.verdict (judging_of (c.rounds.first + length records) c.judge.new.self.walk) =
-    rw (c.deref.ensures.value, is.config, is.rules) at c.in-Ok-judge.ensures.decided in
+    let decided : IsDecided config (with_kept required c.rounds.run.kept) (judging_of c.rounds.first c.rounds.run.walk c.rounds.run.kept) records c.in-Ok-judge.verdict (judging_of (c.rounds.first + length records) c.judge.new.self.walk c.judge.new.self.kept) =
+    rw (c.deref.ensures.value, is.config, is.memories, is.rules) at c.in-Ok-judge.ensures.decided in
     let goes = c.in-Ok-add.ensures.goes_on config outcome.0 outcome.3 (c.in-Ok.ensures.first ∙ outcome.2.2) (subst (λ place. ArePlaced place records) outcome.2.2 c.in-Ok.ensures.placed)
     (subst (λ cores. AreOfCores cores records) is.lanes c.in-Ok.ensures.cores)
-    (have_taken config relations c.rounds.first c.rounds.run.walk c.judge.new.self.walk outcome.0 records c.in-Ok-judge.verdict outcome.2 c.in-Ok.ensures.placed decided) in
+    (have_taken config required c.rounds.first c.rounds.run.walk c.judge.new.self.walk c.rounds.run.kept c.judge.new.self.kept outcome.0 records c.in-Ok-judge.verdict outcome.2 c.in-Ok.ensures.placed decided) in
     whenever c.end_with.result _ (gathered_on config outcome.0 records c.rounds.gathering c.add.new.self goes c.end_with.new.gathering c.end_with.ensures.same)
 
 pub rounds-preserved : goal.rounds-preserved
 rounds-preserved g c =
     let can_fail : CanFail = record { recordings = g.S.TextSource.can_fail; certificate = g.C.TextSource.can_fail } in
     let config = c.args.run.now.config.now in
-    let relations = relations_of c.args.run.now.rules.now in
+    let required = required_of c.args.run.now.memories.now c.args.run.now.rules.now in
     let is = c.rounds.invariant in
     let outcome = is.outcome in
     let round = c.in-Ok.round in
     let records = round.records.items in
     let none = goes_on round.next round.end c.in-Ok-judge.verdict (sym c.answer-answer.ensures ∙ c.in_default-answer.is) in
-    let decided : IsDecided config relations (judging_of c.rounds.first c.rounds.run.walk) records c.in-Ok-judge.verdict (judging_of (c.rounds.first + length records) c.judge.new.self.walk) =
-    rw (c.deref.ensures.value, is.config, is.rules) at c.in-Ok-judge.ensures.decided in
+    let decided : IsDecided config (with_kept required c.rounds.run.kept) (judging_of c.rounds.first c.rounds.run.walk c.rounds.run.kept) records c.in-Ok-judge.verdict (judging_of (c.rounds.first + length records) c.judge.new.self.walk c.judge.new.self.kept) =
+    rw (c.deref.ensures.value, is.config, is.memories, is.rules) at c.in-Ok-judge.ensures.decided in
     let pieces : AreGoing config (c.rounds.first + length records) c.judge.new.self.walk =
-    ready_on config relations c.rounds.first (c.rounds.first + length records) c.rounds.run.walk c.judge.new.self.walk records c.in-Ok-judge.verdict none.1 decided in
+    ready_on config (with_kept required c.rounds.run.kept) c.rounds.first (c.rounds.first + length records) c.rounds.run.walk c.judge.new.self.walk c.rounds.run.kept c.judge.new.self.kept records c.in-Ok-judge.verdict none.1 decided in
     record {
       going = c.in-Ok.ensures.going none.0;
       config = c.judge.ensures.same ∙ is.config;
+      memories = c.judge.ensures.memories ∙ is.memories;
       rules = c.judge.ensures.rules ∙ is.rules;
       lanes = c.next_round.ensures.lanes ∙ is.lanes;
       place = c.in-Ok.ensures.place none.0;
@@ -94,9 +97,9 @@ rounds-preserved g c =
       outcome = (
         outcome.0 ++ records,
         (λ honest. lead_on can_fail c.args.placer.now c.rounds.placer c.next_round.new.placer outcome.0 records round.end none.0 (outcome.1 (c.next_round.ensures.honest honest)) (c.in-Ok.ensures.filled honest)),
-        hold_on config relations c.rounds.first round.next c.rounds.run.walk c.judge.new.self.walk outcome.0 records c.in-Ok-judge.verdict none.1 c.in-Ok.ensures.next outcome.2 decided,
+        hold_on config required c.rounds.first round.next c.rounds.run.walk c.judge.new.self.walk c.rounds.run.kept c.judge.new.self.kept outcome.0 records c.in-Ok-judge.verdict none.1 c.in-Ok.ensures.next outcome.2 decided,
         c.in-Ok-add.ensures.goes_on config outcome.0 outcome.3 (c.in-Ok.ensures.first ∙ outcome.2.2) (subst (λ place. ArePlaced place records) outcome.2.2 c.in-Ok.ensures.placed)
             (subst (λ cores. AreOfCores cores records) is.lanes c.in-Ok.ensures.cores)
-            (have_taken config relations c.rounds.first c.rounds.run.walk c.judge.new.self.walk outcome.0 records c.in-Ok-judge.verdict outcome.2 c.in-Ok.ensures.placed decided),
+            (have_taken config required c.rounds.first c.rounds.run.walk c.judge.new.self.walk c.rounds.run.kept c.judge.new.self.kept outcome.0 records c.in-Ok-judge.verdict outcome.2 c.in-Ok.ensures.placed decided),
       );
     }

@@ -4,15 +4,15 @@ use Rattle.std.specs.Prelude.{option_copied}
 use Rattle.report.proofs.Breaking.{breach_shown}
 use Rattle.report.proofs.Rejecting.{rejects_shown}
 use Rattle.report.specs.Shown.{StillBreaks, StillRejects}
-use Rattle.user_rules.specs.Rules.{relations_of}
-use Rattle.shown_run.specs.Judged.{judging_of}
+use Rattle.user_rules.specs.Rules.{required_of}
+use Rattle.shown_run.specs.Judged.{judging_of, judging_with}
 use Rattle.shown_run.proofs.witness.tell.Goals as goal
 
 pub refused-requires-clause-reached : goal.refused-requires-clause-reached
 refused-requires-clause-reached g c =
     let config = c.args.config.now in
     let records = c.args.records.now in
-    let judging = judging_of c.args.first c.args.walk.now in
+    let judging = judging_of c.args.first c.args.walk.now c.args.asked.now.recollection.now in
     let no = c.in-No in
     let shown = c.in-Some-Some in
     let rejects = subst (λ verdict. StillRejects config records (Ok verdict) judging) no.is c.requires.rejects in
@@ -24,7 +24,7 @@ pub refused-requires-clause-rejects : goal.refused-requires-clause-rejects
 refused-requires-clause-rejects g c =
     let config = c.args.config.now in
     let records = c.args.records.now in
-    let judging = judging_of c.args.first c.args.walk.now in
+    let judging = judging_of c.args.first c.args.walk.now c.args.asked.now.recollection.now in
     let no = c.in-No in
     let shown = c.in-Some-Some in
     let rejects = subst (λ verdict. StillRejects config records (Ok verdict) judging) no.is c.requires.rejects in
@@ -34,22 +34,24 @@ refused-requires-clause-rejects g c =
 
 pub broken-requires-clause-seen : goal.broken-requires-clause-seen
 broken-requires-clause-seen g c =
-    let relations = relations_of c.args.rules.now in
+    let required = required_of c.args.asked.now.memories.now c.args.asked.now.rules.now in
+    let judging = judging_with c.args.first c.args.walk.now c.args.asked.now.recollection.now c.args.breach in
     let records = c.args.records.now in
     let broken = c.in-Broken in
     let shown = c.in-Some-Some-2 in
-    let breaks = subst (λ verdict. StillBreaks c.args.config.now relations records (Ok verdict) c.args.breach) broken.is c.requires.breaks in
-    let both = breach_shown c.args.config.now relations c.args.first records broken.pos broken.rule c.args.breach shown.breach shown.ordered.now c.requires.placed breaks
+    let breaks = subst (λ verdict. StillBreaks c.args.config.now required records (Ok verdict) judging) broken.is c.requires.breaks in
+    let both = breach_shown c.args.config.now required c.args.first records broken.pos broken.rule judging shown.breach shown.ordered.now c.requires.placed breaks
     shown.is-1 (sym c.record_at-found-in-Broken.ensures ∙ ap (λ ordered. option_copied ordered) shown.is-0) in
     both.0
 
 pub broken-requires-clause-broken : goal.broken-requires-clause-broken
 broken-requires-clause-broken g c =
-    let relations = relations_of c.args.rules.now in
+    let required = required_of c.args.asked.now.memories.now c.args.asked.now.rules.now in
+    let judging = judging_with c.args.first c.args.walk.now c.args.asked.now.recollection.now c.args.breach in
     let records = c.args.records.now in
     let broken = c.in-Broken in
     let shown = c.in-Some-Some-2 in
-    let breaks = subst (λ verdict. StillBreaks c.args.config.now relations records (Ok verdict) c.args.breach) broken.is c.requires.breaks in
-    let both = breach_shown c.args.config.now relations c.args.first records broken.pos broken.rule c.args.breach shown.breach shown.ordered.now c.requires.placed breaks
+    let breaks = subst (λ verdict. StillBreaks c.args.config.now required records (Ok verdict) judging) broken.is c.requires.breaks in
+    let both = breach_shown c.args.config.now required c.args.first records broken.pos broken.rule judging shown.breach shown.ordered.now c.requires.placed breaks
     shown.is-1 (sym c.record_at-found-in-Broken.ensures ∙ ap (λ ordered. option_copied ordered) shown.is-0) in
     both.1

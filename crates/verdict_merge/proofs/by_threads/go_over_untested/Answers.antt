@@ -83,8 +83,9 @@ returns-in-Ok-Some-clause-outcome c = λ relations breach first.
     let at = is_shown lent.config.now c.args.seat.now.number lent.first lent.records.now c.loop-index.invariant.0 c.loop-index.invariant.1 c.in-Some.ensures.steps c.index-records-index.is c.requires.may.placed c.requires.may.cores in
     let index = reached lent.config.now (piece_at lent.config.now c.args.seat.now.number) lent.records.now (length c.loop-index.invariant.0) in
     let none = rw c.in-Ok-Some.field-0-is at c.in-Ok-Some.ensures.kept in
-    refuses_there lent.config.now c.args.seat.now.number lent.first lent.records.now relations c.args.piece.now c.loop-index.piece c.judge_and_keep.new.piece _ seen c.in-Ok-Some.refused index c.index-records-index.result
-    refl c.loop-index.invariant.2 (subst (λ list. IsFirstBreach relations list breach) (none ∙ append-nil seen) first) c.requires.may.placed c.requires.may.going.holds_before at.within at.is at.touched (rw c.in-Ok-Some.field-0-is at c.in-Ok-Some.ensures.judged) c.in-Ok-Some.ensures.of_module
+    let there = refuses_there lent.config.now c.args.seat.now.number lent.first lent.records.now relations c.args.piece.now c.loop-index.piece c.judge_and_keep.new.piece _ seen c.in-Ok-Some.refused index c.index-records-index.result
+    refl c.loop-index.invariant.2 (subst (λ list. IsFirstBreach relations list breach) (none ∙ append-nil seen) first) c.requires.may.placed c.requires.may.going.holds_before at.within at.is at.touched (rw c.in-Ok-Some.field-0-is at c.in-Ok-Some.ensures.judged) c.in-Ok-Some.ensures.of_module in
+    (there.0, none ∙ append-nil seen ∙ sym there.1)
 
 pub returns-in-Ok-Some-clause-rising : goal.returns-in-Ok-Some-clause-rising
 returns-in-Ok-Some-clause-rising c =
@@ -144,8 +145,9 @@ returns-clause-outcome c = λ relations breach first.
     let all : touching lent.config.now piece 0 records ≡ outcome = c.loop-index.invariant.1 ∙ ap (λ left. outcome ++ left) c.in-None.ensures.steps.0 ∙ append-nil outcome in
     let end : reached lent.config.now piece records (length outcome) ≡ length records =
     get_or_past (touching lent.config.now piece 0 records) (length outcome) (length records) (omega (arith, ap length all)) in
-    goes_through lent.config.now c.args.seat.now.number lent.first records relations c.args.piece.now c.loop-index.piece _ (seen_in kept.indices.items kept.views.items)
-    (reached lent.config.now piece records (length outcome)) refl c.loop-index.invariant.2 first end c.requires.may.placed c.requires.may.going.holds_before
+    let through = goes_through lent.config.now c.args.seat.now.number lent.first records relations c.args.piece.now c.loop-index.piece _ (seen_in kept.indices.items kept.views.items)
+    (reached lent.config.now piece records (length outcome)) refl c.loop-index.invariant.2 first end c.requires.may.placed c.requires.may.going.holds_before in
+    (through.0, sym through.1)
 
 pub returns-clause-rising : goal.returns-clause-rising
 returns-clause-rising c = c.loop-index.invariant.3

@@ -62,8 +62,8 @@ returns-in-Ok-Some-clause-outcome g c =
     let seen = c.loop-index.invariant.0 in
     let at = is_shown lent.config.now c.args.number lent.first lent.records.now c.loop-index.invariant.1 c.loop-index.invariant.2 c.in-Some.ensures.steps c.index-records-index.is c.requires.placed c.requires.cores in
     let index = reached lent.config.now (piece_at lent.config.now c.args.number) lent.records.now (length c.loop-index.invariant.1) in
-    refuses_there lent.config.now c.args.number lent.first lent.records.now relations c.args.piece.now c.loop-index.piece c.judge_one.new.piece _ seen c.in-Ok-Some.refused index c.index-records-index.result
-    refl c.loop-index.invariant.3 (subst (IsFirstBreach relations seen) (sym (rw c.in-Ok-Some.field-0-is at c.in-Ok-Some.ensures.tested)) c.loop-index.invariant.4) c.requires.placed c.requires.going.holds_before at.within at.is at.touched (rw c.in-Ok-Some.field-0-is at c.in-Ok-Some.ensures.judged) c.in-Ok-Some.ensures.of_module
+    (refuses_there lent.config.now c.args.number lent.first lent.records.now relations c.args.piece.now c.loop-index.piece c.judge_one.new.piece _ seen c.in-Ok-Some.refused index c.index-records-index.result
+    refl c.loop-index.invariant.3 (subst (IsFirstBreach relations seen) (sym (rw c.in-Ok-Some.field-0-is at c.in-Ok-Some.ensures.tested)) c.loop-index.invariant.4) c.requires.placed c.requires.going.holds_before at.within at.is at.touched (rw c.in-Ok-Some.field-0-is at c.in-Ok-Some.ensures.judged) c.in-Ok-Some.ensures.of_module).0
 
 pub loop-index-preserved : goal.loop-index-preserved
 loop-index-preserved g c =
@@ -111,5 +111,5 @@ returns-clause-outcome g c =
     let all : touching lent.config.now piece 0 records ≡ outcome = c.loop-index.invariant.2 ∙ ap (λ left. outcome ++ left) c.in-None.ensures.steps.0 ∙ append-nil outcome in
     let end : reached lent.config.now piece records (length outcome) ≡ length records =
     get_or_past (touching lent.config.now piece 0 records) (length outcome) (length records) (omega (arith, ap length all)) in
-    goes_through lent.config.now c.args.number lent.first records (relations_of c.args.rules.now) c.args.piece.now c.loop-index.piece _ c.loop-index.invariant.0
-    (reached lent.config.now piece records (length outcome)) refl c.loop-index.invariant.3 c.loop-index.invariant.4 end c.requires.placed c.requires.going.holds_before
+    (goes_through lent.config.now c.args.number lent.first records (relations_of c.args.rules.now) c.args.piece.now c.loop-index.piece _ c.loop-index.invariant.0
+    (reached lent.config.now piece records (length outcome)) refl c.loop-index.invariant.3 c.loop-index.invariant.4 end c.requires.placed c.requires.going.holds_before).0

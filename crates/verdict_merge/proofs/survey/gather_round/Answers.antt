@@ -2,7 +2,7 @@ use Rattle.std.proofs.Common.{below_more, ◌≡◌, ◌<◌, ◌+◌, ◌∙◌
 use Rattle.std.specs.Prelude.{replicate}
 use Rattle.std.proofs.lemmas.List.{length-map, length-replicate}
 use Rattle.apex_machine.specs.Pieces.{pieces}
-use Rattle.verdict_merge.specs.Rounds.{AreGoing, HasRunOver, HaveRunOver, IsGoing, IsTested, holding_at, parts_in, pieces_in}
+use Rattle.verdict_merge.specs.Rounds.{AreGoing, HasRunOver, HaveRunOver, IsGoing, IsTestedAlone, holding_at, parts_in, pieces_in}
 use Rattle.verdict_merge.proofs.Breaking.{IsFirstIn, first_more, is_tested}
 use Rattle.verdict_merge.proofs.Giving.{gives}
 use Rattle.verdict_merge.proofs.Holdings.{holding_left, left_each}
@@ -35,7 +35,7 @@ pieces-preserved c = λ relations start going over.
     let before = c.pieces.invariant relations start going over in
     let one = c.index.result.now in
     let within : number < length (pieces config) = omega (arith, c.pieces-test.true, over.whole, going.whole, c.args.judged.ok) in
-    let here = over.each number (omega (arith, within, going.whole)) one c.index.ensures in
+    let here = (over.each number (omega (arith, within, going.whole)) one c.index.ensures).over in
     let old = c.pieces.gathering in
     let now = c.take_in.new.self in
     let left = parts_in (pieces_in judged) in
@@ -89,11 +89,11 @@ returns-in-Ok c = λ relations start going over.
     (λ number within. after.filled number (omega (arith, within, all))) in
     record {
       outcome = subst (HaveRunOver config start records gathering.found) (sym c.in-Ok.ensures) is_shown;
-      tested = subst (IsTested config relations (parts_in start) records gathering.found) (sym c.breach_in-breach.ensures)
+      tested = subst (IsTestedAlone config relations (parts_in start) records gathering.found) (sym c.breach_in-breach.ensures)
           (is_tested config (parts_in start) relations lent.first records gathering.found c.requires.placed outcome after.slots gathering.breach after.whole after.sound filled after.first);
       going = subst (AreGoing config (lent.first + length records)) (sym c.in-Ok.ensures) (record {
         whole = length-map judged (λ one. one.piece) ∙ over.whole ∙ going.whole;
         each = λ number within. left_each (IsGoing config number (lent.first + length records)) judged number (omega (arith, within, over.whole, going.whole))
-            (λ one is. (over.each number (omega (arith, within, going.whole)) one is).going);
+            (λ one is. (over.each number (omega (arith, within, going.whole)) one is).over.going);
       });
     }

@@ -7,5 +7,5 @@ use Rattle.verdict_merge.proofs.survey.gather_round.Given as goal
 
 abbrev pub invariant-pieces : goal.invariant-pieces
 invariant-pieces l =
-    (relations : List Relation) (old : List Holding) → AreGoing l.lent.config.now l.lent.first old → AreJudgedOver l.lent.config.now l.lent.first l.lent.records.now relations old l.judged.items
+    (relations : List Relation) (old : List Holding) → AreGoing l.lent.config.now l.lent.first old → AreJudgedOver l.lent.config.now l.lent.first l.lent.records.now relations l.lent.keeps old l.judged.items
     → AreTakenIn l.lent.config.now l.lent.records.now relations old l.judged.items l.number l.gathering.found l.gathering.breach

@@ -1,5 +1,5 @@
-use Rattle.std.proofs.Common.{◌∙◌, ap, map, sym}
-use Rattle.asked_rules.specs.Reading.{said, without_key}
+use Rattle.std.proofs.Common.{◌∙◌, ap, sym}
+use Rattle.asked_rules.specs.Reading.{said_file, without_key}
 use Rattle.asked_rules.specs.Asked.{rules_given, walk_given}
 use Rattle.apexorder.proofs.Ended.{memory_ended, refused_ended, search_ended}
 use Rattle.apexorder.proofs.files.Opened.propose.Goals as goal
@@ -15,8 +15,8 @@ returns-in-Err g c =
 pub returns : goal.returns
 returns g c =
     search_ended (λ source. g.S.TextSource.remaining source) c.args.self c.args.asked.now c.args.output.now.bytes c.propose_ruled-ending.new.output.bytes c.propose_ruled-ending.result
-    (map said c.in-Ok-read_rules.rules.items) c.in-Ok.options.items
+    (said_file c.in-Ok-read_rules.file) c.in-Ok.options.items
     (ap rules_given (sym c.as_deref-rules_text.ensures.value) ∙ ap (λ walked. without_key walked) c.in-Ok-read_rules.ensures) c.in-Ok.ensures
     (rw c.deref-2.ensures.value at c.propose_ruled-ending.ensures.rows)
     (rw c.deref-2.ensures.value at c.propose_ruled-ending.ensures.ended)
-    (rw (c.deref-2.ensures.value, c.deref-3.ensures.value, c.deref-4.ensures.value) at c.propose_ruled-ending.ensures.certified)
+    (rw (c.deref-2.ensures.value, c.deref-3.ensures.value) at c.propose_ruled-ending.ensures.certified)

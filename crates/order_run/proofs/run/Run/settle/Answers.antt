@@ -1,5 +1,5 @@
 use Rattle.std.proofs.lemmas.Result.{err_from_is_err_and}
-use Rattle.user_rules.specs.Rules.{relations_of}
+use Rattle.user_rules.specs.Rules.{required_of}
 use Rattle.order_run.proofs.Onward.{round_settled}
 use Rattle.order_run.proofs.Way.{none_cut}
 use Rattle.order_run.proofs.run.Run.settle.Goals as goal
@@ -19,5 +19,5 @@ returns-clause-whole g c = rw (c.deref.ensures.value, c.judge.ensures.text) at c
 
 pub returns-clause-so_far : goal.returns-clause-so_far
 returns-clause-so_far g c = λ settled waiting before put.
-    round_settled c.args.config.now (relations_of c.args.rules.now) c.args.self.now _ settled waiting before put c.judge.ensures.keeper c.clear-2.ensures.items c.clear.ensures.items
+    round_settled c.args.config.now (required_of c.args.memories.now c.args.rules.now) c.args.self.now _ settled waiting before put c.judge.ensures.keeper c.clear-2.ensures.items c.clear.ensures.items
     (c.in_ok-judge.ensures.judged settled waiting before put) (c.in_ok-judge.ensures.tested settled waiting before put)

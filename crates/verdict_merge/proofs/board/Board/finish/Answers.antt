@@ -26,3 +26,15 @@ places-preserved g c =
           judged_more round c.places.judged.items new (length yielded) before.count before.each last one (omega (arith, less, length-append yielded (c.in-Some.place ∷ []))) judged
           (is ∙ ap (λ list. slice_index_or list one judged) grown);
     }
+
+pub returns : goal.returns
+returns g c =
+    let before = c.places.invariant in
+    let yielded = c.places.yielded in
+    let rest = c.places.place-iterator.rest in
+    let all : length yielded ≡ length c.self.inside.places.items = omega (arith, ap length before.given, length-append yielded rest.items, c.in-None.ensures.steps.0, rest.ok) in
+    let whole = c.self.invariant.4.place in
+    record {
+      whole = before.count ∙ all ∙ whole;
+      each = λ number less one is. before.each number (omega (arith, less, all, whole)) one is;
+    }

@@ -1,4 +1,4 @@
-use Rattle.std.proofs.Common.{◌<◌, arith, length, subst, refl}
+use Rattle.std.proofs.Common.{◌<◌, arith, length, subst}
 use Rattle.verdict_merge.proofs.Steps.{posts, room_to_post}
 use Rattle.verdict_merge.proofs.board.Board.keep.Goals as goal
 

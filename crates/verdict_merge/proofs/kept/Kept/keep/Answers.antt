@@ -1,4 +1,4 @@
-use Rattle.std.proofs.Common.{rules, ◌≡◌, Some}
+use Rattle.std.proofs.Common.{rules}
 use Rattle.verdict_merge.proofs.Keeping.{has_kept}
 use Rattle.verdict_merge.proofs.kept.Kept.keep.Goals as goal
 
