@@ -23,7 +23,7 @@ MOST_OF_SEVERAL = 4
 BY_HAND, IN_FUNCTION = "by hand", "in a function whose clause cites a definition of the rule"
 BESIDE_THE_PROGRAM = {
     "apex_laws", "explanation", "input_explanation", "toml_explanation", "wording", "sarif_report", "json_report", "run_view", "shown_run", "view_picture",
-    "view_page", "view_trace", "view_drawing", "apexview",
+    "view_page", "view_trace", "stretch_drawing", "view_drawing", "apexview",
     "part_tests", "intake_tests", "round_tests", "crate_tests",
 }
 Goal = Callable[[str], bool]

@@ -1,5 +1,1 @@
-mod Below
-mod FaultLines
-mod Requested
 mod Failed
-mod Walked

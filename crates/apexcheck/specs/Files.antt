@@ -9,12 +9,12 @@ use Rattle.program_ends.specs.Endings.{out_of_memory}
 use Rattle.report.specs.Answers.{Given, given_by}
 use Rattle.asked_rules.specs.Options.{in_order}
 use Rattle.apexcheck.specs.declared.awaited.Observed.{Observed}
-use Rattle.apexcheck.specs.declared.ending.CheckEnd.{CheckEnd}
+use Rattle.check_result.specs.declared.ending.CheckEnd.{CheckEnd}
 use Rattle.apexcheck.specs.declared.files.OpenFault.{OpenFault}
 use Rattle.apexcheck.specs.declared.files.OpenFault.TheVariants.{Unopened, Memory}
 use Rattle.apexcheck.specs.declared.files.Opened.{Opened}
-use Rattle.apexcheck.specs.declared.usage.FilesAsked.{FilesAsked}
-use Rattle.apexcheck.specs.Endings.{refusing}
+use Rattle.check_request.specs.declared.usage.FilesAsked.{FilesAsked}
+use Rattle.check_result.specs.Endings.{refusing}
 use Rattle.apexcheck.specs.Folders.{FolderView}
 use Rattle.apexcheck.specs.Ruled.{IsRuledEnding}
 

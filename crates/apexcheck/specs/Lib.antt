@@ -1,13 +1,5 @@
-pub mod CommandLine
-pub mod Requests
-pub mod Settings
-pub mod Words
-pub mod Wrong
-pub mod Endings
-pub mod FileNames
 pub mod Files
 pub mod Folders
 pub mod RowsAlone
-pub mod RowsText
 pub mod Ruled
 pub mod Runs

@@ -11,9 +11,9 @@ use Rattle.record_read.specs.Row.{records_of}
 use Rattle.rows_check.specs.declared.found.RowsFound.{RowsFound}
 use Rattle.rows_check.specs.Found.{IsFoundIn}
 use Rattle.apexcheck.specs.declared.awaited.Observed.{Observed}
-use Rattle.apexcheck.specs.declared.ending.CheckEnd.{CheckEnd}
-use Rattle.apexcheck.specs.declared.ending.CheckEnd.TheVariants.{Rows}
-use Rattle.apexcheck.specs.Endings.{refusing}
+use Rattle.check_result.specs.declared.ending.CheckEnd.{CheckEnd}
+use Rattle.check_result.specs.declared.ending.CheckEnd.TheVariants.{Rows}
+use Rattle.check_result.specs.Endings.{refusing}
 use Rattle.apexcheck.specs.Files.{ReadFiles}
 use Rattle.apexcheck.specs.Folders.{FolderView}
 

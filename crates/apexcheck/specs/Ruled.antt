@@ -13,8 +13,8 @@ use Rattle.asked_rules.specs.declared.fault.RulesFault.{RulesFault}
 use Rattle.asked_rules.specs.Reading.{SaidFile}
 use Rattle.user_rules.specs.Remembered.{Requirements}
 use Rattle.verdict_merge.specs.declared.verdict.Verdict.{Verdict}
-use Rattle.apexcheck.specs.declared.ending.CheckEnd.{CheckEnd}
-use Rattle.apexcheck.specs.Endings.{end_of_check, refusing}
+use Rattle.check_result.specs.declared.ending.CheckEnd.{CheckEnd}
+use Rattle.check_result.specs.Endings.{end_of_check, refusing}
 
 -- the answer, and the last records that it leaves, are those of these inputs under the memories of the file and relations that say what the
 -- options request, followed by what the rules of the file say, in their order; a lack of memory outranks them, and leaves no last records

@@ -14,13 +14,13 @@ use Rattle.sink.specs.Written.{IsCut, IsWritten}
 use Rattle.user_rules.specs.Remembered.{required_by}
 use Rattle.verdict_merge.specs.declared.verdict.Verdict.{Verdict}
 use Rattle.apexcheck.specs.declared.awaited.Observed.{Observed}
-use Rattle.apexcheck.specs.declared.ending.CheckEnd.{CheckEnd}
+use Rattle.check_result.specs.declared.ending.CheckEnd.{CheckEnd}
 use Rattle.apexcheck.specs.declared.stored.TheConstants.{CONFIG, ORDER, RECORDING, SETTINGS}
-use Rattle.apexcheck.specs.declared.usage.Asked.{Asked}
-use Rattle.apexcheck.specs.Endings.{own_status_of, own_text_of, refusing}
+use Rattle.check_request.specs.declared.usage.Asked.{Asked}
+use Rattle.check_result.specs.Endings.{own_status_of, own_text_of, refusing}
 use Rattle.apexcheck.specs.Files.{IsOfFiles}
 use Rattle.apexcheck.specs.Folders.{FolderView}
-use Rattle.apexcheck.specs.Requests.{IsRequested}
+use Rattle.check_request.specs.Requests.{IsRequested}
 use Rattle.apexcheck.specs.RowsAlone.{IsOfRows}
 
 -- an outcome of the run that is stored in the program, with one worker and the usual depth

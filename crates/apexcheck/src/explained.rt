@@ -1,13 +1,11 @@
 // The answer in words, on standard error, after its line. It decides nothing: a failure there, or a lack of memory, ends only the words.
 
-use crate::ending::CheckEnd;
-use crate::json::write_answer;
-use crate::sarif::write_log;
-use crate::usage::{Asked, FilesAsked};
 use answer_words::{
     Explainer, InputNames, RunFiles, Told, words_of_stored_run, words_of_unwritten_answer,
     words_of_unwritten_log, words_of_unwritten_output,
 };
+use check_request::{Asked, FilesAsked};
+use check_result::{CheckEnd, Explained, write_answer, write_log};
 use placement::InputFault;
 use program_ends::{Ending, UNWRITTEN, UsageFault};
 use report::{CheckFault, Verdict};
@@ -70,17 +68,6 @@ fn explain_rows<'a, R: Files<File = F> + Eprint, F: Read + Drop>(
             }
         }
     }
-}
-
-/// What is written of the end of a run over files, as a log or as data.
-#[derive(Drop)]
-pub struct Explained<'e, 'a> {
-    pub ending: &'e Ending<CheckEnd>,
-    pub explainer: &'a Explainer,
-    /// Why the answer is not Yes. None after a Yes, or if only a note says why.
-    pub told: Option<Told<'a>>,
-    /// The exit status of the program.
-    pub status: u8,
 }
 
 // Explains the end of a run over files.
@@ -146,12 +133,12 @@ fn write_files<'a, R: Env + Files<File = F> + Eprint + AllocGlobal, F: Read + Wr
 ) {
     let (rt, alloc) = (files.rt, files.alloc);
     if let Some(name) = &asked.sarif {
-        if let Err(e) = write_log(files, asked, name, explained) {
+        if let Err(e) = write_log(files, asked.source_root.as_deref(), name, explained) {
             tell(rt, &words_of_unwritten_log(alloc, name, e), look);
         }
     }
     if let Some(name) = &asked.json {
-        if let Err(e) = write_answer(files, asked, name, explained) {
+        if let Err(e) = write_answer(files, &asked.options, asked.at_least, name, explained) {
             tell(rt, &words_of_unwritten_answer(alloc, name, e), look);
         }
     }

@@ -7,12 +7,12 @@ ghost use Rattle.apexcheck.specs.Ruled.{where_asked};
 
 use crate::awaited::{Awaited, Observed, copy_of, end_watch, watch};
 use crate::course::Course;
-use crate::ending::{CheckEnd, end_of_check};
 use crate::folder::Folder;
 use crate::ruled::check_ruled;
-use crate::usage::FilesAsked;
 use answer_words::{Explainer, note_broken};
 use asked_rules::read_rules;
+use check_request::FilesAsked;
+use check_result::{CheckEnd, end_of_check};
 use csv_rows::{TextSource, Watched};
 use program_ends::{Ending, out_of_memory, refused_rules};
 use report::{Inputs, Last};

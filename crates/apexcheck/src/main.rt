@@ -9,7 +9,8 @@
 //!
 //! `run` makes these promises (`Runs.antt`). `main` passes to it the files, the terminal, the words and the output of the system, and ends
 //! with the status that it returns. `carry_out` first reserves the stack that a run may need. At the end `run` writes the line, then the
-//! explanation (`explain`), and then the log of `--sarif` and the answer of `--json`. No rule of the machine is here.
+//! explanation (`explain`), and then the log of `--sarif` and the answer of `--json`. No rule of the machine is here. `check_request` reads
+//! the words, and `check_result` has the ends, with what is written of them.
 //!
 //! `Opened` holds what was opened in a `Folder`. Its `check` judges the rules file (`read_rules`), then checks under the memories of the
 //! file and the relations of the options, followed by clones of the file's relations (`check_ruled`). `check_files` opens the files and
@@ -21,18 +22,6 @@
 //! `Explainer` gathers what explains the end. It is the witness of the check, and notes which file cannot be opened, why a rules file is
 //! refused, which rule is broken, and which keys of the configuration are unknown. What a person sees while the check goes on is a
 //! `Course`, which is the gate of the check: its progress, and the files that hold up a known answer (`Awaited`).
-//!
-//! # The command line
-//!
-//! What the command line of `apexcheck` requests.
-//!
-//! Promises: no word requests the stored run, `--version` alone the version, `--rows` the rows of the recordings that the other words name,
-//! and other words a run over files, for which each file, option and setting is what the parser of command lines finds in the words. Words
-//! are refused only if the parser does not take them, if a file that a run needs is not named, if an option has a value that it cannot
-//! have, or if no recording follows `--rows`.
-//!
-//! The options are a definition (`CommandLine.antt`), and so is what they request (`Words.antt`). Workers and depth are passed on as they
-//! are given; the check refuses what is out of range.
 #![tactic(auto)]
 
 ghost use Rattle.std.specs.Prelude.{◌≡◌, ◌<◌, map, string_bytes};
@@ -43,31 +32,18 @@ ghost use Rattle.apexcheck.specs.Runs.{EndsAsRequested, IsRun};
 
 mod awaited;
 mod course;
-mod ending;
 mod explained;
 mod files;
-mod fingerprint;
 mod folder;
-mod json;
-mod last_records;
-mod result_rule;
-mod rows;
 mod rows_alone;
 mod ruled;
-mod sarif;
-mod sentences;
-mod settings;
-mod site;
-mod source_root;
 mod stored;
-mod usage;
-mod whole_file;
-mod words;
 
 use answer_words::{Explainer, Terminal};
 use awaited::Observed;
+use check_request::{Asked, request_of};
+use check_result::{CheckEnd, conclude};
 use csv_rows::{TextSource, Watched};
-use ending::{CheckEnd, conclude};
 use explained::explain;
 use folder::{Folder, SystemFiles};
 use program_ends::{Ending, UsageFault, out_of_memory, refused_words};
@@ -82,8 +58,6 @@ use std::rt::{Clock, Env};
 use std::sync::Wait;
 use std::thread::Threads;
 use std::{env, io};
-use usage::Asked;
-use words::request_of;
 
 /// How many bytes of the main thread's stack are touched in one step.
 const STEP: usize = 16_384;

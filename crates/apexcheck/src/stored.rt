@@ -4,7 +4,7 @@ ghost use Rattle.std.specs.Prelude.{[], ◌∷◌, Some, false};
 ghost use Rattle.user_rules.specs.Remembered.{required_by};
 ghost use Rattle.report.specs.Answers.{Answers, given_by};
 
-use crate::settings::USUAL_DEPTH;
+use check_request::USUAL_DEPTH;
 use report::{CheckFault, Open, Settings, Verdict, check};
 use std::alloc::Global;
 use std::sync::Wait;

@@ -20,7 +20,15 @@ const FIELDS: [(Field, &str); 11] = [
     (Field::Woken, "woken"),
 ];
 
-const KINDS: [&str; 6] = ["call", "return", "dispatch", "tick", "arrival", "departure"];
+const KINDS: [&str; 7] = [
+    "call",
+    "return",
+    "dispatch",
+    "tick",
+    "arrival",
+    "departure",
+    "error",
+];
 
 const OUTCOMES: [Out; 9] = [
     Out::Answer(Code::NoError),

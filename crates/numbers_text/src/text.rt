@@ -114,9 +114,12 @@ fn add_window(text: &mut String, window: &WindowKey, numbers: &Numbers) -> Resul
     let count = counted(ticks.count, "tick");
     write!(
         text,
-        "  window {number}, partition {part}, {first} to {last} of the major frame: "
+        "  window {number}, partition {part}: {count} at {first}"
     )?;
-    write!(text, "{count}, {busy} busy ({share} %)\n")
+    if first != last {
+        write!(text, " to {last}")?;
+    }
+    write!(text, " of the major frame, {busy} busy ({share} %)\n")
 }
 
 // How many of a hundred these are, if they are so many of these; rounded down.

@@ -1,5 +1,5 @@
 -- The outcome of a check, from its texts and how far they are read.
-use Rattle.std.specs.Prelude.{◌≡◌, ◌≢◌, ◌⊎◌, ◌↔◌, ℕ, List, Bool, true, false, Option, Some, None, Result, Ok, Err, length, nat_eq, nat_lt, if◌then◌else◌}
+use Rattle.std.specs.Prelude.{◌≡◌, ◌≢◌, ◌⊎◌, ◌↔◌, ℕ, Bool, true, false, Option, Some, None, Result, Ok, Err, length, nat_eq, nat_lt, if◌then◌else◌}
 use Rattle.std.specs.Option.{option_or}
 use Rattle.apex_types.specs.declared.limits.TheConstants.{GREATEST_DEPTH, MOST_WORKERS}
 use Rattle.apex_machine.specs.Configuration.{Configuration}

@@ -34,11 +34,11 @@ use verdict_merge::{Gate, Verdict};
 /// and the threads are stopped.
 ///
 /// The answer is Yes with the number of records if the order is lawful, the records in this order are a run of the machine, and each
-/// rule holds of each record's view, with the values that the memories have at it. It is No with the first place that has no step, the piece that rejects the record and its cause; or
-/// the first place whose view breaks a rule, with the number of the rule. Else it is the first refusal: of the settings, of the
-/// configuration, of the number of readers, and then at the least place. The answer is the same for all settings that are not refused,
-/// for every gate and every size of rounds, and however the threads interleave. It is Memory if memory or a thread was refused at any
-/// point. A reader that returns an error ends its text there, with the fault Read.
+/// rule holds of each record's view, with the values that the memories have at it. It is No with the first place that has no step, the
+/// piece that rejects the record and its cause; or the first place whose view breaks a rule, with the number of the rule. Else it is the
+/// first refusal: of the settings, of the configuration, of the number of readers, and then at the least place. The answer is the same
+/// for all settings that are not refused, for every gate and every size of rounds, and however the threads interleave. It is Memory if
+/// memory or a thread was refused at any point. A reader that returns an error ends its text there, with the fault Read.
 ///
 /// A No and a broken rule also hold of the machine. The certificate's first pairs are then a lawful order of the first records of the
 /// recordings. The records before the place of a No are a run of the machine in which each rule holds, and the machine has no step for

@@ -7,7 +7,7 @@ pub fn settings_change_no_outcome()
     ensures { SettingsChangeNoOutcome }
 {}
 
-/// For the same texts, readings and relations there is one outcome, a lack of memory aside.
+/// For the same texts, readings and requirements there is one outcome, a lack of memory aside.
 pub fn one_outcome()
     ensures { OneOutcome }
 {}

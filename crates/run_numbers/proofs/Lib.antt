@@ -9,4 +9,5 @@ pub mod Worked
 pub mod Given
 pub mod Using
 pub mod Joined
+pub mod Left
 pub mod Pieces

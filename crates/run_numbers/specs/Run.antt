@@ -1,8 +1,8 @@
 -- What the records of a run give, one after another.
-use Rattle.std.specs.Prelude.{ℕ, List, [], ◌∷◌}
+use Rattle.std.specs.Prelude.{ℕ, Bool, true, false, List, [], ◌∷◌}
 use Rattle.std.specs.List.{flat_map}
 use Rattle.apex_types.specs.declared.record.Body.{Body}
-use Rattle.apex_types.specs.declared.record.Body.TheVariants.{Call}
+use Rattle.apex_types.specs.declared.record.Body.TheVariants.{Arrive, Call, Depart}
 use Rattle.apex_types.specs.declared.record.Ordered.{Ordered}
 use Rattle.apex_machine.specs.Configuration.{Configuration}
 use Rattle.apex_machine.specs.Pieces.{ChannelPart, ModulePart, Part, PartitionPart}
@@ -26,6 +26,13 @@ observed_of configuration (ModulePart cores) ordered = observed_of_cores configu
 observed_of configuration (PartitionPart number cores partition) ordered =
     observed_of_partition number cores ordered.core partition ordered.rec.body
 observed_of configuration (ChannelPart number times channel) ordered = used number times channel ordered.core ordered.rec.body
+
+-- whether a record may use an object or a channel
+abbrev pub may_use : Body → Bool
+may_use (Call call) = true
+may_use (Arrive crossing) = true
+may_use (Depart crossing) = true
+may_use other = false
 
 -- what a partition holds after a record: a call alone uses an object
 abbrev pub left_in_partition : ℕ → Partition → Body → List Observation

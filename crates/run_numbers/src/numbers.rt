@@ -2,7 +2,7 @@
 
 ghost use Rattle.std.specs.Prelude.{◌≡◌, ◌+◌, ◌++◌, [], List, OnOk};
 ghost use Rattle.run_numbers.specs.Names.{name_in, name_noted};
-ghost use Rattle.run_numbers.specs.Run.{ahead_of, left_by, names_of, observed_after, observed_before, observed_of, placed_after, records_of, tallies_of};
+ghost use Rattle.run_numbers.specs.Run.{ahead_of, left_by, may_use, names_of, observed_after, observed_before, observed_of, placed_after, records_of, tallies_of};
 ghost use Rattle.run_numbers.specs.Tallies.{AreOf, Placed, capped};
 ghost use Rattle.run_numbers.specs.declared.names.Named.{Named as Key};
 
@@ -141,10 +141,24 @@ fn observe_left(
 ) -> Result<(), AllocError>
     ensures { OnOk result (observed.new.items ≡ observed.old.items ++ observed_after pieces.now ordered.now) }
 {
+    // With many pieces, most of the time would go to those that most records do not use.
+    if !may_use(&ordered.rec.body) {
+        return Ok(());
+    }
     for piece in pieces {
         observe_after(observed, piece, ordered)?;
     }
     Ok(())
+}
+
+// Whether a record may use an object or a channel.
+fn may_use(body: &Body) -> bool
+    ensures { result ≡ may_use body.now }
+{
+    match body {
+        Body::Call(_) | Body::Arrive(_) | Body::Depart(_) => true,
+        Body::Ret(_) | Body::Disp(_) | Body::Tick(_) | Body::Error(_) => false,
+    }
 }
 
 // Adds what a record gives, by what a piece holds before it.

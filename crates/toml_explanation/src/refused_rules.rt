@@ -119,8 +119,8 @@ pub enum Slot<'a> {
     SameName,
     Take,
     Per,
-    /// The name of a memory that is compared.
-    Known,
+    /// The name of a memory that is compared, which must be one of these.
+    Known { above: &'a [Value] },
     Relation,
     Relations(Join),
     Field,
@@ -476,11 +476,11 @@ fn refused_in_comparison<'a>(above: &'a [Value], keys: &'a Table) -> Option<Refu
 fn side_in<'a>(above: &'a [Value], keys: &'a Table, form: Form) -> Result<&'a str, Refused<'a>> {
     if let Some(value) = keys.get("memory") {
         let Some(name) = value.as_str() else {
-            return Err(Refused::Value(Slot::Known, value));
+            return Err(Refused::Value(Slot::Known { above }, value));
         };
         return match memory_named(above, name) {
             Some(memory) => Ok(text_under(memory, "take").unwrap_or("")),
-            None => Err(Refused::Value(Slot::Known, value)),
+            None => Err(Refused::Value(Slot::Known { above }, value)),
         };
     }
     let Some(value) = keys.get("field") else {

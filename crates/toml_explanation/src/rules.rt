@@ -244,10 +244,7 @@ fn tell_value(words: &mut Words, alloc: Global, slot: Slot<'_>, value: &Value) {
             words.say_part(Part::Recorded, Found(name.as_bytes()));
             words.say(", which an earlier memory has");
         }
-        (Slot::Known, Some(name)) => {
-            words.say_part(Part::Recorded, Found(name.as_bytes()));
-            words.say(", which is not the name of a memory above");
-        }
+        (Slot::Known { above }, Some(name)) => tell_unknown(words, alloc, above, name),
         (Slot::Field | Slot::Take, Some(name)) => tell_field(words, name),
         (Slot::Number { field, .. }, Some(name)) => tell_number(words, alloc, field, name),
         _ => {
@@ -264,7 +261,7 @@ struct Subject<'a>(Slot<'a>);
 impl fmt::Display for Subject<'_> {
     fn fmt<W: fmt::Write>(&self, f: &mut fmt::Formatter<W>) -> fmt::Result {
         match self.0 {
-            Slot::Memories | Slot::Known => write!(f, "the key 'memory'"),
+            Slot::Memories | Slot::Known { .. } => write!(f, "the key 'memory'"),
             Slot::Memory => write!(f, "the memory"),
             Slot::Rules => write!(f, "the key 'rule'"),
             Slot::Rule => write!(f, "the rule"),
@@ -294,7 +291,7 @@ fn tell_expected(words: &mut Words, slot: Slot<'_>) {
             "a table with the key 'name' and one of 'since', 'count' and 'last'",
         ),
         Slot::Rule => words.say("a table with the keys 'name' and 'holds'"),
-        Slot::SameName | Slot::Known => words.say("the name of a memory"),
+        Slot::SameName | Slot::Known { .. } => words.say("the name of a memory"),
         Slot::Per => say_choice(words, &HOLDERS),
         Slot::Name => words.say(format_args!(
             "a string of 1 to {LONGEST_RULE_NAME} bytes from 0x20 to 0x7E"
@@ -335,6 +332,27 @@ fn tell_name(words: &mut Words, name: &str) {
         words.say(format_args!(", with the byte 0x{byte:02X}"));
     }
     tell_expected(words, Slot::Name);
+}
+
+// Reports a string that is not the name of one of the memories above.
+fn tell_unknown(words: &mut Words, alloc: Global, above: &[Value], name: &str) {
+    words.say_part(Part::Recorded, Found(name.as_bytes()));
+    words.say(", which is not the name of a memory above");
+    match memory_names(alloc, above) {
+        Ok(names) => words.suggest(name, names.as_slice()),
+        Err(_) => words.note_lack_of_memory(),
+    }
+}
+
+// The names of these memories.
+fn memory_names(alloc: Global, memories: &[Value]) -> Result<Vec<&str>, AllocError> {
+    let mut names = Vec::new(alloc);
+    for memory in memories {
+        if let Some(name) = name_of(memory) {
+            names.push(name)?;
+        }
+    }
+    Ok(names)
 }
 
 // Reports a string that is not the name of a field.
@@ -461,7 +479,7 @@ fn key_of(refused: Refused<'_>) -> Option<&str> {
         Refused::Depth => Some("holds"),
         Refused::Keys(..) | Refused::NoKey(..) => None,
         Refused::Value(slot, _) => match slot {
-            Slot::Memories | Slot::Known => Some("memory"),
+            Slot::Memories | Slot::Known { .. } => Some("memory"),
             Slot::Rules => Some("rule"),
             Slot::Name | Slot::SameName => Some("name"),
             Slot::Take => Some("take"),

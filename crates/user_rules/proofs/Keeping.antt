@@ -6,7 +6,7 @@ use Rattle.user_rules.specs.declared.memory.Cell.{Cell}
 use Rattle.user_rules.specs.declared.memory.Mark.{Mark}
 use Rattle.user_rules.specs.declared.memory.RuleMemory.{RuleMemory}
 use Rattle.user_rules.specs.Meets.{Valued}
-use Rattle.user_rules.specs.Memories.{cells_after, holder_of, kept_after_view, nothing, put, value_at, values_at}
+use Rattle.user_rules.specs.Memories.{cells_after, empty, holder_of, kept_after_view, mark_at, nothing, put, value_at, values_at}
 
 -- the cells before this one are of other holders, so what is kept for the holder is what the others say
 pub put_found : (cells : List Cell) (index holder : ℕ) (new : Mark) (cell : Cell) → index < length cells → (get_or cells index cell).holder ≡ holder
@@ -21,6 +21,23 @@ pub put_passed : (cells : List Cell) (index holder : ℕ) (new : Mark) (cell : C
 put_passed [] index holder new cell within apart = absurd (omega (arith, within))
 put_passed (first ∷ cells) zero holder new cell within apart = rw (ne_eqb first.holder holder apart) refl
 put_passed (first ∷ cells) (suc index) holder new cell within apart = ap (λ list. first ∷ list) (put_passed cells index holder new cell (omega (arith, within)) apart)
+
+-- the first cell of the holder has what is kept for it
+pub mark_found : (cells : List Cell) (index holder : ℕ) (cell : Cell) → index < length cells → (get_or cells index cell).holder ≡ holder
+    → mark_at (drop index cells) holder ≡ (get_or cells index cell).mark
+mark_found [] index holder cell within is = absurd (omega (arith, within))
+mark_found (first ∷ cells) zero holder cell within is = rw (eq-eqb first.holder holder is) refl
+mark_found (first ∷ cells) (suc index) holder cell within is = mark_found cells index holder cell (omega (arith, within)) is
+
+pub mark_passed : (cells : List Cell) (index holder : ℕ) (cell : Cell) → index < length cells → (get_or cells index cell).holder ≢ holder
+    → mark_at (drop (suc index) cells) holder ≡ mark_at (drop index cells) holder
+mark_passed [] index holder cell within apart = absurd (omega (arith, within))
+mark_passed (first ∷ cells) zero holder cell within apart = rw (ne_eqb first.holder holder apart) refl
+mark_passed (first ∷ cells) (suc index) holder cell within apart = mark_passed cells index holder cell (omega (arith, within)) apart
+
+-- after all cells, nothing is kept for the holder
+pub mark_missing : (cells : List Cell) (index holder : ℕ) → length cells ≤ index → mark_at (drop index cells) holder ≡ empty
+mark_missing cells index holder past = ap (λ list. mark_at list holder) (drop_all index cells past)
 
 -- without what memories have kept there are no values
 pub no_values : (memories : List RuleMemory) (view : View) → values_at memories [] view ≡ []

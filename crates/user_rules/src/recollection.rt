@@ -105,11 +105,12 @@ fn read_all(
     ensures { OnOk result (values.new.items ≡ values_at memories.now tracks.now view.now) }
 {
     values.clear();
+    values.reserve(memories.len())?;
     for number in 0..memories.len() {
         if number >= tracks.len() {
             return Ok(());
         }
-        values.push(tracks[number].value(&memories[number], view))?;
+        values.push_reserved(tracks[number].value(&memories[number], view));
     }
     Ok(())
 }

@@ -117,21 +117,16 @@ fn put_next(
     requires { met ≡ meets (trigger_of keeps.now) (with_values view.now values.now) }
     ensures { OnOk result (cells.new.items ≡ put cells.old.items holder (mark_after keeps.now (mark_at cells.old.items holder) (with_values view.now values.now))) }
 {
-    let mark = keeps.after(mark_at(cells, holder), view, values, met);
-    put(cells, holder, mark)
-}
-
-// Keeps this for a holder from now on. Returns the index of the holder's cell.
-fn put(cells: &mut Vec<Cell>, holder: usize, mark: Mark) -> Result<usize, AllocError>
-    ensures { OnOk result (cells.new.items ≡ put cells.old.items holder mark) }
-{
     let count = cells.len();
     'cells: for index in 0..count {
-        if cells[index].holder == holder {
+        let cell = cells[index];
+        if cell.holder == holder {
+            let mark = keeps.after(cell.mark, view, values, met);
             cells[index] = Cell { holder, mark };
             return Ok(index);
         }
     }
+    let mark = keeps.after(Mark::EMPTY, view, values, met);
     cells.push(Cell { holder, mark })?;
     Ok(count)
 }

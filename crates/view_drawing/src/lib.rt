@@ -1,14 +1,12 @@
 //! A run as it is shown: a stretch of it as a picture, the whole run as a trace, or its figures.
 //!
 //! Promises: the end is the answer of a check of what is ahead of the placer, or that the output could not be written, or that memory was
-//! refused. A picture draws the records that were accepted, in their order, from the pieces that the run has reached before them. No clause
-//! says what else a picture or a trace shows, or which figures are written; what is shown decides nothing.
+//! refused. No clause says what a picture or a trace shows, or which figures are written; what is shown decides nothing.
 #![tactic(auto)]
 
 mod counted;
 mod page;
 mod picture_witness;
-mod rows;
 mod traced;
 mod viewing;
 

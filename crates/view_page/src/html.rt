@@ -2,6 +2,7 @@
 
 use crate::classes::{classes_of_look, pattern_of};
 use crate::layout::{Layout, Strip};
+use crate::scale::Ticks;
 use crate::style::{DEFINITIONS, PAGE_STYLE, STYLE};
 use sink::Markup;
 use std::alloc::AllocError;
@@ -139,12 +140,27 @@ pub fn frame_heading(
         out.say(format_args!("A part of major frame {} by time", ticks.from / frame))?;
     }
     out.mark("</h2>\n<h3>")?;
-    out.say(format_args!(
-        "times {} to {} of the cores; a major frame has {frame} ticks",
-        ticks.from,
-        ticks.to.saturating_sub(1)
-    ))?;
+    tell_times(out, ticks)?;
+    out.say(format_args!("; a major frame has {frame} ticks"))?;
     out.mark("</h3>\n")
+}
+
+// The times of a part of a major frame.
+fn tell_times(out: &mut Markup, ticks: Ticks) -> Result<(), AllocError> {
+    let last = ticks.to.saturating_sub(1);
+    if ticks.from == last {
+        out.say(format_args!("time {last} of the cores"))
+    } else {
+        out.say(format_args!("times {} to {last} of the cores", ticks.from))
+    }
+}
+
+/// Begins the records of a lawful page with their heading, if there are any.
+pub fn records_heading(out: &mut Markup, picture: &Picture) -> Result<(), AllocError> {
+    if picture.len() == 0 {
+        return Ok(());
+    }
+    out.mark("<h2>The records</h2>\n")
 }
 
 /// Adds the figures of the records that were accepted, if there are any. Where the recording is lawful they are unfolded.
@@ -189,8 +205,11 @@ const KEY: [(Look, &str); 11] = [
     (Look::OtherMode, "a mode other than NORMAL"),
 ];
 
-/// Adds the key of the picture.
-pub fn tell_key(out: &mut Markup) -> Result<(), AllocError> {
+/// Adds the key of the picture, if it has records.
+pub fn tell_key(out: &mut Markup, picture: &Picture) -> Result<(), AllocError> {
+    if picture.len() == 0 {
+        return Ok(());
+    }
     out.mark("<ul class=\"key\">\n")?;
     for (look, text) in KEY {
         out.mark("<li><svg width=\"34\" height=\"18\" aria-hidden=\"true\"><g class=\"")?;
@@ -206,7 +225,19 @@ pub fn tell_key(out: &mut Markup) -> Result<(), AllocError> {
         out.mark("</li>\n")?;
     }
     out.mark(POINTS)?;
+    if has_named(picture) {
+        out.mark(NAMED)?;
+    }
+    out.mark(NUMBERS)?;
     out.mark("</ul>\n")
+}
+
+// Whether the explanation names the place of a record of the picture.
+fn has_named(picture: &Picture) -> bool {
+    picture
+        .columns()
+        .iter()
+        .any(|column| picture.is_named(column.place))
 }
 
 /// The key of the marks and arrows.
@@ -218,6 +249,14 @@ const POINTS: &str =
 <li><svg class=\"point\" width=\"18\" height=\"18\" aria-hidden=\"true\"><g class=\"mark tick\"><line x1=\"9\" x2=\"9\" y1=\"2\" y2=\"16\"/></g></svg>tick of a core</li>
 <li><svg width=\"34\" height=\"18\" aria-hidden=\"true\"><g class=\"arrow wake\"><path class=\"way\" d=\"m 3,9 l 25,0\"/></g></svg>ends a wait</li>
 <li><svg width=\"34\" height=\"18\" aria-hidden=\"true\"><g class=\"arrow message\"><path class=\"way\" d=\"m 3,9 l 25,0\"/></g></svg>a message, from its sender to its receiver</li>
-<li><svg width=\"34\" height=\"18\" aria-hidden=\"true\"><rect class=\"ground-named\" x=\"2\" y=\"2\" width=\"30\" height=\"14\"/></svg>a record whose place the explanation names</li>
-<li><code>0:1</code> is process 1 of partition 0</li>
+<li><svg width=\"34\" height=\"18\" aria-hidden=\"true\"><g class=\"mark restart\"><line x1=\"17\" x2=\"17\" y1=\"2\" y2=\"16\"/></g></svg>a restart of the partition</li>
+";
+
+/// The key of the ground of a record.
+const NAMED: &str =
+    "<li><svg width=\"34\" height=\"18\" aria-hidden=\"true\"><rect class=\"ground-named\" x=\"2\" y=\"2\" width=\"30\" height=\"14\"/></svg>a record whose place the explanation names</li>
+";
+
+/// The key of numbers with a colon.
+const NUMBERS: &str = "<li><code>0:1</code> is process 1 of partition 0</li>
 ";

@@ -353,13 +353,23 @@ pub const LONGEST_LABEL: usize = 30;
 
 // The height of the labels of the records, which are slanted.
 fn height_of_labels(picture: &Picture, strip: Strip) -> u64 {
-    let mut longest = 0usize;
+    let mut longest = 0u64;
     for column in strip.from..strip.to {
         if let Some(column) = picture.columns().get(column) {
-            if column.status.is_judged() {
-                longest = longest.max(column.label.len().min(LONGEST_LABEL));
-            }
+            longest = longest.max(height_of_label(column));
         }
     }
-    (longest as u64).saturating_mul(13).saturating_add(50) / 2
+    longest.saturating_add(25)
+}
+
+// How high the label of a record reaches. The one of a fault is bold, after its sign.
+fn height_of_label(column: &Column) -> u64 {
+    let letters = column.label.chars().count().min(LONGEST_LABEL) as u64;
+    if column.status.is_fault() {
+        letters.saturating_add(2).saturating_mul(8)
+    } else if column.status.is_judged() {
+        letters.saturating_mul(13) / 2
+    } else {
+        0
+    }
 }

@@ -10,6 +10,9 @@ use std::fmt::Display;
 /// The width of a character of a text, in pixels like all lengths here.
 pub const CHARACTER: u64 = 7;
 
+// The width of a capital, of which most names of modes and services are.
+const CAPITAL: u64 = 8;
+
 /// The free width beside the text of a bar, on both sides together and on the left, where the mark of a record can be.
 pub const INSIDE: u64 = 12;
 
@@ -130,6 +133,36 @@ fn tell_ends(out: &mut Markup, x: u64, top: u64, bottom: u64) -> Result<(), Allo
     out.mark("\" y2=\"")?;
     out.say(bottom)?;
     out.mark("\"/>")
+}
+
+// The width of a text.
+pub(crate) fn width_of_text(text: &str) -> u64 {
+    let mut width = 0u64;
+    for character in text.chars() {
+        width = width.saturating_add(width_of_character(character));
+    }
+    width
+}
+
+// How many of the first characters of a text have room in this width.
+pub(crate) fn count_within(text: &str, room: u64) -> usize {
+    let (mut count, mut width) = (0usize, 0u64);
+    for character in text.chars() {
+        width = width.saturating_add(width_of_character(character));
+        if width > room {
+            return count;
+        }
+        count = count.saturating_add(1);
+    }
+    count
+}
+
+fn width_of_character(character: char) -> u64 {
+    if character.is_ascii_uppercase() {
+        CAPITAL
+    } else {
+        CHARACTER
+    }
 }
 
 // A text, or its first characters if it has more than this many.

@@ -8,7 +8,7 @@ use crate::names::{begin_lane, tell_names};
 use crate::scale::Scale;
 use crate::shapes::{CHARACTER, Numbered, Shortened, tell_rect, tell_size, tell_text};
 use crate::strip_bars::{tell_bar_texts, tell_bars};
-use crate::strip_marks::{tell_arrow, tell_boxes, tell_points};
+use crate::strip_marks::{tell_arrows, tell_boxes, tell_points};
 use crate::style::{DEFINITIONS, STYLE};
 use crate::times::{tell_again, tell_bounds, tell_record, tell_slots, tell_times};
 use crate::wrapped::{longest, wrapped_lines};
@@ -224,9 +224,7 @@ fn tell_lanes(out: &mut Markup, picture: &Picture, layout: &Layout) -> Result<()
     }
     tell_bounds(out, picture, layout)?;
     tell_frames(out, picture, layout)?;
-    for arrow in picture.arrows().iter() {
-        tell_arrow(out, picture, layout, arrow)?;
-    }
+    tell_arrows(out, picture, layout)?;
     for row in layout.rows.iter() {
         if let Some(lane) = picture.lanes().get(row.lane) {
             begin_lane(out, lane)?;

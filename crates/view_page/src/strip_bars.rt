@@ -6,13 +6,15 @@ ghost use Rattle.sink.specs.Own.{is_own};
 use crate::classes::{classes_of_look, pattern_of};
 use crate::layout::{Layout, Sides};
 use crate::rows::{MARKS, Row};
-use crate::shapes::{BAND, BEFORE_TEXT, CHARACTER, Fitted, INSIDE, tell_box, tell_text};
+use crate::shapes::{
+    BAND, BEFORE_TEXT, CHARACTER, Fitted, INSIDE, count_within, tell_box, tell_text, width_of_text,
+};
 use sink::Markup;
 use std::alloc::AllocError;
 use view_picture::{Bar, Lane, LaneKey, Picture, Saying};
 
 /// The fewest characters of a text that are worth showing.
-const LEAST_ROOM: usize = 9;
+const LEAST_ROOM: u64 = 9 * CHARACTER;
 
 /// The height of a bar whose text is in the middle. The text of a higher bar is at its top, with marks below it.
 const TALL: u64 = 19;
@@ -134,7 +136,7 @@ fn tell_bar_text(
     let Some(Sides { left, right }) = ends_of(layout, lane, bar) else {
         return Ok(());
     };
-    let room = (right.saturating_sub(left).saturating_sub(INSIDE) / CHARACTER) as usize;
+    let room = right.saturating_sub(left).saturating_sub(INSIDE);
     let Some(text) = text_that_fits(&bar.saying, room) else {
         return Ok(());
     };
@@ -143,14 +145,16 @@ fn tell_bar_text(
         .y
         .saturating_add(places.height.min(TALL) / 2)
         .saturating_add(4);
-    let shown = text.chars().count().min(room) as u64;
-    let end = x.saturating_add(shown.saturating_mul(CHARACTER));
+    let end = x
+        .saturating_add(width_of_text(text).min(room))
+        .saturating_add(1);
     out.mark("<g class=\"")?;
     out.mark(classes_of_look(bar.saying.look))?;
     out.mark("\"><rect class=\"plate\" ")?;
     tell_box(out, x.saturating_sub(2), y.saturating_sub(9), end, 11)?;
     out.mark("/>")?;
-    tell_text(out, class_of_text(places.height), x, y, Fitted(text, room))?;
+    let shown = Fitted(text, count_within(text, room));
+    tell_text(out, class_of_text(places.height), x, y, shown)?;
     out.mark("</g>\n")
 }
 
@@ -161,15 +165,15 @@ fn class_of_text(height: u64) -> &'static str
     if height <= BAND { "said small" } else { "said" }
 }
 
-// The text of a bar that has room for this many characters: its text, the shorter one, or the beginning of its text.
-fn text_that_fits(saying: &Saying, room: usize) -> Option<&str> {
+// The text of a bar that has this much room: its text, the shorter one, or the beginning of its text.
+fn text_that_fits(saying: &Saying, room: u64) -> Option<&str> {
     let (text, brief) = (saying.text.as_str(), saying.brief.as_str());
-    if text.chars().count() <= room {
+    if width_of_text(text) <= room {
         Some(text)
+    } else if !brief.is_empty() && width_of_text(brief) <= room {
+        Some(brief)
     } else if room >= LEAST_ROOM {
         Some(text)
-    } else if !brief.is_empty() && brief.chars().count() <= room {
-        Some(brief)
     } else {
         None
     }

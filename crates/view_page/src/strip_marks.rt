@@ -64,7 +64,9 @@ fn tell_box_mark(
     );
     out.mark("<g class=\"")?;
     out.mark(classes_of_box(mark.kind))?;
-    out.mark("\"><rect ")?;
+    out.mark("\"><title>")?;
+    out.say(mark.text.as_str())?;
+    out.mark("</title><rect ")?;
     tell_box(
         out,
         left,
@@ -159,28 +161,49 @@ fn foot_of_partition(picture: &Picture, layout: &Layout, row: Row) -> u64 {
     foot
 }
 
-// An arrow, as far as it is in the strip.
-pub(crate) fn tell_arrow(
+// Arrows, as far as they are in the strip, over broader lines in the colour of the background. Those of all come first, so that none hides
+// the head of another arrow.
+pub(crate) fn tell_arrows(
     out: &mut Markup,
     picture: &Picture,
     layout: &Layout,
-    arrow: &Arrow,
 ) -> Result<(), AllocError> {
-    if !is_at(picture, layout, &arrow.from) && !is_at(picture, layout, &arrow.to) {
-        return Ok(());
+    for arrow in picture.arrows().iter() {
+        if let Some(way) = way_of(picture, layout, arrow) {
+            tell_halo(out, arrow, way)?;
+        }
     }
-    let (Some(from), Some(to)) = (
-        point_of(picture, layout, &arrow.from),
-        point_of(picture, layout, &arrow.to),
-    ) else {
-        return Ok(());
-    };
-    let kind = arrow.kind;
-    tell_way(out, arrow, Way { kind, from, to })
+    for arrow in picture.arrows().iter() {
+        if let Some(way) = way_of(picture, layout, arrow) {
+            tell_arrow(out, arrow, way)?;
+        }
+    }
+    Ok(())
+}
+
+// The path of an arrow, if a part of it is in the strip.
+fn way_of(picture: &Picture, layout: &Layout, arrow: &Arrow) -> Option<Way> {
+    if !is_at(picture, layout, &arrow.from) && !is_at(picture, layout, &arrow.to) {
+        return None;
+    }
+    Some(Way {
+        kind: arrow.kind,
+        from: point_of(picture, layout, &arrow.from)?,
+        to: point_of(picture, layout, &arrow.to)?,
+    })
+}
+
+// The line below an arrow along this path.
+fn tell_halo(out: &mut Markup, arrow: &Arrow, way: Way) -> Result<(), AllocError> {
+    out.mark("<g class=\"")?;
+    out.mark(classes_of_arrow(arrow.kind))?;
+    out.mark("\"><path class=\"halo\" d=\"")?;
+    out.say(way)?;
+    out.mark("\"/></g>\n")
 }
 
 // An arrow along this path.
-fn tell_way(out: &mut Markup, arrow: &Arrow, way: Way) -> Result<(), AllocError> {
+fn tell_arrow(out: &mut Markup, arrow: &Arrow, way: Way) -> Result<(), AllocError> {
     out.mark("<g class=\"")?;
     out.mark(classes_of_arrow(arrow.kind))?;
     out.mark("\"><title>")?;
@@ -189,9 +212,7 @@ fn tell_way(out: &mut Markup, arrow: &Arrow, way: Way) -> Result<(), AllocError>
         ": from place {} to place {}",
         arrow.from.place, arrow.to.place
     ))?;
-    out.mark("</title><path class=\"halo\" d=\"")?;
-    out.say(way)?;
-    out.mark("\"/><path class=\"way\" d=\"")?;
+    out.mark("</title><path class=\"way\" d=\"")?;
     out.say(way)?;
     out.mark("\"/></g>\n")
 }

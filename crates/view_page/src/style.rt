@@ -147,6 +147,7 @@ tr:target td { border-color: var(--fault); }
 .key { display: flex; flex-wrap: wrap; gap: 6px 16px; margin: 10px 0 18px; padding: 0; list-style: none; font-size: 12px; }
 .key svg { vertical-align: -5px; margin-right: 5px; }
 .key .point { background: var(--ground); border-radius: 3px; }
+.key .ground-named { stroke: var(--soft); }
 table { border-collapse: collapse; font-size: 13px; }
 caption { text-align: left; font-weight: 600; padding: 4px 0; }
 th, td { border: 1px solid var(--line); padding: 3px 7px; text-align: left; vertical-align: top; }

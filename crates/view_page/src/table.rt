@@ -6,8 +6,11 @@ use sink::Markup;
 use std::alloc::AllocError;
 use view_picture::{Column, Picture, Status};
 
-/// Begins the table.
-pub fn table_head(out: &mut Markup) -> Result<(), AllocError> {
+/// Begins the table, if there are records.
+pub fn table_head(out: &mut Markup, picture: &Picture) -> Result<(), AllocError> {
+    if picture.len() == 0 {
+        return Ok(());
+    }
     out.mark(
         "<h2>The same as a table</h2>\n<table>\n<caption>The records in their order, and what each changed</caption>\n<thead><tr><th scope=\"col\">Place</th><th scope=\"col\">Core</th><th scope=\"col\">Time</th><th scope=\"col\">Record</th><th scope=\"col\">What it changed</th><th scope=\"col\">File, line and row</th></tr></thead>\n<tbody>\n",
     )
@@ -23,9 +26,22 @@ pub fn tell_rows(out: &mut Markup, picture: &Picture, strip: Strip) -> Result<()
     Ok(())
 }
 
-/// Ends the table.
-pub fn table_foot(out: &mut Markup) -> Result<(), AllocError> {
+/// Ends the table, if there are records.
+pub fn table_foot(out: &mut Markup, picture: &Picture) -> Result<(), AllocError> {
+    if picture.len() == 0 {
+        return Ok(());
+    }
     out.mark("</tbody>\n</table>\n")
+}
+
+// That a record breaks a rule, and what it changed.
+fn tell_broken(out: &mut Markup, column: &Column) -> Result<(), AllocError> {
+    out.mark("breaks a rule")?;
+    if column.changes.is_empty() {
+        return Ok(());
+    }
+    out.mark("; ")?;
+    out.say(column.changes.as_str())
 }
 
 fn tell_row(out: &mut Markup, column: &Column) -> Result<(), AllocError> {
@@ -42,7 +58,8 @@ fn tell_row(out: &mut Markup, column: &Column) -> Result<(), AllocError> {
     out.say(column.words.as_str())?;
     out.mark("</td><td>")?;
     match column.status {
-        Status::Accepted | Status::Broken => out.say(column.changes.as_str())?,
+        Status::Accepted => out.say(column.changes.as_str())?,
+        Status::Broken => tell_broken(out, column)?,
         Status::Rejected => out.mark("rejected")?,
         Status::After => out.mark("not judged")?,
         Status::Beyond => out.mark("not shown")?,

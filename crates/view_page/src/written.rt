@@ -4,8 +4,8 @@ ghost use Rattle.view_page.specs.Sent.{Ends, taken_by};
 
 use crate::fault::PageFault;
 use crate::html::{
-    PageTexts, frame_heading, page_foot, page_head, strip_heading, tell_figures, tell_key,
-    tell_sizes,
+    PageTexts, frame_heading, page_foot, page_head, records_heading, strip_heading, tell_figures,
+    tell_key, tell_sizes,
 };
 use crate::layout::{Layout, Strip};
 use crate::scale::Scale;
@@ -90,10 +90,10 @@ fn write_lawful<W: Sink>(
     ensures { Ends result (taken_by W.bytes W.failures output.old) (taken_by W.bytes W.failures output.new) }
 {
     add_frame(out, picture)?;
-    tell_key(out)?;
+    tell_key(out, picture)?;
     tell_figures(out, texts)?;
     put(out, output)?;
-    out.mark("<h2>The records</h2>\n")?;
+    records_heading(out, picture)?;
     write_all(out, picture, scale, strips, output)
 }
 
@@ -122,7 +122,7 @@ fn write_strips<W: Sink>(
         return Ok(());
     };
     write_piece(out, picture, scale, *last, output)?;
-    tell_key(out)?;
+    tell_key(out, picture)?;
     if before.is_empty() {
         return Ok(());
     }
@@ -175,12 +175,12 @@ fn write_table<W: Sink>(
 ) -> Result<(), PageFault>
     ensures { Ends result (taken_by W.bytes W.failures output.old) (taken_by W.bytes W.failures output.new) }
 {
-    table_head(out)?;
+    table_head(out, picture)?;
     for strip in strips {
         tell_rows(out, picture, *strip)?;
         put(out, output)?;
     }
-    table_foot(out)?;
+    table_foot(out, picture)?;
     page_foot(out)?;
     put(out, output)
 }

@@ -1,5 +1,5 @@
 -- A text without a character that JSON escapes is a string between quotation marks as it is.
-use Rattle.std.proofs.Common.{◌≡◌, ℕ, suc, Bool, true, false, ◌||◌, ◌==◌, eqb, cond, List, [], ◌∷◌, ◌++◌, length, refl, ap, ◌∙◌, flat_map, arith}
+use Rattle.std.proofs.Common.{◌≡◌, ℕ, suc, Bool, true, false, ◌||◌, ◌==◌, List, [], ◌∷◌, length, refl, ap, flat_map, arith}
 use Rattle.std.specs.Prelude.{nat_lt}
 use Rattle.std.specs.List.{list_any}
 use Rattle.std.proofs.lemmas.Bool.{not-true, or_parts}

@@ -1,12 +1,16 @@
 // A text in words, which grows up to a bound.
 
 use crate::spelling::nearest;
-use std::alloc::Global;
+use std::alloc::{AllocError, Global};
 use std::fmt;
 use std::fmt::{Display, Write};
+use std::mem::replace;
 
 /// How many bytes a text may have before nothing more is added to it.
 const LONGEST: usize = 16_384;
+
+/// How many bytes of room a text and what is said begin with. Most have no more.
+const LEAST_ROOM: usize = 160;
 
 /// How many places are kept.
 const MOST_PLACES: usize = 8;
@@ -82,6 +86,8 @@ impl Look<'_> {
 pub struct Words {
     alloc: Global,
     text: String,
+    // The room for what is said, before it is added.
+    said: String,
     places: Vec<u64>,
     ended: bool,
     lacks_memory: bool,
@@ -93,6 +99,7 @@ impl Words {
         Words {
             alloc,
             text: String::new(alloc),
+            said: String::new(alloc),
             places: Vec::new(alloc),
             ended: false,
             lacks_memory: false,
@@ -101,15 +108,22 @@ impl Words {
 
     /// Adds these words.
     pub fn say(&mut self, words: impl Display + Drop) {
-        let Ok(said) = format!(in self.alloc; "{words}") else {
+        // The room of what was said last serves again.
+        let mut said = replace(&mut self.said, String::new(self.alloc));
+        said.clear();
+        if said.reserve(LEAST_ROOM).is_err() || write!(said, "{words}").is_err() {
             self.end_without_memory();
             return;
-        };
+        }
+        self.add_said(said.as_str());
+        self.said = said;
+    }
+
+    // Adds what is said. Its control characters are written as escapes.
+    fn add_said(&mut self, said: &str) {
         // Most words need no change, and are added at once.
-        if self.has_room_for(said.as_str())
-            && said.chars().all(|character| !character.is_control())
-        {
-            self.add(said.as_str());
+        if self.has_room_for(said) && is_shown_as_it_is(said) {
+            self.add_whole(said);
             return;
         }
         for character in said.chars() {
@@ -222,6 +236,21 @@ impl Words {
         self.add(format_args!("{MARK}{what}"));
     }
 
+    // Adds a text unchanged, as one piece.
+    fn add_whole(&mut self, text: &str) {
+        self.ended |= self.text.len() >= LONGEST;
+        if !self.ended && self.push(text).is_err() {
+            self.end_without_memory();
+        }
+    }
+
+    fn push(&mut self, text: &str) -> Result<(), AllocError> {
+        if self.text.is_empty() {
+            self.text.reserve(LEAST_ROOM)?;
+        }
+        self.text.push_str(text)
+    }
+
     // Adds a text unchanged.
     fn add(&mut self, text: impl Display + Drop) {
         self.ended |= self.text.len() >= LONGEST;
@@ -235,6 +264,13 @@ impl Words {
         self.ended = true;
         self.lacks_memory = true;
     }
+}
+
+// Whether no character of a text is a control character.
+fn is_shown_as_it_is(text: &str) -> bool {
+    let bytes = text.as_bytes();
+    bytes.iter().all(|byte| 0x20 <= *byte && *byte < 0x7F)
+        || text.chars().all(|character| !character.is_control())
 }
 
 /// The text of words, as it is shown.

@@ -2,10 +2,10 @@ use Rattle.std.proofs.Common.{◌≡◌, ◌⊎◌, inl, inr, refl}
 use Rattle.program_ends.specs.declared.ending.Ending.{Ending}
 use Rattle.program_ends.specs.declared.ending.Ending.TheVariants as ending
 use Rattle.program_ends.specs.Endings.{out_of_memory}
-use Rattle.apexcheck.specs.declared.ending.CheckEnd.{CheckEnd}
+use Rattle.check_result.specs.declared.ending.CheckEnd.{CheckEnd}
 use Rattle.apexcheck.specs.declared.files.OpenFault.{OpenFault}
 use Rattle.apexcheck.specs.declared.files.OpenFault.TheVariants.{Unopened, Memory}
-use Rattle.apexcheck.specs.Endings.{refusing}
+use Rattle.check_result.specs.Endings.{refusing}
 use Rattle.apexcheck.specs.Files.{ending_of}
 use Rattle.apexcheck.proofs.rows_alone.check_rows.Goals as goal
 

@@ -1,9 +1,15 @@
 -- What the record gives by one piece more each time.
-use Rattle.std.proofs.Common.{arith}
+use Rattle.std.proofs.Common.{◌++◌, ◌∙◌, ap, arith, sym}
 use Rattle.piece_check.specs.Parts.{Holding}
 use Rattle.run_numbers.specs.Run.{left_by}
 use Rattle.run_numbers.proofs.Added.{all_of, none_added, one_more}
+use Rattle.run_numbers.proofs.Left.{none_left}
 use Rattle.run_numbers.proofs.numbers.observe_left.Goals as goal
+
+pub returns-then-not-may_use : goal.returns-then-not-may_use
+returns-then-not-may_use c =
+    let none = sym c.may_use.ensures ∙ c.if-not-may_use.true in
+    none_added c.args.observed.now.items ∙ ap (λ list. c.args.observed.now.items ++ list) (sym (none_left c.args.ordered.now none c.args.pieces.now))
 
 pub loop-piece-init : goal.loop-piece-init
 loop-piece-init c = none_added c.args.observed.now.items

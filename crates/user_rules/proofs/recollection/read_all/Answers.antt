@@ -11,7 +11,7 @@ pub returns-then-number-tracks : goal.returns-then-number-tracks
 returns-then-number-tracks c =
     let past : length c.args.tracks.now ≤ c.loop-number.number = omega arith in
     let none = values_end c.args.memories.now c.args.view.now c.args.tracks.now c.loop-number.number past in
-    sym (append-nil c.loop-number.values.items) ∙ ap (λ rest. c.loop-number.values.items ++ rest) (sym none) ∙ c.loop-number.invariant
+    sym (append-nil c.loop-number.values.items) ∙ ap (λ rest. c.loop-number.values.items ++ rest) (sym none) ∙ c.loop-number.invariant.0
 
 pub loop-number-preserved : goal.loop-number-preserved
 loop-number-preserved c =
@@ -28,11 +28,13 @@ loop-number-preserved c =
     let one = c.value.ensures ∙ ap (λ one. value_at one track view) c.index-memories-number.is
     ∙ ap (λ cells. value_at (get_or memories number memory) cells view) c.index-tracks-number.is in
     let fits : SFits w64 c.value.result = search rules in
-    let pushed = simp to_z-of_z at c.in_ok-push.ensures.items in
-    ap (λ list. list ++ rest) pushed ∙ append_assoc values (c.value.result ∷ []) rest
-    ∙ ap (λ list. values ++ list) (ap (λ value. value ∷ rest) one ∙ sym more) ∙ c.loop-number.invariant
+    let pushed = simp to_z-of_z at c.push_reserved.ensures.items in (
+      ap (λ list. list ++ rest) pushed ∙ append_assoc values (c.value.result ∷ []) rest
+          ∙ ap (λ list. values ++ list) (ap (λ value. value ∷ rest) one ∙ sym more) ∙ c.loop-number.invariant.0,
+      omega (arith, c.loop-number.invariant.1, c.push_reserved.ensures.len, c.push_reserved.ensures.capacity),
+    )
 
 pub returns : goal.returns
 returns c =
     let none = values_whole c.args.memories.now c.args.view.now c.args.tracks.now c.loop-number.number c.loop-number-test.false in
-    sym (append-nil c.loop-number.values.items) ∙ ap (λ rest. c.loop-number.values.items ++ rest) (sym none) ∙ c.loop-number.invariant
+    sym (append-nil c.loop-number.values.items) ∙ ap (λ rest. c.loop-number.values.items ++ rest) (sym none) ∙ c.loop-number.invariant.0

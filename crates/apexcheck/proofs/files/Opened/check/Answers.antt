@@ -12,8 +12,8 @@ use Rattle.asked_rules.specs.declared.refusal.RulesRefusal.{RulesRefusal}
 use Rattle.asked_rules.specs.Options.{in_order}
 use Rattle.asked_rules.specs.Reading.{SaidFile, said_file, without_key}
 use Rattle.verdict_merge.specs.declared.verdict.Verdict.{Verdict}
-use Rattle.apexcheck.specs.declared.ending.CheckEnd.{CheckEnd}
-use Rattle.apexcheck.specs.Endings.{end_of_check, refusing}
+use Rattle.check_result.specs.declared.ending.CheckEnd.{CheckEnd}
+use Rattle.check_result.specs.Endings.{end_of_check, refusing}
 use Rattle.apexcheck.specs.Files.{given_of}
 use Rattle.asked_rules.specs.Asked.{rules_given, walk_given}
 use Rattle.apexcheck.specs.Ruled.{AnswersRuled, IsEndingBy, IsRuledEnding, where_asked}

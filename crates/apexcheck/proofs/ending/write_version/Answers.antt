@@ -1,4 +1,0 @@
-use Rattle.apexcheck.proofs.ending.write_version.Goals as goal
-
-pub returns-clause-whole : goal.returns-clause-whole
-returns-clause-whole g c = rw c.as_bytes.ensures.value at c.put_parts.ensures.whole
