@@ -1,5 +1,5 @@
 -- The values of memories, by what the cells have kept, are what the sentences say.
-use Rattle.std.proofs.Common.{◌≡◌, ◌≢◌, ◌⊎◌, ◌<◌, ◌∙◌, ℕ, ℤ, zero, suc, Bool, true, false, List, [], ◌∷◌, ◌++◌, Option, Some, None, get_or, if◌then◌else◌, length, nat_eq, arith, ap, append_assoc, eq-eqb, eqb-true, inl, inr, ne_eqb, refl, subst, sym, true≢false}
+use Rattle.std.proofs.Common.{◌≡◌, ◌≢◌, ◌⊎◌, ◌<◌, ◌∙◌, ℕ, ℤ, zero, suc, Bool, true, false, List, [], ◌∷◌, ◌++◌, Option, Some, None, get_or, if◌then◌else◌, length, nat_eq, ◌||◌, pos, arith, ap, append_assoc, eq-eqb, eqb-true, inl, inr, ne_eqb, refl, subst, sym, true≢false}
 use Rattle.std.proofs.lemmas.Bool.{cases_eq}
 use Rattle.std.proofs.lemmas.List.{append-nil}
 use Rattle.std.proofs.lemmas.List.Elements.{All-cons, All-nil, filter-append}
@@ -14,7 +14,7 @@ use Rattle.user_rules.specs.declared.memory.Mark.{Mark}
 use Rattle.user_rules.specs.declared.memory.RuleMemory.{RuleMemory}
 use Rattle.user_rules.specs.declared.relation.Relation.{Relation}
 use Rattle.user_rules.specs.Meets.{Valued, meets, value_of}
-use Rattle.user_rules.specs.Memories.{mark_after, mark_at, mark_of, cells_after, elapsed_since, empty, holder_of, kept_after_view, latest, nothing, put, value_at, value_in, values_at}
+use Rattle.user_rules.specs.Memories.{mark_after, mark_at, mark_of, cells_after, changes, elapsed_since, empty, holder_of, kept_after_view, latest, lowered, meets_given, nothing, put, raised, value_at, value_in, values_at}
 use Rattle.user_rules.specs.Remembered.{valued_after, valued_at}
 use Rattle.user_rules.specs.Sentences.{IsLast, IsLastMet, IsSince, IsValueOf, count_over, earlier_of, is_holder, views_of}
 use Rattle.user_rules.proofs.Firsts.{none_lacks}
@@ -149,6 +149,41 @@ put_elsewhere (cell ∷ cells) holder other new apart = by (nat_eq cell.holder h
         rw is (rw (ne_eqb holder other apart) (rw others refl))
     by false is rest = rw is (ap (λ mark. if nat_eq cell.holder other then cell.mark else mark) rest)
 
+or_none : (met : Bool) → (met || false) ≡ met
+or_none true = refl
+or_none false = refl
+
+-- a count stays where a view meets none of its relations
+uncounted : (met back reset : Bool) (mark : Mark) → (met || back || reset) ≡ false
+    → record { number = if reset then pos 0 else lowered back (raised met mark.number); met = mark.met || met } ≡ mark
+uncounted false false false mark none = ap (λ met. record { number = mark.number; met = met }) (or_none mark.met)
+uncounted false false true mark none = cc
+uncounted false true reset mark none = cc
+uncounted true back reset mark none = cc
+
+-- a view that changes nothing leaves what is kept
+unchanged : (keeps : Keeps) (mark : Mark) (one : Valued) → changes keeps one ≡ false → mark_after keeps mark one ≡ mark
+unchanged (Since relation) mark one not = ap (latest mark one.view.time) not
+unchanged (Last relation field) mark one not = ap (latest mark (field_of one.view field)) not
+unchanged (Count counted) mark one not = uncounted (meets counted.relation one) (meets_given counted.back one) (meets_given counted.reset one) mark not
+
+-- what is kept for the holder of a view after it
+after_here : (keeps : Keeps) (cells : List Cell) (own : ℕ) (one : Valued) → mark_at (cells_after keeps cells (Some own) one) own ≡ mark_after keeps (mark_at cells own) one
+after_here keeps cells own one = by (changes keeps one) refl
+  where
+    by : (change : Bool) → changes keeps one ≡ change
+        → mark_at (if change then put cells own (mark_after keeps (mark_at cells own) one) else cells) own ≡ mark_after keeps (mark_at cells own) one
+    by true is = put_here cells own (mark_after keeps (mark_at cells own) one)
+    by false is = sym (unchanged keeps (mark_at cells own) one is)
+
+-- what is kept for others
+after_elsewhere : (keeps : Keeps) (cells : List Cell) (own other : ℕ) (one : Valued) → own ≢ other → mark_at (cells_after keeps cells (Some own) one) other ≡ mark_at cells other
+after_elsewhere keeps cells own other one apart = by (changes keeps one)
+  where
+    by : (change : Bool) → mark_at (if change then put cells own (mark_after keeps (mark_at cells own) one) else cells) other ≡ mark_at cells other
+    by true = put_elsewhere cells own other (mark_after keeps (mark_at cells own) one) apart
+    by false = refl
+
 -- a memory has kept the views of each holder
 abbrev HasKept : RuleMemory → List Cell → List Valued → Type 0
 HasKept memory cells before = (holder : ℕ) → mark_at cells holder ≡ mark_over memory.keeps empty (views_of memory.per holder before)
@@ -182,14 +217,14 @@ one_more memory cells before one kept holder = by (holder_of memory.per one.view
     by (Some own) is = elim (cases_eq own holder) [
       | inl same ↦
           let mine : nat_eq own holder ≡ true = eq-eqb own holder same in
-          ap (λ other. mark_at (put cells own (mark_after memory.keeps (mark_at cells own) one)) other) (sym same)
-          ∙ put_here cells own (mark_after memory.keeps (mark_at cells own) one)
+          ap (λ other. mark_at (cells_after memory.keeps cells (Some own) one) other) (sym same)
+          ∙ after_here memory.keeps cells own one
           ∙ ap (λ cell. mark_after memory.keeps cell one) (kept own ∙ ap (λ other. mark_over memory.keeps empty (views_of memory.per other before)) same)
           ∙ sym (over_more memory.keeps empty (views_of memory.per holder before) one)
           ∙ ap (mark_over memory.keeps empty) (sym (views_more memory holder before one true (ap (is_holder holder) is ∙ mine)))
       | inr apart ↦
           let others : nat_eq own holder ≡ false = ne_eqb own holder apart in
-          put_elsewhere cells own holder (mark_after memory.keeps (mark_at cells own) one) apart
+          after_elsewhere memory.keeps cells own holder one apart
           ∙ kept holder ∙ ap (mark_over memory.keeps empty) (sym (append-nil (views_of memory.per holder before)))
           ∙ ap (mark_over memory.keeps empty) (sym (views_more memory holder before one false (ap (is_holder holder) is ∙ others)))
     ]

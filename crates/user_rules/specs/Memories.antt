@@ -88,7 +88,13 @@ mark_after (Since relation) mark valued = latest mark valued.view.time (meets re
 mark_after (Count counted) mark valued = record { number = counted_after counted mark.number valued; met = mark.met || meets counted.relation valued }
 mark_after (Last relation field) mark valued = latest mark (field_of valued.view field) (meets relation valued)
 
--- what is kept for all holders: a cell for each that has had a view, in the order of their first views
+-- whether a view changes what is kept: it meets the relation; or it takes from the count
+abbrev pub changes : Keeps → Valued → Bool
+changes (Since relation) valued = meets relation valued
+changes (Count counted) valued = meets counted.relation valued || meets_given counted.back valued || meets_given counted.reset valued
+changes (Last relation field) valued = meets relation valued
+
+-- what is kept for all holders: a cell for each that has had a view which changes what is kept, in the order of the first of these views
 
 -- what is kept for a holder
 abbrev pub mark_at : List Cell → ℕ → Mark
@@ -112,7 +118,8 @@ value_at memory cells view = value_in memory.keeps (mark_of cells (holder_of mem
 -- what a memory keeps after a view of this holder
 abbrev pub cells_after : Keeps → List Cell → Option ℕ → Valued → List Cell
 cells_after keeps cells None valued = cells
-cells_after keeps cells (Some holder) valued = put cells holder (mark_after keeps (mark_at cells holder) valued)
+cells_after keeps cells (Some holder) valued =
+    if changes keeps valued then put cells holder (mark_after keeps (mark_at cells holder) valued) else cells
 
 -- all memories
 

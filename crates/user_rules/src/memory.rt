@@ -3,7 +3,7 @@
 ghost use Rattle.std.specs.Prelude.{◌≡◌, ◌≤◌, ◌^◌};
 ghost use Rattle.apex_types.specs.declared.limits.TheConstants.{GREATEST_NUMBER, MOST_CORES, MOST_PARTITIONS};
 ghost use Rattle.user_rules.specs.Meets.{meets, with_values};
-ghost use Rattle.user_rules.specs.Memories.{mark_after, counted_after, elapsed_since, holder_of, latest, meets_given, number_below, trigger_of, value_in};
+ghost use Rattle.user_rules.specs.Memories.{mark_after, changes, counted_after, elapsed_since, holder_of, latest, meets_given, number_below, trigger_of, value_in};
 
 use crate::relation::Relation;
 use apex_types::limits::{GREATEST_NUMBER, MOST_CORES, MOST_PARTITIONS};
@@ -133,6 +133,19 @@ impl Keeps {
             }
             Keeps::Count(_) => mark.number,
             Keeps::Last(_, _) => { if mark.met { mark.number } else { NEVER } }
+        }
+    }
+
+    /// Whether a view changes what is kept, which has met the relation or has not. Takes no memory.
+    pub(crate) fn is_changed_by(&self, view: &View, values: &[i64], met: bool) -> bool
+        requires { met ≡ meets (trigger_of self.now) (with_values view.now values.now) }
+        ensures { result ≡ changes self.now (with_values view.now values.now) }
+    {
+        match self {
+            Keeps::Count(counted) => {
+                met || is_met(&counted.back, view, values) || is_met(&counted.reset, view, values)
+            }
+            Keeps::Since(_) | Keeps::Last(_, _) => met,
         }
     }
 

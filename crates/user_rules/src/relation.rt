@@ -1,6 +1,6 @@
 // What a user's rule says of a view.
 
-ghost use Rattle.std.specs.Prelude.{◌≡◌, IfOk};
+ghost use Rattle.std.specs.Prelude.{◌≡◌, ◌&&◌, ◌||◌, IfOk};
 ghost use Rattle.user_rules.specs.Meets.{MeansTheSame, meets, with_values};
 
 use crate::quantity::Quantity;
@@ -29,6 +29,9 @@ pub enum Relation {
 impl Relation {
     /// Whether a view meets the relation, with these values of the memories at it. Takes no memory; each level of a relation takes a
     /// little of the stack.
+    // A comparison is met more often than all others, and needs no call.
+    #[inline(always)]
+    #[cycle(holds)]
     pub fn holds(&self, view: &View, values: &[i64]) -> bool
         ensures { result ≡ meets self.now (with_values view.now values.now) }
     {
@@ -36,11 +39,32 @@ impl Relation {
             Relation::Less(left, right) => left.of(view, values) < right.of(view, values),
             Relation::Equal(left, right) => left.of(view, values) == right.of(view, values),
             Relation::Greater(left, right) => left.of(view, values) > right.of(view, values),
-            Relation::And(left, right) => left.holds(view, values) && right.holds(view, values),
-            Relation::Or(left, right) => left.holds(view, values) || right.holds(view, values),
-            Relation::Not(negated) => !negated.holds(view, values),
+            Relation::And(left, right) => both_hold(left, right, view, values),
+            Relation::Or(left, right) => one_holds(left, right, view, values),
+            Relation::Not(negated) => !part_holds(negated, view, values),
         }
     }
+}
+
+#[cycle(holds)]
+fn both_hold(left: &Relation, right: &Relation, view: &View, values: &[i64]) -> bool
+    ensures { result ≡ (meets left.now (with_values view.now values.now) && meets right.now (with_values view.now values.now)) }
+{
+    left.holds(view, values) && right.holds(view, values)
+}
+
+#[cycle(holds)]
+fn one_holds(left: &Relation, right: &Relation, view: &View, values: &[i64]) -> bool
+    ensures { result ≡ (meets left.now (with_values view.now values.now) || meets right.now (with_values view.now values.now)) }
+{
+    left.holds(view, values) || right.holds(view, values)
+}
+
+#[cycle(holds)]
+fn part_holds(relation: &Relation, view: &View, values: &[i64]) -> bool
+    ensures { result ≡ meets relation.now (with_values view.now values.now) }
+{
+    relation.holds(view, values)
 }
 
 impl Clone for Relation {

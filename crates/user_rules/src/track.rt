@@ -74,10 +74,13 @@ impl Track {
     ) -> Result<(), AllocError>
         ensures { OnOk result (self.new ≡ cells_after memory.now.keeps self.old (holder_of memory.now.per view.now) (with_values view.now values.now)) }
     {
+        let met = memory.keeps.is_met(view, values);
+        if !memory.keeps.is_changed_by(view, values, met) {
+            return Ok(());
+        }
         let Some(holder) = memory.per.holder(view) else {
             return Ok(());
         };
-        let met = memory.keeps.is_met(view, values);
         let index = put_next(&mut self.cells, holder, &memory.keeps, view, values, met)?;
         keep_place(&mut self.places, index, met, place)
     }
