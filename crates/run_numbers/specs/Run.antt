@@ -2,7 +2,7 @@
 use Rattle.std.specs.Prelude.{ℕ, Bool, true, false, List, [], ◌∷◌}
 use Rattle.std.specs.List.{flat_map}
 use Rattle.apex_types.specs.declared.record.Body.{Body}
-use Rattle.apex_types.specs.declared.record.Body.TheVariants.{Arrive, Call, Depart}
+use Rattle.apex_types.specs.declared.record.Body.TheVariants.{Arrive, Call, Depart, Ret}
 use Rattle.apex_types.specs.declared.record.Ordered.{Ordered}
 use Rattle.apex_machine.specs.Configuration.{Configuration}
 use Rattle.apex_machine.specs.Pieces.{ChannelPart, ModulePart, Part, PartitionPart}
@@ -26,6 +26,11 @@ observed_of configuration (ModulePart cores) ordered = observed_of_cores configu
 observed_of configuration (PartitionPart number cores partition) ordered =
     observed_of_partition number cores ordered.core partition ordered.rec.body
 observed_of configuration (ChannelPart number times channel) ordered = used number times channel ordered.core ordered.rec.body
+
+-- whether a record is a return
+abbrev pub is_return : Body → Bool
+is_return (Ret ret) = true
+is_return other = false
 
 -- whether a record may use an object or a channel
 abbrev pub may_use : Body → Bool

@@ -2,7 +2,7 @@
 
 ghost use Rattle.std.specs.Prelude.{◌≡◌, ◌+◌, ◌++◌, [], List, OnOk};
 ghost use Rattle.run_numbers.specs.Names.{name_in, name_noted};
-ghost use Rattle.run_numbers.specs.Run.{ahead_of, left_by, may_use, names_of, observed_after, observed_before, observed_of, placed_after, records_of, tallies_of};
+ghost use Rattle.run_numbers.specs.Run.{ahead_of, is_return, left_by, may_use, names_of, observed_after, observed_before, observed_of, placed_after, records_of, tallies_of};
 ghost use Rattle.run_numbers.specs.Tallies.{AreOf, Placed, capped};
 ghost use Rattle.run_numbers.specs.declared.names.Named.{Named as Key};
 
@@ -127,6 +127,9 @@ fn observe_met(
 ) -> Result<(), AllocError>
     ensures { OnOk result (observed.new.items ≡ observed.old.items ++ observed_before config.now pieces.now ordered.now) }
 {
+    if is_return(&ordered.rec.body) {
+        return Ok(());
+    }
     for piece in pieces {
         observe_before(observed, config, piece, ordered)?;
     }
@@ -149,6 +152,13 @@ fn observe_left(
         observe_after(observed, piece, ordered)?;
     }
     Ok(())
+}
+
+// Whether a record is a return, which gives nothing by what is held before it.
+fn is_return(body: &Body) -> bool
+    ensures { result ≡ is_return body.now }
+{
+    matches!(body, Body::Ret(_))
 }
 
 // Whether a record may use an object or a channel.

@@ -1,9 +1,16 @@
 -- What the record gives by one piece more each time.
-use Rattle.std.proofs.Common.{arith}
+use Rattle.std.proofs.Common.{◌++◌, ◌∙◌, ap, arith, sym}
 use Rattle.piece_check.specs.Parts.{Holding}
 use Rattle.run_numbers.specs.Run.{observed_of}
 use Rattle.run_numbers.proofs.Added.{all_of, none_added, one_more}
+use Rattle.run_numbers.proofs.Left.{none_before}
 use Rattle.run_numbers.proofs.numbers.observe_met.Goals as goal
+
+pub returns-then-is_return : goal.returns-then-is_return
+returns-then-is_return c =
+    let is = sym c.is_return.ensures ∙ c.if-is_return.true in
+    none_added c.args.observed.now.items
+    ∙ ap (λ list. c.args.observed.now.items ++ list) (sym (none_before c.args.config.now c.args.ordered.now is c.args.pieces.now))
 
 pub loop-piece-init : goal.loop-piece-init
 loop-piece-init c = none_added c.args.observed.now.items
