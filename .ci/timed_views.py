@@ -7,19 +7,7 @@ what a record does must be drawn where the record is.
 import re
 from collections import Counter, defaultdict
 
-SVG = "{http://www.w3.org/2000/svg}"
-
-
-def of_class(tree, *wanted):
-    return [element for element in tree.iter() if set(wanted) <= set(element.get("class", "").split())]
-
-
-def texts(element):
-    return "".join(element.itertext())
-
-
-def elements(tree, name):
-    return [element for element in tree.iter() if element.tag in (name, SVG + name)]
+from view_form import SVG, elements, of_class, texts
 
 
 def times_of(records):

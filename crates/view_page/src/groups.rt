@@ -100,6 +100,11 @@ pub(crate) fn is_in(picture: &Picture, strip: Strip, group: &Group, lane: &Lane)
     }
 }
 
+/// Whether a page shows a lane: in one of its strips, or with what a fault touches.
+pub(crate) fn is_shown(picture: &Picture, lane: &Lane) -> bool {
+    is_in(picture, ALL, &Group::InPicture, lane) || is_in(picture, ALL, &Group::Touched, lane)
+}
+
 /// How many lanes are in this group of a strip.
 pub(crate) fn count_in(picture: &Picture, strip: Strip, group: &Group) -> usize {
     picture

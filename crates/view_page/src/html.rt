@@ -1,12 +1,11 @@
 // The page around a picture.
 
-use crate::classes::{classes_of_look, pattern_of};
 use crate::layout::{Layout, Strip};
 use crate::scale::Ticks;
 use crate::style::{DEFINITIONS, PAGE_STYLE, STYLE};
 use sink::Markup;
 use std::alloc::AllocError;
-use view_picture::{Column, Look, Picture};
+use view_picture::{Column, Picture};
 
 /// What a page says in addition to its picture.
 #[derive(Clone, Copy)]
@@ -183,80 +182,3 @@ pub fn tell_figures(out: &mut Markup, texts: &PageTexts<'_>) -> Result<(), Alloc
 pub fn page_foot(out: &mut Markup) -> Result<(), AllocError> {
     out.mark("</body>\n</html>\n")
 }
-
-/// What the key of the picture says of each look.
-const KEY: [(Look, &str); 11] = [
-    (Look::Running, "runs on a core"),
-    (Look::Raised, "runs with a priority above its own"),
-    (Look::Ready, "ready"),
-    (
-        Look::Preempted,
-        "ready, and preempted: another process took its core",
-    ),
-    (Look::Waiting, "waits"),
-    (Look::Suspended, "suspended by another process"),
-    (
-        Look::Faulted,
-        "faulted: the error handler has not dealt with its error",
-    ),
-    (Look::Dormant, "dormant"),
-    (Look::Free, "object or channel"),
-    (Look::Awaited, "object or channel at which processes wait"),
-    (Look::OtherMode, "a mode other than NORMAL"),
-];
-
-/// Adds the key of the picture, if it has records.
-pub fn tell_key(out: &mut Markup, picture: &Picture) -> Result<(), AllocError> {
-    if picture.len() == 0 {
-        return Ok(());
-    }
-    out.mark("<ul class=\"key\">\n")?;
-    for (look, text) in KEY {
-        out.mark("<li><svg width=\"34\" height=\"18\" aria-hidden=\"true\"><g class=\"")?;
-        out.mark(classes_of_look(look))?;
-        out.mark("\"><rect class=\"fill\" x=\"2\" y=\"2\" width=\"30\" height=\"14\"/>")?;
-        if let Some(pattern) = pattern_of(look) {
-            out.mark("<rect class=\"pattern\" fill=\"")?;
-            out.mark(pattern)?;
-            out.mark("\" x=\"2\" y=\"2\" width=\"30\" height=\"14\"/>")?;
-        }
-        out.mark("</g></svg>")?;
-        out.say(text)?;
-        out.mark("</li>\n")?;
-    }
-    out.mark(POINTS)?;
-    if has_named(picture) {
-        out.mark(NAMED)?;
-    }
-    out.mark(NUMBERS)?;
-    out.mark("</ul>\n")
-}
-
-// Whether the explanation names the place of a record of the picture.
-fn has_named(picture: &Picture) -> bool {
-    picture
-        .columns()
-        .iter()
-        .any(|column| picture.is_named(column.place))
-}
-
-/// The key of the marks and arrows.
-const POINTS: &str =
-    "<li><svg class=\"point\" width=\"18\" height=\"18\" aria-hidden=\"true\"><g class=\"mark call\"><circle cx=\"9\" cy=\"9\" r=\"4\"/></g></svg>call</li>
-<li><svg class=\"point\" width=\"18\" height=\"18\" aria-hidden=\"true\"><g class=\"mark return\"><circle cx=\"9\" cy=\"9\" r=\"4\"/></g></svg>return</li>
-<li><svg class=\"point\" width=\"18\" height=\"18\" aria-hidden=\"true\"><g class=\"mark error\"><circle cx=\"9\" cy=\"9\" r=\"4\"/></g></svg>error</li>
-<li><svg class=\"point\" width=\"18\" height=\"18\" aria-hidden=\"true\"><g class=\"mark dispatch\"><path d=\"m 5,3 l 9,6 l -9,6 z\"/></g></svg>dispatch</li>
-<li><svg class=\"point\" width=\"18\" height=\"18\" aria-hidden=\"true\"><g class=\"mark tick\"><line x1=\"9\" x2=\"9\" y1=\"2\" y2=\"16\"/></g></svg>tick of a core</li>
-<li><svg width=\"34\" height=\"18\" aria-hidden=\"true\"><g class=\"arrow wake\"><path class=\"way\" d=\"m 3,9 l 25,0\"/></g></svg>ends a wait</li>
-<li><svg width=\"34\" height=\"18\" aria-hidden=\"true\"><g class=\"arrow message\"><path class=\"way\" d=\"m 3,9 l 25,0\"/></g></svg>a message, from its sender to its receiver</li>
-<li><svg width=\"34\" height=\"18\" aria-hidden=\"true\"><g class=\"mark restart\"><line x1=\"17\" x2=\"17\" y1=\"2\" y2=\"16\"/></g></svg>a restart of the partition</li>
-";
-
-/// The key of the ground of a record.
-const NAMED: &str =
-    "<li><svg width=\"34\" height=\"18\" aria-hidden=\"true\"><rect class=\"ground-named\" x=\"2\" y=\"2\" width=\"30\" height=\"14\"/></svg>a record whose place the explanation names</li>
-";
-
-/// The key of numbers with a colon.
-const NUMBERS: &str = "<li><code>0:1</code> is process 1 of partition 0</li>
-";

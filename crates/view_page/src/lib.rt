@@ -12,6 +12,7 @@ mod fault;
 mod frames;
 mod groups;
 mod html;
+mod key;
 mod layout;
 mod names;
 mod rows;

@@ -28,6 +28,11 @@ const BEFORE_ANSWER: u64 = 8;
 /// The width of the longest label of a record, with its sign.
 const LABEL_WIDTH: u64 = (LONGEST_LABEL as u64 + 2) * CHARACTER;
 
+/// How much of a strip is shown first: before the left edge of a fault, beside the names of the lanes, and from this edge on.
+const BEFORE_FAULT: u64 = 26;
+
+const FROM_FAULT: u64 = 176;
+
 /// Begins a picture by itself, with these strips one below the other.
 pub fn svg_head(
     out: &mut Markup,
@@ -160,9 +165,9 @@ pub fn tell_elsewhere(
 
 // Begins the box of a page in which a strip scrolls sideways: the names of its lanes, which stay, and the strip up to its title.
 fn begin_box(out: &mut Markup, picture: &Picture, layout: &Layout) -> Result<(), AllocError> {
-    out.mark(
-        "<div class=\"scrolled\" tabindex=\"0\"><div class=\"beside\">\n<svg class=\"strip names\"",
-    )?;
+    out.mark("<div class=\"scrolled\" tabindex=\"0\"><div class=\"beside\">\n")?;
+    tell_target(out, picture, layout)?;
+    out.mark("<svg class=\"strip names\"")?;
     tell_size(out, 0, LABELS, layout.height)?;
     out.mark(">\n<rect class=\"paper\" width=\"100%\" height=\"100%\"/>\n")?;
     tell_names(out, picture, layout)?;
@@ -176,6 +181,34 @@ fn begin_box(out: &mut Markup, picture: &Picture, layout: &Layout) -> Result<(),
     out.mark(" role=\"img\">\n<title>")?;
     tell_places(out, picture, layout.strip)?;
     out.mark("; the table below says the same</title>\n")
+}
+
+// Adds what is shown first of a strip that has a record that is rejected or breaks a rule: its box begins scrolled there.
+fn tell_target(out: &mut Markup, picture: &Picture, layout: &Layout) -> Result<(), AllocError> {
+    let Some(Sides { left, right }) = target_of(picture, layout) else {
+        return Ok(());
+    };
+    out.mark("<div class=\"to-fault\"><svg width=\"")?;
+    out.say(left)?;
+    out.mark("\" height=\"1\"></svg><svg class=\"target\" width=\"")?;
+    out.say(right.saturating_sub(left))?;
+    out.mark("\" height=\"1\"></svg></div>\n")
+}
+
+// What is shown first of a strip that has such a record: the record, and to its left the names of the lanes, which cover as much of the box.
+fn target_of(picture: &Picture, layout: &Layout) -> Option<Sides> {
+    for index in layout.strip.from..layout.strip.to {
+        if let Some(column) = picture.columns().get(index) {
+            if column.status.is_fault() {
+                let left = layout.sides(column, index).left;
+                return Some(Sides {
+                    left: left.saturating_sub(LABELS + BEFORE_FAULT),
+                    right: left.saturating_add(FROM_FAULT).min(layout.width),
+                });
+            }
+        }
+    }
+    None
 }
 
 // Ends that box.

@@ -115,7 +115,7 @@ pub const DEFINITIONS: &str = "<defs>
 </defs>
 ";
 
-/// The style of a page. In a narrow one, each row of the table is a card.
+/// The style of a page. In a narrow one, each row of the table is a card, and a strip is first shown at its fault, beside the names of the lanes.
 pub const PAGE_STYLE: &str = "
 .page { --ink: #14181d; --paper: #ffffff; --soft: #57616b; --ground: #f1f3f5; --line: #c3cad1; --fault: #b84300; --right: #00684b; color-scheme: light dark; }
 @media screen and (prefers-color-scheme: dark) { .page { --ink: #e9edf1; --paper: #14181d; --soft: #a3adb8; --ground: #20262d; --line: #46505b; --fault: #ff9a57; --right: #4fd0a5; } }
@@ -125,14 +125,17 @@ h2 { font-size: 17px; margin: 22px 0 6px; }
 h3 { font-size: 14px; margin: 0 0 2px; color: var(--soft); font-weight: 600; }
 p { margin: 0; overflow-wrap: anywhere; }
 code, pre { font: 13px/1.45 ui-monospace, 'DejaVu Sans Mono', monospace; }
-pre { margin: 8px 0; padding: 10px 12px; border-left: 4px solid var(--fault); background: var(--ground); white-space: pre-wrap; overflow-wrap: anywhere; }
+pre { margin: 8px 0; padding: 10px 12px; border-left: 4px solid var(--fault); background: var(--ground); white-space: pre-wrap; overflow-wrap: anywhere; text-indent: 6ch hanging each-line; }
 .lawful-run pre { border-left-color: var(--right); }
 .figures pre { border-left-color: var(--line); }
 .strips { display: flex; flex-wrap: wrap; gap: 14px 18px; align-items: flex-start; }
 .piece { max-width: 100%; }
 .strip { display: block; flex: none; }
 .scrolled { overflow-x: auto; }
-.beside { display: flex; width: max-content; }
+.beside { display: flex; width: max-content; position: relative; }
+.to-fault { display: flex; position: absolute; left: 0; top: 0; visibility: hidden; }
+.to-fault svg { flex: none; }
+.target { scroll-initial-target: nearest; }
 .names { position: sticky; left: 0; z-index: 1; }
 .elsewhere { margin: 8px 0 0; color: var(--soft); font-size: 13px; }
 summary { cursor: pointer; }
@@ -147,7 +150,7 @@ tr:target td { border-color: var(--fault); }
 .key { display: flex; flex-wrap: wrap; gap: 6px 16px; margin: 10px 0 18px; padding: 0; list-style: none; font-size: 12px; }
 .key svg { vertical-align: -5px; margin-right: 5px; }
 .key .point { background: var(--ground); border-radius: 3px; }
-.key .ground-named { stroke: var(--soft); }
+.key .ground-named, .key .ground-after { stroke: var(--soft); }
 table { border-collapse: collapse; font-size: 13px; }
 caption { text-align: left; font-weight: 600; padding: 4px 0; }
 th, td { border: 1px solid var(--line); padding: 3px 7px; text-align: left; vertical-align: top; }

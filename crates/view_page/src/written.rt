@@ -5,8 +5,9 @@ ghost use Rattle.view_page.specs.Sent.{Ends, taken_by};
 use crate::fault::PageFault;
 use crate::html::{
     PageTexts, frame_heading, page_foot, page_head, records_heading, strip_heading, tell_figures,
-    tell_key, tell_sizes,
+    tell_sizes,
 };
+use crate::key::tell_key;
 use crate::layout::{Layout, Strip};
 use crate::scale::Scale;
 use crate::strip::{svg_foot, svg_head, tell_elsewhere, tell_frame, tell_near, tell_strip};

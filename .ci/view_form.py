@@ -1,0 +1,150 @@
+"""What is wrong with a page or a picture of apexview, by the records that it shows and the line of their check."""
+import re
+import xml.etree.ElementTree as ET
+
+SVG = "{http://www.w3.org/2000/svg}"
+# The width of the names of lanes, and what is shown first of a strip to the left and to the right of where a fault begins.
+NAMES, BEFORE_FAULT, FROM_FAULT = 186, 26, 176
+
+
+def texts(element):
+    return "".join(element.itertext())
+
+
+def classes(element):
+    return element.get("class", "").split()
+
+
+def elements(tree, name):
+    """The elements of a name, in a page or in a picture."""
+    return [element for element in tree.iter() if element.tag in (name, SVG + name)]
+
+
+def of_class(tree, *wanted):
+    return [element for element in tree.iter() if set(wanted) <= set(classes(element))]
+
+
+def name_of(lane):
+    """The whole name of a lane, which a person sees who points at it."""
+    return texts(elements(lane, "title")[0])
+
+
+def page_of(text):
+    """A page as a tree. Its type is the one line that is no XML."""
+    return ET.fromstring(text.replace("<!DOCTYPE html>\n", "", 1))
+
+
+def faults_of_marks(tree, wanted, last, line):
+    """What is wrong with the records of a picture, which must be at these places, the last of them that is judged at this one."""
+    marked = {int(element.get("data-place")): classes(element) for element in of_class(tree, "record")}
+    if sorted(marked) != wanted:
+        return f"the places of its picture are {sorted(marked)}"
+    for number in wanted:
+        status = "accepted" if number < last or "place=" not in line else "after" if number > last else \
+            "broken" if "rule=" in line else "rejected"
+        if status not in marked[number]:
+            return f"place {number} is {marked[number]}, not {status}"
+    return ""
+
+
+def faults_of_named(tree, last, explained):
+    """Whether the accepted records whose places the explanation names, and no others, have the ground of such records. Lanes that are
+    folded have it too."""
+    named = {int(place) for place in re.findall(r"^ +place (\d+) is ", explained, re.MULTILINE)}
+    lefts = {int(record.get("data-place")): rect.get("x") for record in of_class(tree, "record") for rect in of_class(record, "hit")}
+    wanted = {lefts[place] for place in named if place in lefts and place < last}
+    found = {ground.get("x") for strip in of_class(tree, "strip") for ground in of_class(strip, "ground-named")}
+    return "" if found == wanted else f"records at {sorted(found)} are named, and not those at {sorted(wanted)}"
+
+
+def faults_of_heading(page, records, last, line):
+    """Whether the heading names the file and the line of the fault, and the row of the fault is marked so that a link can lead to it."""
+    heading = texts(elements(page, "h1")[0])
+    rows = [texts(row[0]) for row in elements(page, "tr") if row.get("id") == "fault"]
+    if "place=" not in line:
+        return f"its heading is {heading!r}, and its faults {rows}" if rows or ".csv" in heading else ""
+    core, seq, _ = records[last]
+    wanted = f" place {last} {'breaks a rule' if 'rule=' in line else 'is rejected'}: core{core}.csv, line {seq + 1}"
+    links = [[link.get("href") for link in elements(part, "a")] for part in (elements(page, "h1")[0], page)]
+    if links != [["#fault"], ["#fault"]]:
+        return f"its links are {links}"
+    return "" if heading.endswith(wanted) and rows == [str(last)] else f"its heading is {heading!r}, and its faults {rows}"
+
+
+def faults_of_figures(page, wanted, last, line):
+    """Whether the figures of a page are those of the records on it that are accepted. They are unfolded if the recording is lawful."""
+    ends_before = "place=" in line and "rule=" not in line
+    accepted = sum(1 for number in wanted if number < last or number == last and not ends_before)
+    found = of_class(page, "figures")
+    if not accepted:
+        return "it has figures of no record" if found else ""
+    if len(found) != 1 or ("open" in found[0].attrib) != line.startswith("YES "):
+        return f"it has figures {len(found)} times"
+    first = texts(elements(found[0], "pre")[0]).split("\n")[0]
+    return "" if first == f"Figures of {accepted} record{'s' * (accepted != 1)}" else f"its figures begin with {first!r}"
+
+
+def faults_of_targets(page):
+    """Whether each box that has a fault, and no other, begins scrolled to it: from beside the names of the lanes to the fault's end."""
+    for box in of_class(page, "scrolled"):
+        strip = [part for part in of_class(box, "strip") if "names" not in classes(part)][0]
+        lefts = sorted({int(frame.get("x")) for frame in of_class(strip, "frame")})
+        found = [[int(part.get("width")) for part in elements(target, "svg")] for target in of_class(box, "to-fault")]
+        begin = [max(0, left - NAMES - BEFORE_FAULT) for left in lefts]
+        ends = [min(left + FROM_FAULT, NAMES + int(strip.get("width"))) for left in lefts]
+        if found != [[first, last - first] for first, last in zip(begin, ends)]:
+            return f"the box with faults at {lefts} begins at {found}"
+    return ""
+
+
+def uses_of(part):
+    """The looks of bars and the grounds of records in a part of a page. An occupied core looks like a process that runs."""
+    looks = {classes(bar)[1] for bar in of_class(part, "bar")}
+    grounds = {name for name in ("ground-named", "ground-rejected", "ground-after") if of_class(part, name)}
+    return {"running" if look == "occupied" else look for look in looks} | grounds
+
+
+def faults_of_key(page):
+    """Whether the key has what the strips use. It has nothing else if the picture is one strip of records, all of whose bars are wide enough."""
+    keys = of_class(page, "key")
+    strips = [strip for strip in of_class(page, "strip") if "names" not in classes(strip)]
+    if not keys:
+        return "it has strips and no key" if any(map(uses_of, strips)) else ""
+    used, found = set().union(*map(uses_of, strips)), uses_of(keys[0])
+    if used - found:
+        return f"its key lacks {sorted(used - found)}"
+    is_whole = len(of_class(page, "piece")) == 1 and not of_class(page, "slot")
+    return f"its key has {sorted(found - used)}, which no strip uses" if is_whole and found != used else ""
+
+
+def faults_of_order(tree):
+    """Whether a line of an arrow, a mark or a frame comes after a text of a bar in the same strip, and so is over it."""
+    for strip in of_class(tree, "strip"):
+        kinds = ["text" if "said" in classes(element) else "line" for element in strip.iter()
+                 if "said" in classes(element) or {"arrow", "frame", "tick", "dispatch", "call", "return", "restart"} & set(classes(element))]
+        if "line" in kinds[kinds.index("text"):] if "text" in kinds else False:
+            return "a line is over a text"
+    return ""
+
+
+def faults_of_lanes(page, records, wanted, last):
+    """Whether there is a lane with bars for each core and each process that acts before the last record that is judged."""
+    names = {}
+    for lane in of_class(page, "lane"):
+        names.setdefault(name_of(lane), []).append(lane)
+    for core in {records[number][0] for number in wanted if number < last}:
+        lanes = names.get(f"core {core}", [])
+        if not any(of_class(lane, "bar") for lane in lanes):
+            return f"core {core} has no bars"
+    if not wanted or wanted[0] == last:
+        return ""
+    # what is recorded of the last record may be the fault
+    for number in wanted:
+        core, _, fields = records[number]
+        if number >= last or fields[1] not in ("call", "ret"):
+            continue
+        lanes = [lane for name, found in names.items() for lane in found
+                 if re.match(rf"process {fields[3]}\b" if fields[3] != "0" else r"0, (initialising|error)", name)]
+        if not any(of_class(lane, "bar") for lane in lanes):
+            return f"process {fields[3]} of place {number} has no bars"
+    return ""
