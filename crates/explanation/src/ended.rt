@@ -38,8 +38,9 @@ pub fn tell_expected_waits(words: &mut Words, ended: EndedWaits) {
         EndedWaits::All(count) => {
             words.say(format_args!("the waits of all that wait there ({count})"));
         }
+        EndedWaits::First(1) => words.say("the wait of the first that waits there"),
         EndedWaits::First(count) => {
-            words.say(format_args!("the waits of the first that wait there ({count})"));
+            words.say(format_args!("the waits of the first {count} that wait there"));
         }
     }
     words.end_part();

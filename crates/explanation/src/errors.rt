@@ -78,8 +78,13 @@ pub fn tell_handler(words: &mut Words, refusing: &Refusing<'_>, handler: ErrorHa
     let left = refusing.state.errors();
     words.say(format_args!("; it has {} to take", Count(left.len(), "error")));
     if let Some(oldest) = left.first() {
+        words.say(if left.len() == 1 {
+            ": "
+        } else {
+            ", the oldest of which is "
+        });
         words.say(format_args!(
-            ", the oldest of which is {} of process {}",
+            "{} of process {}",
             Ascii(oldest.error.name()),
             oldest.process.number()
         ));

@@ -145,7 +145,12 @@ fn tell_queue(words: &mut Words, queue: &MessageQueue) {
     let (count, capacity) = (queue.len(), queue.capacity());
     words.say(format_args!("holds {} (capacity {capacity})", Count(count, "message")));
     if let Some(message) = queue.oldest() {
-        words.say(format_args!(", the oldest of which is {}", Bytes(message.as_bytes())));
+        words.say(if count == 1 {
+            ": "
+        } else {
+            ", the oldest of which is "
+        });
+        words.say(format_args!("{}", Bytes(message.as_bytes())));
     }
     tell_waiters(words, queue.senders(), "to send");
     tell_waiters(words, queue.receivers(), "to receive");
