@@ -1,5 +1,5 @@
 -- Which command lines are wrong.
-use Rattle.std.specs.Prelude.{◌≡◌, ◌⊎◌, ℕ, List, [], None, IsTrue, true, codes, drop, option_and_then, option_map}
+use Rattle.std.specs.Prelude.{◌≡◌, ◌⊎◌, ℕ, List, [], None, IsTrue, true, false, codes, drop, option_and_then, option_map}
 use Rattle.clap.specs.Matches.{raw_values}
 use Rattle.clap.specs.Takes.{takes}
 use Rattle.clap.specs.Words.{Row, all_of, first_of, first_value, matched_of}
@@ -35,6 +35,6 @@ IsWrong words = (¬ IsTrue (takes command_line words)) ⊎ IsIncomplete (found_i
 abbrev pub NamesNone : List (List ℕ) → Type 0
 NamesNone words = (asks_rows words ≡ true) × (drop 2 words ≡ [])
 
--- a command line is wrong: it is a wrong one of a run over files, or names no recording
+-- a command line is wrong: it does not request rows and is a wrong one of a run over files, or it requests rows and names no recording
 abbrev pub IsRefused : List (List ℕ) → Type 0
-IsRefused words = IsWrong words ⊎ NamesNone words
+IsRefused words = ((asks_rows words ≡ false) × IsWrong words) ⊎ NamesNone words

@@ -4,8 +4,8 @@
 //! each once and in order. The value has each part of the answer once and each list in its order, and the digest of the line with its line
 //! feed. A digest is the SHA-256 of FIPS 180-4, in hexadecimal digits, of a whole text, or of all bytes that a reader has left.
 //!
-//! No clause says that an answer is that of the check. The crate knows no check: `apexcheck` passes it an `Answer` (`json.rt`) and writes the
-//! text. The check has its answer before. The text decides nothing.
+//! No clause says that an answer is that of the check. The crate knows no check: `check_result` passes it an `Answer` (`json.rt`) and writes
+//! the text. The check has its answer before. The text decides nothing.
 #![tactic(auto)]
 
 mod answer;

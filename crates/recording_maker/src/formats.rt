@@ -1,6 +1,6 @@
 // The formats of recordings, which their first rows give.
 
-ghost use Rattle.std.specs.Prelude.{◌≡◌, true, All, IfOk};
+ghost use Rattle.std.specs.Prelude.{◌≡◌, true, false, All, IfOk};
 ghost use Rattle.recording_maker.specs.Formats.{IsInFormat};
 
 use apex_types::Format;
@@ -16,7 +16,8 @@ pub fn are_in_format(
     format: Format,
     recordings: &[Vec<u8>],
 ) -> Result<bool, AllocError>
-    ensures { IfOk result (λ are. are ≡ true → All (λ recording. IsInFormat format recording.items) recordings.now) }
+    ensures yes { IfOk result (λ are. are ≡ true → All (λ recording. IsInFormat format recording.items) recordings.now) }
+    ensures no { IfOk result (λ are. are ≡ false → All (λ recording. IsInFormat format recording.items) recordings.now → ⊥) }
 {
     for recording in recordings {
         if !is_in_format(alloc, format, recording)? {
@@ -29,7 +30,8 @@ pub fn are_in_format(
 // Whether a recording is in this format. One without a row is in any.
 #[tactic(auto, using(crate::proofs::Begins::begins_in, crate::proofs::Begins::begins_nowhere))]
 fn is_in_format(alloc: Global, format: Format, recording: &[u8]) -> Result<bool, AllocError>
-    ensures { IfOk result (λ is. is ≡ true → IsInFormat format recording.now) }
+    ensures yes { IfOk result (λ is. is ≡ true → IsInFormat format recording.now) }
+    ensures no { IfOk result (λ is. is ≡ false → IsInFormat format recording.now → ⊥) }
 {
     let mut fields = RowFields::new(alloc);
     let mut rows = CsvRows::new(alloc, recording);

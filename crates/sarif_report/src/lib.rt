@@ -6,9 +6,9 @@
 //! of a run with a finding has it as its one result, with the rule and the place of the result; another log has none.
 //!
 //! No clause says that a finding is that of the check, nor from where a file is named. The crate has the JSON of a log, the references of
-//! files, and what each cause demands. It knows no check: `apexcheck` passes it a `Finding` with the rule, the message and the place, and the
-//! records before that (`sarif.rt`), names the files from their root (`source_root.rt`), and writes the log. The check has its answer before.
-//! The log decides nothing.
+//! files, and what each cause demands. It knows no check: `check_result` passes it a `Finding` with the rule, the message and the place, and
+//! the records before that (`sarif.rt`), names the files from their root (`source_root.rt`), and writes the log. The check has its answer
+//! before. The log decides nothing.
 #![tactic(auto)]
 
 mod cause;

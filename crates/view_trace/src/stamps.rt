@@ -36,7 +36,10 @@ impl Stamps {
     }
 
     /// The events that follow are those of a record at this place, after which its core has this time.
-    pub fn go_to(&mut self, place: u64, time: u64) {
+    pub fn go_to(&mut self, place: u64, time: u64)
+        ensures place { self.new.place ≡ place }
+        ensures time { self.new.time ≡ time }
+    {
         self.place = place;
         self.time = time;
     }
@@ -48,7 +51,10 @@ impl Stamps {
     }
 
     /// The events of the record that follow are not before this time.
-    pub fn wait_for(&mut self, time: u64) {
+    pub fn wait_for(&mut self, time: u64)
+        ensures place { self.new.place ≡ self.old.place }
+        ensures time { self.new.time ≡ max self.old.time time }
+    {
         self.time = self.time.max(time);
     }
 

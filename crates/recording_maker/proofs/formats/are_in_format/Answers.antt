@@ -12,10 +12,10 @@ pub loop-recording-preserved : goal.loop-recording-preserved
 loop-recording-preserved c =
     let recording = c.recording-item.result in
     let is : c.in_ok-is_in_format.field-0 ≡ true = search rules in
-    let here : HasFormat c.args.format recording = subst (IsInFormat c.args.format) c.deref.ensures.value (c.in_ok-is_in_format.ensures is) in
+    let here : HasFormat c.args.format recording = subst (IsInFormat c.args.format) c.deref.ensures.value (c.in_ok-is_in_format.ensures.yes is) in
     All-more (HasFormat c.args.format) c.args.recordings.now c.loop-recording.recording-index recording c.loop-recording-test.true c.loop-recording.invariant
     (subst (HasFormat c.args.format) c.recording-item.is here)
 
-pub returns : goal.returns
-returns c =
+pub returns-clause-yes : goal.returns-clause-yes
+returns-clause-yes c =
     λ is. subst (All (HasFormat c.args.format)) (take_all c.loop-recording.recording-index c.args.recordings.now c.loop-recording-test.false) c.loop-recording.invariant
