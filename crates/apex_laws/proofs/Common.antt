@@ -34,7 +34,7 @@ pub use Rattle.apex_machine.specs.Pieces.{ChannelPart, is_configured, Module, Of
 pub use Rattle.apex_machine.specs.PortConditions.{destination_conditions, is_queuing_port, is_sampling_port, is_source, source_conditions, suits_refresh}
 pub use Rattle.apex_machine.specs.Ports.{Ask, channel_by, channel_effect, channel_of, Read, reading_of, Receive, sampled, Send, suits, suits_use, Use, use_of, used, Write, written, Clear, arrival_use, arrived, departed}
 pub use Rattle.apex_machine.specs.ProcessConditions.{created_count, lock_conditions, preemption_conditions, suspend_conditions, suspension_conditions, unlock_conditions, is_periodic, is_suspended, start_conditions, delayed_start_conditions, reaches_period, replenish_conditions, replenishes_beyond}
-pub use Rattle.apex_machine.specs.Processes.{after_normal, by_mutex, caller_after, caller_with, code_when_due, new_process, on_ownership, outcome_of, owed, release_reached, release_taken, released, renews, service_of_wait, set_by, set_in, started, stopped, value_when_woken, wait_ended, woken_by}
+pub use Rattle.apex_machine.specs.Processes.{after_normal, by_mutex, caller_after, caller_with, code_when_due, new_process, on_ownership, outcome_of, outcome_by, release_reached, release_taken, released, renews, service_of_wait, set_by, set_in, started, stopped, value_when_woken, wait_ended, woken_by}
 pub use Rattle.apex_machine.specs.Queue.{appended, Messages, not_yet, received, sent, emptied as emptied_queue, messages_sent}
 pub use Rattle.apex_machine.specs.Runs.{ArePlaced, Finds, FindsNext, Goes, PieceRun, Refusal, Refuses}
 pub use Rattle.apex_machine.specs.ServiceConditions.{conditions_of}

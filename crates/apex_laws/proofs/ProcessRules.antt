@@ -8,7 +8,7 @@ use Rattle.apex_machine.specs.Answer.{Number}
 use Rattle.apex_laws.proofs.Common.{Answer, CallerOperation, CallRecord, Code, HasDueTime, IsAtRelease, IsBegun, IsCaller, IsEntry, IsMutexChange, IsNormalEntered, IsOverOrWaits, IsOwnerChange, IsReleased, IsResuming}
 use Rattle.apex_laws.proofs.Common.{IsStarted, IsWoken, Mode, Mutex, MutexOperation, OnTarget, Out, Process, ProcessOperation, Renews, Request, Wait, WaitingSet, WaitsForOther, Who, acquired, after_normal, by_mutex, caller_after}
 use Rattle.apex_laws.proofs.Common.{caller_with, code_when_due, created, done, due_by, due_of_call, entry_wait, first_release, first_waiter, given_object, is_normal, is_number, is_over, is_owner, is_released, is_suspension, is_waiting}
-use Rattle.apex_laws.proofs.Common.{item_at, mutex_released, natural_of, next_release, on_ownership, outcome_of, owed, peer, release_taken, released, renews, resuming, service_of_wait, set_of, started, stopped, taking, time_of, time_out_of}
+use Rattle.apex_laws.proofs.Common.{item_at, mutex_released, natural_of, next_release, on_ownership, outcome_by, outcome_of, peer, release_taken, released, renews, resuming, service_of_wait, set_of, started, stopped, taking, time_of, time_out_of}
 use Rattle.apex_laws.proofs.Common.{wait_ended, wait_in, wait_of, waiting, waits_for_normal, waking, woken_by}
 use Rattle.apex_laws.proofs.Common.{CoreState, IsModeNumber, IsPartitionStatus, IsProcessStatus, IsStartNumber, IsStateNumber, Partition, StartCondition, answer_by, delay_kept, delay_wait, handed_on, is_occupant, is_ready, mode_number, occupant_of, partition_status, process_status, reporting, start_number, state_number}
 use Rattle.apex_laws.proofs.Common.{Entry, IsMutexState, IsStop, Lock, done_with, first_for_lock, freed_by_stop, mutex_owned, mutex_state, never_waking, next_owner, value_when_woken, IsDeadlineNumber, IsEntryDeadline, deadline_by, deadline_number, entry_deadline}
@@ -219,14 +219,14 @@ due_is_the_sentence core now process = (
 
 -- the end of a wait, by what the wait is
 
-ended : (place : ℕ) (old : Process) (one : Wait) → old.wait ≡ one → released place old ≡ wait_ended place (owed (service_of_wait one) (code_when_due one) None []) (record old { wait = one })
+ended : (place : ℕ) (old : Process) (one : Wait) → old.wait ≡ one → released place old ≡ wait_ended place (outcome_by (service_of_wait one) (code_when_due one) None []) (record old { wait = one })
 ended place old one at =
-    ap (λ (waits : Wait). wait_ended place (owed (service_of_wait waits) (code_when_due waits) None []) (record old { wait = waits })) at
+    ap (λ (waits : Wait). wait_ended place (outcome_by (service_of_wait waits) (code_when_due waits) None []) (record old { wait = waits })) at
 
 woken_from : (place : ℕ) (message : List ℕ) (old : Process) (one : Wait) → old.wait ≡ one
-    → woken_by place message old ≡ wait_ended place (owed (service_of_wait one) Code.NoError (value_when_woken one) message) (record old { wait = one })
+    → woken_by place message old ≡ wait_ended place (outcome_by (service_of_wait one) Code.NoError (value_when_woken one) message) (record old { wait = one })
 woken_from place message old one at =
-    ap (λ (waits : Wait). wait_ended place (owed (service_of_wait waits) Code.NoError (value_when_woken waits) message) (record old { wait = waits })) at
+    ap (λ (waits : Wait). wait_ended place (outcome_by (service_of_wait waits) Code.NoError (value_when_woken waits) message) (record old { wait = waits })) at
 
 -- a caller that waits in a set
 waits_in_set : (now : ℕ) (asked : Request) (chan : Option ℕ) (process : Process) (set : WaitingSet) → set_of asked chan ≡ Some set

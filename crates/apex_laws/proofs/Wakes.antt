@@ -8,7 +8,7 @@ use Rattle.apex_laws.proofs.Common.{EnteringIsTheSentence, Entry, EventOperation
 use Rattle.apex_laws.proofs.Common.{QueuingOperation, Read, Receive, Receivers, Request, Sampled, SemaphoreOperation, Send, Senders, Stamped, State, Table, TimeOutIsTheSentence, Use, Wait, WaitingSet, WaitsIn, Who, Write}
 use Rattle.apex_laws.proofs.Common.{acquired_again, acquired_from, answer_by, answer_of, answering, appended, at_maximum, board_read, caller_after, caller_with, capacity_of, channel_answer, channel_effect, channel_set, code_when_due}
 use Rattle.apex_laws.proofs.Common.{created, done, due_by, due_of_call, due_time, entries_at, entries_at_end, entries_in, entries_of, event_waited, falls_due, first_waiter, given_object, handed_on, is_in, is_named, is_no_error, is_over}
-use Rattle.apex_laws.proofs.Common.{is_receiver, is_released, is_sender, is_set_used, is_suspension, is_the_set, is_waiting, item_at, kind_used, mutex_released, natural_of, not_acquired, not_yet, object_effect, objects_of, owed, peer}
+use Rattle.apex_laws.proofs.Common.{is_receiver, is_released, is_sender, is_set_used, is_suspension, is_the_set, is_waiting, item_at, kind_used, mutex_released, natural_of, not_acquired, not_yet, object_effect, objects_of, outcome_by, peer}
 use Rattle.apex_laws.proofs.Common.{raised, reading_of, received, receiving_discipline, refresh_of, released_once, resuming, semaphore_waited, sending_discipline, sent, service_at, service_of, service_of_wait, set_at, set_of, signalled}
 use Rattle.apex_laws.proofs.Common.{suits_use, time_out_of, unmet, use_of, used, wait_of, waiting, waits_at, waking}
 use Rattle.apex_laws.proofs.Common.{Clear, CoreState, Crossing, Discipline, IsLawfulArrival, IsLawfulDeparture, arrival_use, emptied_queue, first_waiters, process_status, time_of}
@@ -536,7 +536,7 @@ time_out_is_the_sentence place now call wanted old waits in_set =
           (λ falls. due.0 (sym (until (pos ticks) core time has) ∙ falls), λ facts. until (pos ticks) core time has ∙ due.1 facts),
       λ has core time. until (negsuc 0) core time has ∙ not_second (nat_eq old.affinity core) false refl,
       λ later.
-          let outcome : Wait → Option Outcome = λ one. owed (service_of_wait one) (code_when_due one) None [] in
+          let outcome : Wait → Option Outcome = λ one. outcome_by (service_of_wait one) (code_when_due one) None [] in
           ap (λ one. outcome (caller_with place now call one old).wait) waits ∙ ap outcome (wait_by now old in_set)
-          ∙ ap (λ one. owed one Code.TimedOut None []) (service_by in_set),
+          ∙ ap (λ one. outcome_by one Code.TimedOut None []) (service_by in_set),
     )

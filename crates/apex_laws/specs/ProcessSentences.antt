@@ -25,7 +25,7 @@ use Rattle.apex_machine.specs.Arguments.{natural_of}
 use Rattle.apex_machine.specs.Choice.{IsReady}
 use Rattle.apex_machine.specs.Configuration.{Configuration}
 use Rattle.apex_machine.specs.Objects.{acquired, handed_on, mutex_released}
-use Rattle.apex_machine.specs.Processes.{outcome_of, owed}
+use Rattle.apex_machine.specs.Processes.{outcome_by, outcome_of}
 use Rattle.apex_machine.specs.Answer.{Answer, NewNumber, Number, done, done_with, never, never_waking, waiting, waking}
 use Rattle.apex_machine.specs.Locks.{first_for_lock}
 use Rattle.apex_machine.specs.Names.{number_found, number_of}
@@ -140,7 +140,7 @@ pub record IsDue (core now : ℕ) (process : Process) : Type 0 where
 -- a process whose wait ends, with this outcome of the service due for which it waited, with this value, if there is such a service
 abbrev pub ends_valued : ℕ → Option Service → Code → Option ℤ → List ℕ → Process → Process
 ends_valued place of given value message process =
-    record process { wait = wait.Nothing; ready_position = place; due = owed of given value message }
+    record process { wait = wait.Nothing; ready_position = place; due = outcome_by of given value message }
 
 -- the same without a value
 abbrev pub ends_with : ℕ → Option Service → Code → List ℕ → Process → Process

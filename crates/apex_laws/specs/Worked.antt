@@ -170,8 +170,8 @@ abbrev pub at : State → Who → Option Process
 at state who = item_at (state.partitions who.part).table who.proc
 
 -- what is due to a process
-abbrev pub owes : State → Who → Option Outcome
-owes state who = due_of (at state who)
+abbrev pub outcome_due_to : State → Who → Option Outcome
+outcome_due_to state who = due_of (at state who)
 
 -- an outcome without a value
 abbrev pub outcome : Service → Code → List ℕ → Option Outcome

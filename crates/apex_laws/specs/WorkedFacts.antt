@@ -27,7 +27,7 @@ use Rattle.apex_machine.specs.declared.state.Process.{Process}
 use Rattle.apex_machine.specs.Deadlines.{is_missed}
 use Rattle.apex_machine.specs.DueTimes.{falls_due}
 use Rattle.apex_machine.specs.Step.{IsLawful}
-use Rattle.apex_laws.specs.Worked.{Happening, aperiodic, at, claims, conditions_met, creates, does, gets, gets_through, idle_ticks, limits_on, normal, one_partition, outcome, owes, placed, play, played, priority_in, process_of, queuing_by, returns, runs, start, ticks, two_partitions, waits, wakes}
+use Rattle.apex_laws.specs.Worked.{Happening, aperiodic, at, claims, conditions_met, creates, does, gets, gets_through, idle_ticks, limits_on, normal, one_partition, outcome, outcome_due_to, placed, play, played, priority_in, process_of, queuing_by, returns, runs, start, ticks, two_partitions, waits, wakes}
 
 -- process 1, with priority 10
 abbrev pub one : Who
@@ -236,10 +236,10 @@ pub record WorkedFacts : Type 0 where
   -- a signal that wakes leaves the value, and NO_ERROR is due to the waiter, which runs
   pub wakes_without_adding : value_now (play one_partition (both_wait (pos 1)) (wakes three (request.Object (pos 1) (on.Semaphore SemaphoreOperation.Signal)) (two ∷ []) ∷ [])) ≡ Some 0
   pub waiter_runs : choice one_partition (play one_partition (both_wait (pos 1)) (wakes three (request.Object (pos 1) (on.Semaphore SemaphoreOperation.Signal)) (two ∷ []) ∷ [])) 0 ≡ Some two
-  pub waiter_returns : owes (play one_partition (both_wait (pos 1)) (wakes three (request.Object (pos 1) (on.Semaphore SemaphoreOperation.Signal)) (two ∷ []) ∷ [])) two ≡ outcome service.WaitSemaphore code.NoError []
+  pub waiter_returns : outcome_due_to (play one_partition (both_wait (pos 1)) (wakes three (request.Object (pos 1) (on.Semaphore SemaphoreOperation.Signal)) (two ∷ []) ∷ [])) two ≡ outcome service.WaitSemaphore code.NoError []
   -- a waiter that timed out has left the set: TIMED_OUT is due to it, and a signal raises the value by one
   pub falls_due_then : falls_due 0 2 (at (play one_partition (three_processes (semaphore (pos 0) (pos 1) (pos 0))) (waits one 10 (request.Object (pos 1) (on.Semaphore (SemaphoreOperation.Wait (pos 2)))) ∷ [])) one) ≡ true
-  pub returns_timed_out : owes timed_out one ≡ outcome service.WaitSemaphore code.TimedOut []
+  pub returns_timed_out : outcome_due_to timed_out one ≡ outcome service.WaitSemaphore code.TimedOut []
   pub set_is_left : gets timed_out three (request.Object (pos 1) (on.Semaphore SemaphoreOperation.Signal)) ≡ done
   -- a suspended waiter that is woken stays suspended, and runs once it is resumed; the resumption wakes no process
   pub stays_suspended : choice one_partition (play one_partition suspended_waiter (wakes three (request.Object (pos 1) (on.Semaphore SemaphoreOperation.Signal)) (one ∷ []) ∷ [])) 0 ≡ Some three
@@ -247,7 +247,7 @@ pub record WorkedFacts : Type 0 where
   pub runs_when_resumed : choice one_partition (play one_partition suspended_waiter (wakes three (request.Object (pos 1) (on.Semaphore SemaphoreOperation.Signal)) (one ∷ []) ∷ does three (request.Process (pos 1) ProcessOperation.Resume) ∷ [])) 0 ≡ Some one
   -- a process that suspended itself is woken by RESUME, or times out
   pub resumed : gets (play one_partition (three_processes []) (waits one 10 (request.Caller (CallerOperation.SuspendSelf (pos 5))) ∷ [])) three (request.Process (pos 1) ProcessOperation.Resume) ≡ waking (one ∷ [])
-  pub not_resumed : owes (play one_partition (three_processes []) (waits one 10 (request.Caller (CallerOperation.SuspendSelf (pos 1))) ∷ ticks 0 (one ∷ []) ∷ [])) one ≡ outcome service.SuspendSelf code.TimedOut []
+  pub not_resumed : outcome_due_to (play one_partition (three_processes []) (waits one 10 (request.Caller (CallerOperation.SuspendSelf (pos 1))) ∷ ticks 0 (one ∷ []) ∷ [])) one ≡ outcome service.SuspendSelf code.TimedOut []
   -- a process that is stopped while it waits leaves its set
   pub stopped_waiter : gets (play one_partition (both_wait (pos 0)) (does three (request.Process (pos 1) ProcessOperation.Stop) ∷ [])) three (request.Object (pos 1) (on.Semaphore SemaphoreOperation.Signal)) ≡ waking (two ∷ [])
   -- the owner of a mutex runs with its priority, before a process of higher priority; at the last release it gives way to that process, and
@@ -269,7 +269,7 @@ pub record WorkedFacts : Type 0 where
   pub sender_moves_up : gets (play one_partition full_buffer (wakes two (request.Object (pos 1) (on.Buffer (BufferOperation.Receive (pos 0)))) (one ∷ []) ∷ [])) one (request.Object (pos 1) (on.Buffer (BufferOperation.Receive (pos 0)))) ≡ giving (187 ∷ []) []
   -- a display wakes all readers, and each gets the message
   pub display_wakes_all : gets both_read three (request.Object (pos 1) (on.Blackboard (BlackboardOperation.Display (pos 2) (1 ∷ 2 ∷ [])))) ≡ waking (one ∷ two ∷ [])
-  pub reader_gets_it : owes (play one_partition both_read (wakes three (request.Object (pos 1) (on.Blackboard (BlackboardOperation.Display (pos 2) (1 ∷ 2 ∷ [])))) (one ∷ two ∷ []) ∷ [])) two ≡ outcome service.ReadBlackboard code.NoError (1 ∷ 2 ∷ [])
+  pub reader_gets_it : outcome_due_to (play one_partition both_read (wakes three (request.Object (pos 1) (on.Blackboard (BlackboardOperation.Display (pos 2) (1 ∷ 2 ∷ [])))) (one ∷ two ∷ []) ∷ [])) two ≡ outcome service.ReadBlackboard code.NoError (1 ∷ 2 ∷ [])
   -- an event that is set lets its waiters go on, and later callers too; once it is reset, they wait
   pub event_lets_go : gets awaits_event three (request.Object (pos 1) (on.Event EventOperation.Set)) ≡ waking (one ∷ [])
   pub event_is_up : gets (play one_partition awaits_event (wakes three (request.Object (pos 1) (on.Event EventOperation.Set)) (one ∷ []) ∷ [])) two (request.Object (pos 1) (on.Event (EventOperation.Wait (negsuc 0)))) ≡ done
@@ -283,7 +283,7 @@ pub record WorkedFacts : Type 0 where
   pub renewed : choice one_partition (play one_partition (three_processes []) (does three (request.Process (pos 1) (ProcessOperation.SetPriority (pos 20))) ∷ does three (request.Process (pos 2) (ProcessOperation.SetPriority (pos 20))) ∷ [])) 0 ≡ Some one
   -- a send wakes the receiver in the other partition, which gets the message
   pub send_wakes : gets_through two_partitions receiving one (request.QueuingPort (pos 1) (QueuingOperation.Send (pos 2) (pos 0) (202 ∷ 254 ∷ []))) 0 ≡ waking (there ∷ [])
-  pub message_arrives : owes (play two_partitions receiving (sends (there ∷ []) ∷ [])) there ≡ outcome service.ReceiveQueuingMessage code.NoError (202 ∷ 254 ∷ [])
+  pub message_arrives : outcome_due_to (play two_partitions receiving (sends (there ∷ []) ∷ [])) there ≡ outcome service.ReceiveQueuingMessage code.NoError (202 ∷ 254 ∷ [])
   -- a receiver that timed out has left the channel's set: the send wakes no process, and the message stays
   pub receiver_left : gets_through two_partitions (play two_partitions receiving (ticks 1 [] ∷ ticks 1 [] ∷ ticks 1 (there ∷ []) ∷ [])) one (request.QueuingPort (pos 1) (QueuingOperation.Send (pos 2) (pos 0) (202 ∷ 254 ∷ []))) 0 ≡ done
   pub message_stays : ((play two_partitions receiving (ticks 1 [] ∷ ticks 1 [] ∷ ticks 1 (there ∷ []) ∷ sends [] ∷ [])).channels 0).content ≡ Queued ((202 ∷ 254 ∷ []) ∷ [])
@@ -344,7 +344,7 @@ pub record WorkedFacts : Type 0 where
       ≡ Queued ((17 ∷ []) ∷ [])
   -- an arrival wakes the receiver with its message; a departure takes the oldest message and lets the sender in
   pub arrival_wakes : (arrived from_outside 0 0 (202 ∷ []) (receiving.channels 0)).answer.woken ≡ there ∷ []
-  pub arrival_is_received : owes (play from_outside receiving (record { core = 0; body = Arrive (passes (202 ∷ []) (there ∷ [])) } ∷ [])) there ≡ outcome service.ReceiveQueuingMessage code.NoError (202 ∷ [])
+  pub arrival_is_received : outcome_due_to (play from_outside receiving (record { core = 0; body = Arrive (passes (202 ∷ []) (there ∷ [])) } ∷ [])) there ≡ outcome service.ReceiveQueuingMessage code.NoError (202 ∷ [])
   pub arrival_stays : ((play from_outside connected (record { core = 1; body = Arrive (passes (202 ∷ []) []) } ∷ [])).channels 0).content ≡ Queued ((202 ∷ []) ∷ [])
   pub departure_wakes : (departed to_outside 0 0 (sender_waits.channels 0)).answer ≡ giving (202 ∷ 254 ∷ []) (one ∷ [])
   pub departed_content : ((play to_outside sender_waits (record { core = 1; body = Depart (passes (202 ∷ 254 ∷ []) (one ∷ [])) } ∷ [])).channels 0).content ≡ Queued ((17 ∷ []) ∷ [])

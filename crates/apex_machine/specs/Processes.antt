@@ -132,9 +132,9 @@ set_by place period cores partition caller _ number process = process
 -- the end of a wait
 
 -- the outcome that a service gives its caller, with its code, its value and its message, if there is such a service
-abbrev pub owed : Option Service → Code → Option ℤ → List ℕ → Option Outcome
-owed None code val bytes = None
-owed (Some service) code val bytes = Some (record { service = service; code = code; val = val; val2 = None; val3 = None; bytes = bytes })
+abbrev pub outcome_by : Option Service → Code → Option ℤ → List ℕ → Option Outcome
+outcome_by None code val bytes = None
+outcome_by (Some service) code val bytes = Some (record { service = service; code = code; val = val; val2 = None; val3 = None; bytes = bytes })
 
 -- the service whose call began a wait, if one did
 abbrev pub service_of_wait : Wait → Option Service
@@ -176,11 +176,11 @@ wait_ended place outcome process = record process {
 
 -- a process whose wait ends at a tick
 abbrev pub released : ℕ → Process → Process
-released place process = wait_ended place (owed (service_of_wait process.wait) (code_when_due process.wait) None []) process
+released place process = wait_ended place (outcome_by (service_of_wait process.wait) (code_when_due process.wait) None []) process
 
 -- a process whose wait a call, an arrival or a departure ends, which hands over the message that it gives, if any
 abbrev pub woken_by : ℕ → List ℕ → Process → Process
-woken_by place message process = wait_ended place (owed (service_of_wait process.wait) code.NoError (value_when_woken process.wait) message) process
+woken_by place message process = wait_ended place (outcome_by (service_of_wait process.wait) code.NoError (value_when_woken process.wait) message) process
 
 -- the caller
 

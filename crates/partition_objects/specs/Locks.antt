@@ -13,9 +13,9 @@ use Rattle.wait_set.specs.Actors.{joined_by, left_by}
 use Rattle.wait_set.specs.Sets.{without_named}
 
 -- LOCK_PREEMPTION by the owner requires that the level is not the greatest, so that it can rise by one
-abbrev pub Owes : Actor → LockOperation → Lock → Type 0
-Owes actor LockOperation.Lock lock = IsTrue (is_owner lock.owner actor.who.proc) → lock.level < GREATEST_LOCK_LEVEL
-Owes actor LockOperation.Unlock lock = Unit {0}
+abbrev pub Needs : Actor → LockOperation → Lock → Type 0
+Needs actor LockOperation.Lock lock = IsTrue (is_owner lock.owner actor.who.proc) → lock.level < GREATEST_LOCK_LEVEL
+Needs actor LockOperation.Unlock lock = Unit {0}
 
 -- the processes that wait after an operation: LOCK_PREEMPTION adds a caller that waits
 abbrev pub waiters_after : Actor → LockOperation → Claim → List Entry → List Entry

@@ -10,10 +10,10 @@ use Rattle.wait_set.specs.declared.object.Owners.{Owners}
 use Rattle.wait_set.specs.Actors.{joined_by, left_by}
 
 -- ACQUIRE_MUTEX requires that the count is not above the place of the call, so that the count can rise by one
-abbrev pub Owes : Actor → MutexOperation → Mutex → Type 0
-Owes actor (MutexOperation.Acquire time_out) found = found.count ≤ actor.place
-Owes actor MutexOperation.Release found = Unit {0}
-Owes actor (MutexOperation.Reset process) found = Unit {0}
+abbrev pub Needs : Actor → MutexOperation → Mutex → Type 0
+Needs actor (MutexOperation.Acquire time_out) found = found.count ≤ actor.place
+Needs actor MutexOperation.Release found = Unit {0}
+Needs actor (MutexOperation.Reset process) found = Unit {0}
 
 -- the processes that wait after an operation: ACQUIRE_MUTEX adds a caller that waits
 abbrev pub waiters_after : Actor → MutexOperation → Claim → List Entry → List Entry

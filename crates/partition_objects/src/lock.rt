@@ -172,7 +172,7 @@ impl PreemptionLock {
 impl ApexObject for PreemptionLock {
     type Operation = LockOperation;
 
-    ghost owes = { rules.Owes };
+    ghost needs = { rules.Needs };
 
     ghost answer = { λ actor operation lock. (locks.lock_effect actor.who.proc operation lock).answer };
 

@@ -230,7 +230,7 @@ impl Named for Mutex653 {
 impl ApexObject for Mutex653 {
     type Operation = MutexOperation;
 
-    ghost owes = { rules.Owes };
+    ghost needs = { rules.Needs };
 
     ghost answer = { λ actor operation mutex. (mutex_effect actor.who.proc operation mutex).answer };
 

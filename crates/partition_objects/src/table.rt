@@ -178,7 +178,7 @@ impl<Object: ApexObject> ObjectTable<Object> {
     ) -> Result<Effect, ObjFault>
         requires found { given_object self.old number ≢ None }
         requires new { IfSome (given_object self.old number) (λ object. IsNewInEach (entry_with actor []) (Object.sets object)) }
-        requires owed { IfSome (given_object self.old number) (λ object. Object.owes actor operation.now object) }
+        requires needed { IfSome (given_object self.old number) (λ object. Object.needs actor operation.now object) }
         ensures ok { OnOk result (IfSome (given_object self.old number) (λ object. AllHold (answer_demands (Object.answer actor operation.now object) claim.now))) }
         ensures after { OnOk result (self.new ≡ change_at (natural_of number) (Object.after actor operation.now claim.now) self.old) }
         ensures waits { IfOk result (λ effect. IsTrue effect.waits ↔ (claim.now.out ≡ out.Waits)) }

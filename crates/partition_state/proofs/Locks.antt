@@ -23,7 +23,7 @@ use Rattle.apex_machine.specs.Waiting.{entry_of, is_restart, is_waiting, stop_of
 use Rattle.apex_laws.specs.Laws.{AllEntries}
 use Rattle.apex_laws.proofs.SoundParts.{running_is_in_no_set}
 use Rattle.apex_laws.proofs.Waiters.{all_without}
-use Rattle.partition_objects.specs.Locks.{Owes, after, after_stop, waiters_after}
+use Rattle.partition_objects.specs.Locks.{Needs, after, after_stop, waiters_after}
 use Rattle.wait_set.proofs.Calls.{no_place, only_named_leave}
 use Rattle.wait_set.proofs.Last.{enters_last}
 use Rattle.wait_set.specs.Actors.{entry_with, joined_by, left_by}
@@ -193,11 +193,11 @@ when_is false one e = refl
 not_greatest : (level : ℕ) → nat_le GREATEST_LOCK_LEVEL level ≡ false → level < GREATEST_LOCK_LEVEL
 not_greatest level less = grind (arith, nat_tests)
 
-pub lock_owed : (configuration : Configuration) (now : ℕ) (partition : Partition) (place : ℕ) (call : CallRecord) (operation : LockOperation)
-    → conditions_of configuration now call.who partition call.request ≡ [] → call.request ≡ request.Preemption operation → Owes (actor_of place call) operation partition.lock
-lock_owed configuration now partition place call LockOperation.Lock none is = λ owns.
+pub lock_needed : (configuration : Configuration) (now : ℕ) (partition : Partition) (place : ℕ) (call : CallRecord) (operation : LockOperation)
+    → conditions_of configuration now call.who partition call.request ≡ [] → call.request ≡ request.Preemption operation → Needs (actor_of place call) operation partition.lock
+lock_needed configuration now partition place call LockOperation.Lock none is = λ owns.
     let least : (is_owner partition.lock.owner call.who.proc && nat_le GREATEST_LOCK_LEVEL partition.lock.level) ≡ false =
     when_is _ _ (nil_right _ _ (nil_left _ _ (rw is at none))) in
     let less : nat_le GREATEST_LOCK_LEVEL partition.lock.level ≡ false = rw owns at least in
     not_greatest partition.lock.level less
-lock_owed configuration now partition place call LockOperation.Unlock none is = tt
+lock_needed configuration now partition place call LockOperation.Unlock none is = tt

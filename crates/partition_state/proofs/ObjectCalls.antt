@@ -87,7 +87,7 @@ mutex_new place partition call given at_work =
     (λ n found at. (is_new place partition call.who call.claim.prio [] at_work (set_at kind.Mutex n Receivers) found.waiters (rw at refl), tt))
 
 -- what an operation on the mutex asks of it: its count is not above the place
-pub owes_there : (actor : Actor) (operation : MutexOperation) (given : Option Mutex) → IfSome given (λ found. found.count ≤ actor.place) → IfSome given (λ found. mutexes.Owes actor operation found)
+pub owes_there : (actor : Actor) (operation : MutexOperation) (given : Option Mutex) → IfSome given (λ found. found.count ≤ actor.place) → IfSome given (λ found. mutexes.Needs actor operation found)
 owes_there actor operation None counted = tt
 owes_there actor (MutexOperation.Acquire time_out) (Some found) counted = counted
 owes_there actor MutexOperation.Release (Some found) counted = tt

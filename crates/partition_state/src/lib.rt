@@ -23,6 +23,7 @@ mod answers;
 mod creating;
 mod creations;
 mod errors;
+mod inquiries;
 mod leaving;
 mod objects;
 mod owners;
@@ -31,7 +32,6 @@ mod restarting;
 mod serving;
 mod state;
 mod statuses;
-mod telling;
 
 pub use restarting::{is_restart, restart_of};
 pub use state::PartitionState;

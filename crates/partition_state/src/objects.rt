@@ -5,7 +5,7 @@ ghost use Rattle.apex_machine.specs.Arguments.{natural_of};
 ghost use Rattle.apex_machine.specs.Demands.{AllHold, answer_demands};
 ghost use Rattle.apex_machine.specs.Locks.{lock_effect};
 ghost use Rattle.apex_machine.specs.State.{change_at, given_object};
-ghost use Rattle.partition_objects.specs.Locks.{Owes, after as lock_after};
+ghost use Rattle.partition_objects.specs.Locks.{Needs, after as lock_after};
 ghost use Rattle.wait_set.specs.Actors.{Refuses, entry_with};
 ghost use Rattle.wait_set.specs.Sets.{IsNewInEach};
 ghost use Rattle.partition_state.specs.Calls.{actor_of, used_demands};
@@ -39,7 +39,7 @@ pub(crate) fn use_object<Object: ApexObject>(
 ) -> Result<Transfer, ObjFault>
     requires found { given_object objects.old number ≢ None }
     requires new { IfSome (given_object objects.old number) (λ object. IsNewInEach (entry_with caller []) (Object.sets object)) }
-    requires owed { IfSome (given_object objects.old number) (λ object. Object.owes caller operation.now object) }
+    requires needed { IfSome (given_object objects.old number) (λ object. Object.needs caller operation.now object) }
     ensures ok { OnOk result (AllHold (used_demands objects.old number (Object.answer caller operation.now) claim.now)) }
     ensures after { OnOk result (objects.new ≡ change_at (natural_of number) (Object.after caller operation.now claim.now) objects.old) }
     ensures transfer { IfOk result (λ transfer. IfSome (given_object objects.old number) (λ object. TransfersBetween (Object.owners caller operation.now object) transfer)) }
@@ -60,7 +60,7 @@ pub(crate) fn use_lock(
     claim: &Claim,
 ) -> Result<Transfer, ObjFault>
     requires new { IsNewInEach (entry_with caller []) (lock.old.waiters ∷ []) }
-    requires owed { Owes caller operation.now lock.old }
+    requires needed { Needs caller operation.now lock.old }
     ensures ok { OnOk result (AllHold (answer_demands (lock_effect caller.who.proc operation.now lock.old).answer claim.now)) }
     ensures after { OnOk result (lock.new ≡ lock_after caller operation.now claim.now lock.old) }
     ensures refused { IfErr result (Refuses (answer_demands (lock_effect caller.who.proc operation.now lock.old).answer claim.now)) }

@@ -20,7 +20,7 @@ pub mod Waiters
 pub mod HandedOver
 pub mod Periodic
 pub mod Transfers
-pub mod Owed
+pub mod Answered
 pub mod Cores
 pub mod Timing
 pub mod Faults

@@ -10,4 +10,4 @@ abbrev pub settled : ℕ → Settling → Process → Process
 settled now (settling.Waits wait deadline) process = waiting_for now wait deadline process
 settled now settling.Stops process = stopped_self now process
 settled now settling.StaysReady process = noted now process
-settled now (settling.Owed outcome renewed reached deadline) process = answered now renewed reached deadline outcome process
+settled now (settling.Answered outcome renewed reached deadline) process = answered now renewed reached deadline outcome process

@@ -37,7 +37,7 @@ pub enum Settling {
     StaysReady,
     /// The outcome is due to it. If its ready position is renewed, it is the given place; if a release is reached, that is its time; if its
     /// deadline is set, this is the new one. Times are in ticks.
-    Owed {
+    Answered {
         outcome: Outcome,
         renewed: Option<Place>,
         reached: Option<u64>,
@@ -78,7 +78,7 @@ pub fn settling_of(
             let renewed = renewed_by(place, outcome.code, &call.request);
             let reached = reached_by(next.time, outcome.code, &call.request);
             let deadline = deadline_with(outcome.code, &call.request, now, next);
-            Settling::Owed {
+            Settling::Answered {
                 outcome,
                 renewed,
                 reached,

@@ -175,17 +175,22 @@ pub fn wake(process: &mut Process, place: Place, message: Message)
 
 // Ends the process's wait at this place. If a service began the wait, the outcome of the service has this code, value and message.
 fn end_wait(process: &mut Process, place: Place, code: Code, val: Option<i64>, bytes: Message)
-    ensures { process.new ≡ processes.wait_ended place (processes.owed (processes.service_of_wait process.old.wait) code val bytes) process.old }
+    ensures { process.new ≡ processes.wait_ended place (processes.outcome_by (processes.service_of_wait process.old.wait) code val bytes) process.old }
 {
     process.last_release = wait::release_reached(process.wait, process.last_release);
-    process.due = owed(wait::service_of(process.wait), code, val, bytes);
+    process.due = outcome_by(wait::service_of(process.wait), code, val, bytes);
     process.wait = Wait::Nothing;
     process.ready_position = place.number();
 }
 
 // The outcome that a service gives its caller, with its code, its value and its message, if there is such a service.
-fn owed(service: Option<Service>, code: Code, val: Option<i64>, bytes: Message) -> Option<Outcome>
-    ensures { result ≡ processes.owed service code val bytes }
+fn outcome_by(
+    service: Option<Service>,
+    code: Code,
+    val: Option<i64>,
+    bytes: Message,
+) -> Option<Outcome>
+    ensures { result ≡ processes.outcome_by service code val bytes }
 {
     match service {
         Some(service) => Some(Outcome {
@@ -298,7 +303,7 @@ pub fn begin_wait(process: &mut Process, now: u64, wait: Wait, deadline: Option<
 
 /// A call at the core's time `now` makes this outcome due to the process. If its ready position is renewed, it is the given place; if a
 /// release is reached, that becomes its last one; if its deadline is set, this is the new one. Times are in ticks.
-pub fn owe(
+pub fn set_due(
     process: &mut Process,
     now: u64,
     renewed: Option<Place>,

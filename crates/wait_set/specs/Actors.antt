@@ -17,8 +17,8 @@ abbrev pub entry_with : Actor → List ℕ → Entry
 entry_with actor message = record { who = actor.who; priority = actor.priority; place = actor.place; message = message }
 
 -- an operation requires nothing of its caller and the object
-abbrev pub OwesNothing : {Operation Object : Type 0} → Actor → Operation → Object → Type 0
-OwesNothing actor operation found = Unit {0}
+abbrev pub NeedsNothing : {Operation Object : Type 0} → Actor → Operation → Object → Type 0
+NeedsNothing actor operation found = Unit {0}
 
 -- a waiting set after a claim: each process whose wait ends leaves it
 abbrev pub left_by : Claim → List Entry → List Entry

@@ -9,7 +9,7 @@
 //! - A `WaitSet` keeps its entries by place, by process and by rank. In the order by process, the entries of one partition are together, so
 //!   a partition leaves at a logarithmic cost for each of its own processes (`leave_all`).
 //! - The operations of an `ApexObject` are the requests for it. `apply` judges what a call claims against what the operation gives, and
-//!   carries the operation out if the two agree. The ghost member `owes` says what an operation requires of its caller and of the object;
+//!   carries the operation out if the two agree. The ghost member `needs` says what an operation requires of its caller and of the object;
 //!   only ACQUIRE_MUTEX requires something.
 //! - An accepted operation gives an `Effect`: whether its caller waits, and who owns the object before and after (`Owners`). The ghost
 //!   member `owners` fixes these owners; only a mutex has an owner.

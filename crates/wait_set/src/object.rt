@@ -9,7 +9,7 @@ ghost use Rattle.apex_machine.specs.Answer.{Answer};
 ghost use Rattle.apex_machine.specs.Demands.{AllHold, answer_demands};
 ghost use Rattle.wait_set.specs.declared.object.Actor.{Actor as ActorValue};
 ghost use Rattle.wait_set.specs.declared.object.Owners.{Owners as OwnersValue};
-ghost use Rattle.wait_set.specs.Actors.{OwesNothing, Refuses, WaitsAlone, entry_with};
+ghost use Rattle.wait_set.specs.Actors.{NeedsNothing, Refuses, WaitsAlone, entry_with};
 ghost use Rattle.wait_set.specs.Givens.{answer_given};
 ghost use Rattle.wait_set.specs.Owners.{nobody, owned_by_nobody};
 ghost use Rattle.wait_set.specs.Sets.{IsNewInEach, has_entry_in_one};
@@ -84,7 +84,7 @@ pub trait ApexObject {
     type Operation;
 
     // What an operation requires of its caller and the object: nothing by default.
-    ghost owes: { ActorValue → Self.Operation → Self → Type 0 } = { OwesNothing };
+    ghost needs: { ActorValue → Self.Operation → Self → Type 0 } = { NeedsNothing };
 
     // What an operation gives its caller.
     ghost answer: { ActorValue → Self.Operation → Self → Answer };
@@ -115,7 +115,7 @@ pub trait ApexObject {
         claim: &Claim,
     ) -> Result<Owners, AllocError>
         requires new { IsNewInEach (entry_with actor []) (sets self.old) }
-        requires owed { owes actor operation.now self.old }
+        requires needed { needs actor operation.now self.old }
         requires given { AllHold (answer_demands (answer actor operation.now self.old) claim.now) }
         requires alone { WaitsAlone claim.now }
         ensures after { OnOk result (self.new ≡ after actor operation.now claim.now self.old) }
@@ -132,7 +132,7 @@ pub trait ApexObject {
         claim: &Claim,
     ) -> Result<Effect, ObjFault>
         requires new { IsNewInEach (entry_with actor []) (sets self.old) }
-        requires owed { owes actor operation.now self.old }
+        requires needed { needs actor operation.now self.old }
         ensures ok { OnOk result (AllHold (answer_demands (answer actor operation.now self.old) claim.now)) }
         ensures after { OnOk result (self.new ≡ after actor operation.now claim.now self.old) }
         ensures waits { IfOk result (λ effect. IsTrue effect.waits ↔ (claim.now.out ≡ out.Waits)) }

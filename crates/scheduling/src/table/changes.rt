@@ -132,7 +132,7 @@ impl ProcTable {
         ensures { self.new ≡ with_each (only caller (answered now renewed reached deadline outcome)) self.old }
     {
         self.change(caller, |process| {
-            process::owe(process, now, renewed, reached, deadline, outcome)
+            process::set_due(process, now, renewed, reached, deadline, outcome)
         });
     }
 

@@ -287,7 +287,7 @@ impl ProcTable {
             Settling::Waits { wait, deadline } => self.wait(caller, now, wait, deadline),
             Settling::Stops => self.stop_self(caller, now),
             Settling::StaysReady => self.note_call(caller, now),
-            Settling::Owed {
+            Settling::Answered {
                 outcome,
                 renewed,
                 reached,

@@ -19,11 +19,11 @@ apply-requires-clause-new g c =
     let same = simp to_z-of_z at (rw (← c.self.view_is) at c.key_of-key.ensures.same) in
     rw (← c.self.view_is, given-found c.self.inside.objects.entries c.args.number c.key_of-key.result (Some c.in-Some.object.now) same c.in-Some.ensures.value) at c.requires.new
 
-pub apply-requires-clause-owed : goal.apply-requires-clause-owed
-apply-requires-clause-owed g c =
+pub apply-requires-clause-needed : goal.apply-requires-clause-needed
+apply-requires-clause-needed g c =
     let fits = c.ranges.number in
     let same = simp to_z-of_z at (rw (← c.self.view_is) at c.key_of-key.ensures.same) in
-    rw (← c.self.view_is, given-found c.self.inside.objects.entries c.args.number c.key_of-key.result (Some c.in-Some.object.now) same c.in-Some.ensures.value) at c.requires.owed
+    rw (← c.self.view_is, given-found c.self.inside.objects.entries c.args.number c.key_of-key.result (Some c.in-Some.object.now) same c.in-Some.ensures.value) at c.requires.needed
 
 pub invariant_of-self : goal.invariant_of-self
 invariant_of-self g c =

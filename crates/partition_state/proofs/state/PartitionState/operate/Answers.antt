@@ -4,7 +4,7 @@ use mir.Syntax.{w64}
 use mir.Val.{SFits}
 use Rattle.apex_machine.specs.State.{time_of}
 use Rattle.partition_state.proofs.Created.{created_changes}
-use Rattle.partition_state.proofs.Locks.{lock_new, lock_owed}
+use Rattle.partition_state.proofs.Locks.{lock_needed, lock_new}
 use Rattle.partition_state.proofs.ObjectCalls.{of_any}
 use Rattle.partition_state.proofs.Served.{lock_is_served}
 use Rattle.partition_state.proofs.Sounds.{names_core}
@@ -45,11 +45,11 @@ use_lock-requires-clause-new c =
     rw c.caller_of-caller.ensures
     (rw (← c.self-in-Preemption.view_is) at (lock_new a.config.now a.moment.now.cores.now a.moment.now.place a.moment.now.core a.self.now a.call.now c.requires.clear))
 
-pub use_lock-requires-clause-owed : goal.use_lock-requires-clause-owed
-use_lock-requires-clause-owed c =
+pub use_lock-requires-clause-needed : goal.use_lock-requires-clause-needed
+use_lock-requires-clause-needed c =
     let a = c.args in
     rw c.caller_of-caller.ensures
-    (rw (← c.self-in-Preemption.view_is) at (lock_owed a.config.now _ a.self.now a.moment.now.place a.call.now c.in-Preemption.operation c.requires.clear.conditions c.in-Preemption.is))
+    (rw (← c.self-in-Preemption.view_is) at (lock_needed a.config.now _ a.self.now a.moment.now.place a.call.now c.in-Preemption.operation c.requires.clear.conditions c.in-Preemption.is))
 
 pub returns-in-Preemption-clause-ok : goal.returns-in-Preemption-clause-ok
 returns-in-Preemption-clause-ok c =
