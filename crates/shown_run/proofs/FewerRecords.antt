@@ -45,3 +45,9 @@ run_over_kept configuration taken records (Some verdict) holdings few less runs 
 pub none_of : {A : Type 0} (value : Option A) (test : Bool) → is_some value ≡ not test → test ≡ true → value ≡ None
 none_of None test is holds = refl
 none_of (Some value) test is holds = let e : true ≡ false = is ∙ ap not holds in cc
+
+-- the same in the other direction
+pub is_none_of : {A : Type 0} (value : Option A) (test : Bool) → is_some value ≡ not test → value ≡ None → test ≡ true
+is_none_of None true is none = refl
+is_none_of None false is none = let e : false ≡ true = is in cc
+is_none_of (Some value) test is none = absurd cc

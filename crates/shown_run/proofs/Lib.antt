@@ -4,4 +4,5 @@ pub mod Taking
 pub mod Judging
 pub mod InPlace
 pub mod FewerRecords
+pub mod UpTo
 mod Answering

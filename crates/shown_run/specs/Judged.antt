@@ -1,5 +1,5 @@
 -- What a run that is shown comes to.
-use Rattle.std.specs.Prelude.{◌≡◌, ◌⊎◌, ℕ, List, Option, Some, None, Result, Ok, Err}
+use Rattle.std.specs.Prelude.{◌≡◌, ◌⊎◌, ℕ, List, Option, Some, None, Result, Ok, Err, IfOk, take}
 use Rattle.apex_machine.specs.Configuration.{Configuration}
 use Rattle.piece_check.specs.Parts.{Holding}
 use Rattle.placement.specs.declared.fault.InputFault.{InputFault}
@@ -19,6 +19,9 @@ use Rattle.verdict_merge.specs.declared.verdict.Verdict.TheVariants.{Yes}
 use Rattle.verdict_merge.specs.Rounds.{Judging}
 use Rattle.shown_run.specs.declared.fault.FollowFault.{FollowFault}
 use Rattle.shown_run.specs.declared.fault.FollowFault.TheVariants.{Refused, Stopped}
+use Rattle.shown_run.specs.declared.gathering.Gathering.{Gathering}
+use Rattle.shown_run.specs.declared.stretch.Stretch.{Stretch}
+use Rattle.shown_run.specs.Stretches.{IsGathered, IsStretchOf, accepted, answer_of}
 
 -- the pieces after so many records, and what memories have kept of their views, as a check has them
 abbrev pub judging_of : ℕ → List Holding → List (List Cell) → Judging
@@ -44,6 +47,20 @@ answer_after next None None = None
 abbrev pub IsAnswerOf : CanFail → Configuration → Requirements → Placing → Result Verdict CheckFault → Type 0
 IsAnswerOf can_fail configuration requirements start answer =
     (answer ≡ Err Memory) ⊎ ((scanned : Scan) × IsAhead can_fail start scanned × IsJudged configuration requirements scanned answer)
+
+-- the same, and with a verdict comes the stretch of the run over the records that are ahead, up to the last place that is asked for
+abbrev pub IsShownOf : CanFail → Configuration → Requirements → Placing → Option ℕ → Result (Verdict × Stretch) CheckFault → Type 0
+IsShownOf can_fail configuration requirements start at shown =
+    (shown ≡ Err Memory)
+    ⊎ ((scanned : Scan) × IsAhead can_fail start scanned × IsJudged configuration requirements scanned (answer_of shown)
+    × IfOk shown (λ found. IsStretchOf configuration at scanned.placed found.0 found.1))
+
+-- the same of an answer, and of what was gathered of the run
+abbrev pub IsGatheredOf : CanFail → Configuration → Requirements → Placing → Result Verdict CheckFault → Gathering → Type 0
+IsGatheredOf can_fail configuration requirements start answer gathering =
+    (answer ≡ Err Memory)
+    ⊎ ((scanned : Scan) × IsAhead can_fail start scanned × IsJudged configuration requirements scanned answer
+    × IfOk answer (λ verdict. IsGathered configuration (take (accepted verdict) scanned.placed) gathering))
 
 -- the same of a run that is followed, unless its follower stops it
 abbrev pub IsFollowed : {Stop : Type 0} → CanFail → Configuration → Requirements → Placing → Result Verdict (FollowFault Stop) → Type 0

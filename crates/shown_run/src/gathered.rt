@@ -6,8 +6,8 @@ ghost use Rattle.placement.specs.Lanes.{AreHonest};
 ghost use Rattle.user_rules.specs.Memories.{nothing};
 ghost use Rattle.user_rules.specs.Rules.{required_of};
 ghost use Rattle.verdict_merge.specs.Rounds.{AllRun, AreGoing, cold_parts, parts_in};
-ghost use Rattle.shown_run.specs.Judged.{IsAnswerOf};
-ghost use Rattle.shown_run.specs.Stretches.{GoesOn, IsGathered, IsWhole, KeepsSame, answer_of};
+ghost use Rattle.shown_run.specs.Judged.{IsAnswerOf, IsGatheredOf, IsShownOf};
+ghost use Rattle.shown_run.specs.Stretches.{GoesOn, IsGatheredOfSome, IsWhole, KeepsSame, answer_of};
 
 use crate::gathering::Gathering;
 use crate::round::next_round;
@@ -24,8 +24,8 @@ use user_rules::{Rule, RuleMemory};
 /// Judges all records that are ahead of the placer under these memories and rules, and keeps the stretch that is asked for. The witness
 /// receives the record at the place of a No or of a broken rule.
 ///
-/// The answer is that of a check of what is ahead; it is known once the placer's threads are joined. If the input is refused or memory is,
-/// no stretch is kept.
+/// The answer is that of a check of what is ahead; it is known once the placer's threads are joined. The stretch ends with the last record
+/// that the run accepts, or at the last place that is asked for if that is before. If the input is refused or memory is, no stretch is kept.
 pub fn gather<R: Wait, S: TextSource, C: TextSource, V: Witness>(
     rt: &R,
     alloc: Global,
@@ -40,6 +40,7 @@ pub fn gather<R: Wait, S: TextSource, C: TextSource, V: Witness>(
     requires first { place_of placer.old.kept ≡ 0 }
     requires cores { length placer.old.lanes ≡ config.now.cores }
     ensures answer { AreHonest S.can_fail placer.new.lanes → IsAnswerOf (record { recordings = S.can_fail; certificate = C.can_fail }) config.now (required_of memories.now rules.now) placer.old (answer_of result) }
+    ensures shown { AreHonest S.can_fail placer.new.lanes → IsShownOf (record { recordings = S.can_fail; certificate = C.can_fail }) config.now (required_of memories.now rules.now) placer.old asked.at result }
     ensures whole { IfOk result (λ found. IsWhole config.now found.1) }
 {
     let Ok(mut run) = Run::start(alloc, config, memories, rules) else {
@@ -73,8 +74,9 @@ fn gather_all<R: Wait, S: TextSource, C: TextSource, V: Witness>(
     requires pieces { AreGoing run.old.config.now 0 run.old.walk }
     requires kept { run.old.kept ≡ nothing run.old.memories.now }
     requires gathered { GoesOn run.old.config.now [] gathering.old }
-    ensures answer { AreHonest S.can_fail placer.new.lanes → IsAnswerOf (record { recordings = S.can_fail; certificate = C.can_fail }) run.old.config.now (required_of run.old.memories.now run.old.rules.now) placer.old result }
-    ensures gathered { OnOk result (IsGathered run.old.config.now gathering.new) }
+    ensures shown { AreHonest S.can_fail placer.new.lanes → IsGatheredOf (record { recordings = S.can_fail; certificate = C.can_fail }) run.old.config.now (required_of run.old.memories.now run.old.rules.now) placer.old result gathering.new }
+    ensures gathered { OnOk result (IsGatheredOfSome run.old.config.now gathering.new) }
+    ensures asked { OnOk result (gathering.new.asked ≡ gathering.old.asked) }
 {
     let mut first = 0u64;
     // There are fewer places than this many rounds.

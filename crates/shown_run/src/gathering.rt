@@ -1,12 +1,24 @@
 // What is kept of a run for a picture, while the run is judged.
 
-ghost use Rattle.std.specs.Prelude.{◌≡◌, ◌≤◌, ◌-◌, ◌++◌, [], List, IfOk, OnOk, false, length, true};
+ghost use Rattle.std.specs.Prelude.{◌≡◌, ◌≤◌, ◌-◌, ◌++◌, [], List, IfOk, None, OnOk, false, length, min, true};
 ghost use Rattle.apex_machine.specs.Configuration.{Configuration};
 ghost use Rattle.apex_machine.specs.Runs.{ArePlaced, AreOfCores};
 ghost use Rattle.piece_check.specs.Parts.{Holding};
 ghost use Rattle.placement.specs.Lanes.{AreHonest};
-ghost use Rattle.shown_run.specs.Kept.{AreRecent, IsBegun, most_of};
-ghost use Rattle.shown_run.specs.Stretches.{GoesOn, HaveTaken, IsGathered, IsWhole, KeepsSame, accepted_by};
+ghost use Rattle.shown_run.specs.Kept.{IsBegun, IsKept, most_of};
+ghost use Rattle.shown_run.specs.Stretches.{
+  GoesOn,
+  HaveTaken,
+  IsGathered,
+  IsGatheredOfSome,
+  IsWhole,
+  KeepsSame,
+  NoneIsAfter,
+  accepted_by,
+  asked_of,
+  up_to,
+  with_accepted,
+};
 
 use crate::recent::Recent;
 use crate::round::Round;
@@ -28,7 +40,7 @@ const MOST_AFTER: usize = 20;
 /// What is kept of a run while it is judged.
 #[derive(Drop)]
 pub struct Gathering {
-    asked: Asked,
+    pub asked: Asked,
     /// The records that were accepted last: those of the picture, and some before them.
     pub recent: Recent,
     rejected: Option<Rejected>,
@@ -44,6 +56,7 @@ impl Gathering {
     /// `AllocError` if memory is refused.
     pub fn start(alloc: Global, config: &Config, asked: Asked) -> Result<Gathering, AllocError>
         ensures goes_on { IfOk result (GoesOn config.now []) }
+        ensures asked { IfOk result (λ gathering. gathering.asked ≡ asked) }
     {
         let Ok(recent) = Recent::start(alloc, config, asked.span) else {
             return Err(AllocError);
@@ -70,21 +83,23 @@ impl Gathering {
     ) -> Result<(), AllocError>
         requires begun { self.old.has_ended ≡ false → IsBegun self.old.recent }
         requires few { length round.records.items ≤ most_of self.old.recent }
-        ensures goes_on { OnOk result ((configuration : Configuration) (taken : List Ordered) → GoesOn configuration taken self.old → round.first ≡ length taken → ArePlaced (length taken) round.records.items → AreOfCores configuration.cores round.records.items → HaveTaken configuration taken round.records.items verdict.now walk.now → GoesOn configuration (taken ++ round.records.items) self.new) }
+        ensures gathered { OnOk result ((configuration : Configuration) (taken : List Ordered) → GoesOn configuration taken self.old → round.first ≡ length taken → ArePlaced (length taken) round.records.items → AreOfCores configuration.cores round.records.items → HaveTaken configuration taken round.records.items verdict.now walk.now → IsGathered configuration (with_accepted taken round.records.items verdict.now) self.new) }
+        ensures goes_on { OnOk result ((configuration : Configuration) (taken : List Ordered) → GoesOn configuration taken self.old → round.first ≡ length taken → ArePlaced (length taken) round.records.items → AreOfCores configuration.cores round.records.items → HaveTaken configuration taken round.records.items verdict.now walk.now → verdict.now ≡ None → round.end ≡ None → GoesOn configuration (taken ++ round.records.items) self.new) }
+        ensures asked { OnOk result (self.new.asked ≡ self.old.asked) }
     {
         if self.has_ended {
             return self.show_after(VecDeque::from(round.records));
         }
-        let asked = self.asked.count_from(round.first);
-        if verdict.is_none() && round.end.is_none() && round.records.len() <= asked {
+        let asked = self.asked.count_of(round.first, round.records.len());
+        if verdict.is_none() && round.end.is_none() && round.records.len() == asked {
             self.recent.keep_round(alloc, round.records, walk)?;
             return Ok(());
         }
         self.add_last(round, verdict, asked)
     }
 
-    // Adds the round in which the picture ends, so many of whose records are not after the last place that is asked for. Those that are
-    // accepted are kept; the others are shown as not judged.
+    // Adds the round in which the picture ends, so many of whose records are not after the last place that is asked for. Those of them that
+    // are accepted are kept; the others are shown as not judged.
     fn add_last(
         &mut self,
         round: Round,
@@ -93,12 +108,14 @@ impl Gathering {
     ) -> Result<(), AllocError>
         requires begun { IsBegun self.old.recent }
         requires few { length round.records.items ≤ most_of self.old.recent }
+        requires asked { asked ≡ asked_of self.old.asked.at round.first (length round.records.items) }
         ensures ended { OnOk result (self.new.has_ended ≡ true) }
-        ensures gathered { OnOk result ((configuration : Configuration) (taken : List Ordered) (pieces : List Holding) → AreRecent configuration taken self.old.recent → round.first ≡ length taken → ArePlaced (length taken) round.records.items → AreOfCores configuration.cores round.records.items → HaveTaken configuration taken round.records.items verdict.now pieces → IsGathered configuration self.new) }
+        ensures gathered { OnOk result ((configuration : Configuration) (taken : List Ordered) (pieces : List Holding) → IsGathered configuration taken self.old → NoneIsAfter self.old.asked.at (length taken) → round.first ≡ length taken → ArePlaced (length taken) round.records.items → AreOfCores configuration.cores round.records.items → HaveTaken configuration taken round.records.items verdict.now pieces → IsGathered configuration (with_accepted taken round.records.items verdict.now) self.new) }
+        ensures asked { OnOk result (self.new.asked ≡ self.old.asked) }
     {
         let Round { first, records, .. } = round;
         let accepted = accepted_by(first, records.len(), verdict);
-        let kept = accepted.min(asked).min(records.len());
+        let kept = accepted.min(asked);
         let Ok(mut left) = self.recent.keep_last(records, kept) else {
             return Err(AllocError);
         };
@@ -178,7 +195,8 @@ impl Gathering {
     ///
     /// `AllocError` if memory is refused.
     pub fn end(self, config: &Config) -> Result<Stretch, AllocError>
-        requires { IsGathered config.now self }
+        requires { IsGatheredOfSome config.now self }
+        ensures kept { IfOk result (λ stretch. (taken : List Ordered) → IsGathered config.now taken self → IsKept config.now (up_to self.asked.at taken) stretch.before stretch.kept.items) }
         ensures whole { IfOk result (IsWhole config.now) }
     {
         let Gathering {
@@ -215,8 +233,7 @@ fn index_of(pos: Place, first: u64) -> usize
 
 // How many of so many records, the first of which is at this place, are accepted if this verdict decides among them.
 fn accepted_by(first: u64, count: usize, verdict: &Option<Verdict>) -> usize
-    ensures most { result ≤ accepted_by first count verdict.now }
-    ensures exact { accepted_by first count verdict.now ≤ count → result ≡ accepted_by first count verdict.now }
+    ensures { min result count ≡ min (accepted_by first count verdict.now) count }
 {
     match verdict {
         Some(Verdict::No { pos, .. }) => index_of(*pos, first),

@@ -1,5 +1,8 @@
 // The stretch of a run that a picture shows.
 
+ghost use Rattle.std.specs.Prelude.{◌≡◌};
+ghost use Rattle.shown_run.specs.Stretches.{asked_of};
+
 use crate::walk::Walk;
 use apex_types::{Cause, Ordered};
 use std::collections::VecDeque;
@@ -14,11 +17,16 @@ pub struct Asked {
 }
 
 impl Asked {
-    /// How many records from this place on are not after the last place that may be shown.
-    pub(crate) fn count_from(&self, first: u64) -> usize {
-        match self.at {
-            Some(at) => at.saturating_add(1).saturating_sub(first) as usize,
-            None => usize::MAX,
+    /// How many of so many records, the first of which is at this place, are not after the last place that may be shown.
+    pub(crate) fn count_of(&self, first: u64, count: usize) -> usize
+        ensures { result ≡ asked_of self.now.at first count }
+    {
+        let Some(at) = self.at else {
+            return count;
+        };
+        match at.checked_sub(first) {
+            Some(more) => count.min((more as usize).saturating_add(1)),
+            None => 0,
         }
     }
 }

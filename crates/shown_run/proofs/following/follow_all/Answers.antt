@@ -7,7 +7,7 @@ use Rattle.user_rules.specs.Remembered.{with_kept}
 use Rattle.user_rules.specs.Rules.{required_of}
 use Rattle.verdict_merge.specs.Rounds.{AreGoing}
 use Rattle.shown_run.specs.Judged.{answer_after, filled_of, judging_of}
-use Rattle.shown_run.proofs.Judging.{goes_on, hold_nothing, hold_on, is_followed, lead_on, ready_on, round_answer}
+use Rattle.shown_run.proofs.Judging.{answer_ahead, goes_on, hold_nothing, hold_on, is_followed, lead_on, ready_on, round_answer}
 use Rattle.shown_run.proofs.following.follow_all.Goals as goal
 
 pub records-init : goal.records-init
@@ -37,10 +37,11 @@ returns-in-Some g c = λ honest.
     let decided : IsDecided config (with_kept required c.records.run.kept) (judging_of c.records.first c.records.run.walk c.records.run.kept) records c.in-Ok-judge.verdict (judging_of next c.judge.new.self.walk c.judge.new.self.kept) =
     rw (c.deref.ensures.value, is.config, is.memories, is.rules) at c.in-Ok-judge.ensures.decided in
     rw c.followed.ensures (is_followed _ can_fail config required c.args.placer.now c.in-Some.answer
+    (answer_ahead can_fail config required c.args.placer.now (outcome.0 ++ records) c.in-Some.answer
     (round_answer can_fail config required c.args.placer.now c.next_round.new.placer c.records.first next c.records.run.walk c.judge.new.self.walk c.records.run.kept c.judge.new.self.kept outcome.0 records round.end
     c.in-Ok-judge.verdict c.in-Some.answer answered
     (filled_on can_fail c.args.placer.now c.records.placer c.next_round.new.placer outcome.0 records (filled_of round.end) (outcome.1 (c.next_round.ensures.honest honest)) (c.in-Ok.ensures.filled honest))
-    outcome.2 c.in-Ok.ensures.placed decided))
+    outcome.2 decided)))
 
 pub records-preserved : goal.records-preserved
 records-preserved g c =

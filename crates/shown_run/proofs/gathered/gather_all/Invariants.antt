@@ -18,5 +18,6 @@ invariant-rounds g l = record {
   lanes : length l.placer.lanes ≡ l.fn.run.config.now.cores;
   place : place_of l.placer.kept ≡ l.first;
   pieces : AreGoing l.fn.run.config.now l.first l.run.walk;
+  asked : l.gathering.asked ≡ l.fn.gathering.asked;
   outcome : (before : List Ordered) × (AreHonest g.S.TextSource.can_fail l.placer.lanes → Lead (record { recordings = g.S.TextSource.can_fail; certificate = g.C.TextSource.can_fail }) l.fn.placer before l.placer) × HoldBefore l.fn.run.config.now (required_of l.fn.run.memories.now l.fn.run.rules.now) before (judging_of l.first l.run.walk l.run.kept) × GoesOn l.fn.run.config.now before l.gathering;
 }
