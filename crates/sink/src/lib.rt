@@ -13,7 +13,7 @@
 //!
 //! Promises: all markup is the program's own markup and escaped texts, one after another. In markup, each `<` begins a tag whose name is one
 //! of a few that the program uses, whatever the texts are. What a sink receives is such markup; if it fails, it has the first bytes of it.
-//! If memory is refused, a call returns `AllocError` and adds nothing.
+//! If memory is refused, nothing more is added, and nothing of that markup is sent.
 #![tactic(auto)]
 
 mod count;
@@ -26,7 +26,7 @@ mod written;
 
 pub use count::FailureCount;
 pub use laws::{escaped_has_no_delimiter, tags_are_own};
-pub use markup::Markup;
+pub use markup::{Markup, SendFault};
 pub use output::{Sink, SinkFault};
 pub use writer::WriterSink;
 pub use written::{WriteFault, put_all, put_parts};

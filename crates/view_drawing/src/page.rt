@@ -291,11 +291,11 @@ pub fn explanation_of<R: Files<File = File>>(
 ) -> Result<String, AllocError> {
     let mut words = Words::new(alloc);
     words.append(explainer.noted());
-    if let Some(told) = files.told_of(outcome, explainer) {
+    if let Some(reason) = files.reason_of(outcome, explainer) {
         if !words.is_empty() {
             words.next_line();
         }
-        words.append(&told.words);
+        words.append(&reason.words);
     }
     if words.lacks_memory() {
         return Err(AllocError);

@@ -2,7 +2,9 @@
 use Rattle.std.proofs.Common.{◌≡◌, ◌<◌, ℕ, List, ◌++◌, Option, Some, None, Result, Ok, Err, subst, refl, sym, ap, ◌∙◌, append_assoc}
 use Rattle.sink.specs.Taken.{with_more}
 use Rattle.sink.proofs.Parts.{IsMarkup-append}
-use Rattle.view_page.specs.Sent.{Ends, Sends, SendsFront, Taken}
+use Rattle.std.specs.Prelude.{OnOk}
+use Rattle.sink.specs.Written.{IsWritten}
+use Rattle.view_page.specs.Sent.{Ends, IsBetween, Sends, SendsFront, Taken}
 use Rattle.view_page.specs.declared.fault.PageFault.{PageFault}
 use Rattle.view_page.specs.declared.fault.PageFault.TheVariants.{Memory, Unwritten}
 
@@ -38,3 +40,23 @@ pub ends_after : (a b c : Taken) (r : Result (Unit {0}) PageFault) → Sends a b
 ends_after a b c (Ok done) h k = sends_then h k
 ends_after a b c (Err Memory) h k = sends_then h k
 ends_after a b c (Err Unwritten) h k = front_after h k
+
+-- what went out at first, then inside, and at last: with the markup before it
+pub between : {b c : Taken} (a d : Option (List ℕ)) (first left last : List ℕ) → IsWritten a first b.bytes → Sends b c → IsWritten c.bytes (left ++ last) d → IsBetween first last a d
+between {b} {c} a d first left last begun sends ended = record {
+  inside = sends.sent ++ left;
+  is_written =
+      ended ∙ ap (λ known. with_more known (left ++ last)) (sends.is_written ∙ ap (λ known. with_more known sends.sent) begun ∙ with_more_twice a first sends.sent)
+      ∙ with_more_twice a (first ++ sends.sent) (left ++ last)
+      ∙ ap (λ text. with_more a text) (append_assoc first sends.sent (left ++ last) ∙ ap (λ text. first ++ text) (sym (append_assoc sends.sent left last)));
+}
+
+-- what follows from a fact that holds if a call comes to an end
+pub on_ok : {A E Fact Other : Type 0} (result : Result A E) → OnOk result Fact → (Fact → Other) → OnOk result Other
+on_ok (Ok value) is gives = gives is
+on_ok (Err fault) is gives = tt
+
+-- the same of two facts
+pub on_both : {A E Fact More Other : Type 0} (result : Result A E) → OnOk result Fact → OnOk result More → (Fact → More → Other) → OnOk result Other
+on_both (Ok value) is also gives = gives is also
+on_both (Err fault) is also gives = tt

@@ -1,5 +1,5 @@
 -- What a sink takes of a picture or a page.
-use Rattle.std.specs.Prelude.{◌≡◌, ◌<◌, ℕ, List, Option, Result, Ok, Err}
+use Rattle.std.specs.Prelude.{◌≡◌, ◌<◌, ◌++◌, ℕ, List, Option, Result, Ok, Err, codes}
 use Rattle.sink.specs.Written.{IsWritten, IsCut}
 use Rattle.sink.specs.Markup.{IsMarkup}
 use Rattle.view_page.specs.declared.fault.PageFault.{PageFault}
@@ -32,3 +32,21 @@ abbrev pub Ends : Result (Unit {0}) PageFault → Taken → Taken → Type 0
 Ends (Ok done) before after = Sends before after
 Ends (Err Memory) before after = Sends before after
 Ends (Err Unwritten) before after = SendsFront before after
+
+-- what went out begins with one text and ends with another
+pub record IsBetween (first last : List ℕ) (before after : Option (List ℕ)) : Type 0 where
+  pub inside : List ℕ
+  pub is_written : IsWritten before (first ++ (inside ++ last)) after
+
+-- how a page and a picture by itself begin and end
+abbrev pub page_begins : List ℕ
+page_begins = codes "<!DOCTYPE html>\n"
+
+abbrev pub page_ends : List ℕ
+page_ends = codes "</html>\n"
+
+abbrev pub svg_begins : List ℕ
+svg_begins = codes "<svg "
+
+abbrev pub svg_ends : List ℕ
+svg_ends = codes "</svg>\n"

@@ -3,7 +3,6 @@
 use crate::classes::{classes_of_look, pattern_of};
 use crate::groups::is_shown;
 use sink::Markup;
-use std::alloc::AllocError;
 use view_picture::{Bar, Lane, Look, Picture, Status};
 
 /// What the key says of each look. A core with an occupant looks like a process that runs.
@@ -32,20 +31,20 @@ const LOOKS: [(Look, &str); 15] = [
 ];
 
 /// Adds the key of the picture, if it has records. Of the looks of bars and the grounds of records it has those that the page uses.
-pub fn tell_key(out: &mut Markup, picture: &Picture) -> Result<(), AllocError> {
+pub fn tell_key(out: &mut Markup, picture: &Picture) {
     if picture.len() == 0 {
-        return Ok(());
+        return;
     }
-    out.mark("<ul class=\"key\">\n")?;
+    out.mark("<ul class=\"key\">\n");
     for (look, text) in LOOKS {
         if is_used(picture, look) {
-            tell_look(out, look, text)?;
+            tell_look(out, look, text);
         }
     }
-    out.mark(POINTS)?;
-    tell_grounds(out, picture)?;
-    out.mark(NUMBERS)?;
-    out.mark("</ul>\n")
+    out.mark(POINTS);
+    tell_grounds(out, picture);
+    out.mark(NUMBERS);
+    out.mark("</ul>\n");
 }
 
 // Whether a bar of a lane that the page shows has this look.
@@ -70,38 +69,37 @@ fn looks(bar: &Bar, look: Look) -> bool {
     shown == look && bar.from < bar.to
 }
 
-fn tell_look(out: &mut Markup, look: Look, text: &'static str) -> Result<(), AllocError> {
-    out.mark("<li><svg width=\"34\" height=\"18\" aria-hidden=\"true\"><g class=\"")?;
-    out.mark(classes_of_look(look))?;
-    out.mark("\"><rect class=\"fill\" x=\"2\" y=\"2\" width=\"30\" height=\"14\"/>")?;
+fn tell_look(out: &mut Markup, look: Look, text: &'static str) {
+    out.mark("<li><svg width=\"34\" height=\"18\" aria-hidden=\"true\"><g class=\"");
+    out.mark(classes_of_look(look));
+    out.mark("\"><rect class=\"fill\" x=\"2\" y=\"2\" width=\"30\" height=\"14\"/>");
     if let Some(pattern) = pattern_of(look) {
-        out.mark("<rect class=\"pattern\" fill=\"")?;
-        out.mark(pattern)?;
-        out.mark("\" x=\"2\" y=\"2\" width=\"30\" height=\"14\"/>")?;
+        out.mark("<rect class=\"pattern\" fill=\"");
+        out.mark(pattern);
+        out.mark("\" x=\"2\" y=\"2\" width=\"30\" height=\"14\"/>");
     }
-    out.mark("</g></svg>")?;
-    out.say(text)?;
-    out.mark("</li>\n")
+    out.mark("</g></svg>");
+    out.say(text);
+    out.mark("</li>\n");
 }
 
 // The grounds of records that the page uses.
-fn tell_grounds(out: &mut Markup, picture: &Picture) -> Result<(), AllocError> {
+fn tell_grounds(out: &mut Markup, picture: &Picture) {
     if has_named(picture) {
-        out.mark(NAMED)?;
+        out.mark(NAMED);
     }
     if has_status(picture, Status::Rejected) {
-        out.mark(REJECTED)?;
+        out.mark(REJECTED);
     }
     if has_status(picture, Status::Broken) {
-        out.mark(BROKEN)?;
+        out.mark(BROKEN);
     }
     if has_status(picture, Status::After) {
-        out.mark(AFTER)?;
+        out.mark(AFTER);
     }
     if has_status(picture, Status::Beyond) {
-        out.mark(BEYOND)?;
+        out.mark(BEYOND);
     }
-    Ok(())
 }
 
 // Whether a record of the picture has this status.

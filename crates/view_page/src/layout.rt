@@ -32,7 +32,7 @@ pub const GREATEST_STEP: u64 = 62;
 const LEAST_TICK: u64 = 18;
 
 /// The width of a record that is rejected, and of one whose states are not shown.
-const WIDE_STEP: u64 = 168;
+pub(crate) const WIDE_STEP: u64 = 168;
 
 const NARROW_STEP: u64 = 11;
 
@@ -322,6 +322,15 @@ impl Layout {
         }
     }
 
+    /// Where the label of a record begins whose left edge is here. By ticks it is level, and ends where the strip does at the latest.
+    pub fn left_of_label(&self, record: &Column, left: u64) -> u64 {
+        if self.edges.ticks().is_none() {
+            return left;
+        }
+        let most = self.width.saturating_sub(width_of_label(record));
+        left.min(most).max(LABELS)
+    }
+
     /// The row of the lane of this key with the lane, if the strip shows it.
     pub fn row<'a>(&self, picture: &'a Picture, key: &LaneKey) -> Option<(Row, &'a Lane)> {
         for row in self.rows.iter() {
@@ -362,14 +371,23 @@ fn height_of_labels(picture: &Picture, strip: Strip) -> u64 {
     longest.saturating_add(25)
 }
 
-// How high the label of a record reaches. The one of a fault is bold, after its sign.
+// How high the label of a record reaches.
 fn height_of_label(column: &Column) -> u64 {
-    let letters = column.label.chars().count().min(LONGEST_LABEL) as u64;
     if column.status.is_fault() {
-        letters.saturating_add(2).saturating_mul(8)
+        width_of_label(column)
     } else if column.status.is_judged() {
-        letters.saturating_mul(13) / 2
+        letters_of(column).saturating_mul(13) / 2
     } else {
         0
     }
+}
+
+// The width of the label of a fault, which is bold, after its sign.
+fn width_of_label(column: &Column) -> u64 {
+    letters_of(column).saturating_add(2).saturating_mul(8)
+}
+
+// How many characters of the label of a record are shown.
+fn letters_of(column: &Column) -> u64 {
+    column.label.chars().count().min(LONGEST_LABEL) as u64
 }

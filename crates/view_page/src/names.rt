@@ -7,7 +7,6 @@ use crate::rows::{Heading, Row};
 use crate::shapes::{CHARACTER, Shortened, tell_text};
 use run_view::ThingKey;
 use sink::Markup;
-use std::alloc::AllocError;
 use std::fmt::Display;
 use view_picture::{Lane, LaneKey, Picture};
 
@@ -15,36 +14,35 @@ use view_picture::{Lane, LaneKey, Picture};
 const AFTER_NAME: u64 = 20;
 
 /// Adds the names of the lanes, and the headings above them.
-pub fn tell_names(out: &mut Markup, picture: &Picture, layout: &Layout) -> Result<(), AllocError> {
+pub fn tell_names(out: &mut Markup, picture: &Picture, layout: &Layout) {
     for heading in layout.headings.iter() {
-        tell_heading(out, heading)?;
+        tell_heading(out, heading);
     }
     for row in layout.rows.iter() {
         if let Some(lane) = picture.lanes().get(row.lane) {
-            tell_name(out, *row, lane)?;
+            tell_name(out, *row, lane);
         }
     }
-    Ok(())
 }
 
 /// Begins a part of a lane, with its whole name for a person who points at it.
-pub fn begin_lane(out: &mut Markup, lane: &Lane) -> Result<(), AllocError> {
-    out.mark("<g class=\"lane ")?;
-    out.mark(class_of_lane(&lane.key))?;
-    out.mark("\"><title>")?;
-    out.say(lane.label.as_str())?;
-    out.mark("</title>\n")
+pub fn begin_lane(out: &mut Markup, lane: &Lane) {
+    out.mark("<g class=\"lane ");
+    out.mark(class_of_lane(&lane.key));
+    out.mark("\"><title>");
+    out.say(lane.label.as_str());
+    out.mark("</title>\n");
 }
 
-fn tell_heading(out: &mut Markup, heading: &Heading) -> Result<(), AllocError> {
+fn tell_heading(out: &mut Markup, heading: &Heading) {
     let y = heading.foot.saturating_sub(4);
     match &heading.group {
         Group::OfPartition(LaneKey::Partition(part)) => {
-            tell_text(out, "heading", 6, y, OthersOf(u32::from(part.number())))
+            tell_text(out, "heading", 6, y, OthersOf(u32::from(part.number())));
         }
         Group::Touched => tell_text(out, "heading", 6, y, "what the fault touches"),
         Group::Elsewhere => tell_text(out, "heading", 6, y, "the rest"),
-        Group::OfPartition(_) | Group::InPicture | Group::InStrip => Ok(()),
+        Group::OfPartition(_) | Group::InPicture | Group::InStrip => {}
     }
 }
 
@@ -59,8 +57,8 @@ impl Display for OthersOf {
 }
 
 // The name of a lane, cut in the middle if it is too long for one line.
-fn tell_name(out: &mut Markup, row: Row, lane: &Lane) -> Result<(), AllocError> {
-    begin_lane(out, lane)?;
+fn tell_name(out: &mut Markup, row: Row, lane: &Lane) {
+    begin_lane(out, lane);
     let x = match &lane.key {
         LaneKey::Process(_)
         | LaneKey::Thing(ThingKey::Object { .. })
@@ -69,6 +67,6 @@ fn tell_name(out: &mut Markup, row: Row, lane: &Lane) -> Result<(), AllocError> 
     };
     let most = ((LABELS - AFTER_NAME) / CHARACTER) as usize;
     let y = row.middle().saturating_add(4);
-    tell_text(out, "name", x, y, Shortened(lane.label.as_str(), most))?;
-    out.mark("</g>\n")
+    tell_text(out, "name", x, y, Shortened(lane.label.as_str(), most));
+    out.mark("</g>\n");
 }

@@ -1,9 +1,10 @@
 // The lanes of a strip, in rows one below the other.
 
 use crate::groups::{Group, count_in, is_in};
-use crate::layout::Strip;
+use crate::layout::{Strip, WIDE_STEP};
+use crate::shapes::{CHARACTER, INSIDE};
 use std::alloc::{AllocError, Global};
-use view_picture::{Lane, LaneKey, Picture};
+use view_picture::{Lane, LaneKey, Mark, Picture};
 
 /// The height of the ticks and dispatches of a core, which are below its bars.
 pub const MARKS: u64 = 12;
@@ -19,8 +20,13 @@ const PARTITION_GAP: u64 = 7;
 /// The height of the heading of a group of lanes.
 const HEADING: u64 = 17;
 
-/// The height of a mark with a text.
-const BOX: u64 = 19;
+/// The height of a line of a mark with a text, the free width on both sides of such a mark, and how many characters a line has room for after
+/// the sign of the mark.
+const BOX_LINE: u64 = 19;
+
+pub const BESIDE_BOX: u64 = 3;
+
+const BOX_CHARACTERS: u64 = (WIDE_STEP - 2 * BESIDE_BOX - INSIDE) / CHARACTER - 2;
 
 /// A lane of a strip: its index, and its position.
 #[derive(Clone, Copy, Debug)]
@@ -133,6 +139,51 @@ fn has_heading(group: &Group) -> bool {
     }
 }
 
+/// The lines of a mark with a text. If one line has no room for it, its last word is in a second one.
+#[derive(Clone, Copy)]
+pub(crate) struct BoxLines<'a> {
+    pub first: &'a str,
+    pub second: Option<&'a str>,
+}
+
+impl BoxLines<'_> {
+    /// The lines of a mark.
+    pub fn of(mark: &Mark) -> BoxLines<'_> {
+        let text = mark.text.as_str();
+        if text.chars().count() as u64 > BOX_CHARACTERS {
+            if let Some((first, last)) = text.rsplit_once(' ') {
+                return BoxLines {
+                    first,
+                    second: Some(last),
+                };
+            }
+        }
+        BoxLines {
+            first: text,
+            second: None,
+        }
+    }
+
+    /// How many there are.
+    pub fn count(self) -> u64 {
+        match self.second {
+            Some(_) => 2,
+            None => 1,
+        }
+    }
+}
+
+/// How many lines the marks of a lane have that have texts.
+pub(crate) fn count_box_lines(lane: &Lane) -> u64 {
+    let mut count = 0u64;
+    for mark in lane.marks.iter() {
+        if mark.kind.is_box() {
+            count = count.saturating_add(BoxLines::of(mark).count());
+        }
+    }
+    count
+}
+
 // The height of a lane: that of its kind, or more if it has several marks with texts.
 fn height_of(lane: &Lane) -> u64 {
     let height = match lane.key {
@@ -141,6 +192,5 @@ fn height_of(lane: &Lane) -> u64 {
         LaneKey::Process(_) => 26,
         LaneKey::Thing(_) => 20,
     };
-    let boxes = lane.marks.iter().filter(|mark| mark.kind.is_box()).count() as u64;
-    boxes.saturating_mul(BOX).max(height)
+    count_box_lines(lane).saturating_mul(BOX_LINE).max(height)
 }

@@ -4,7 +4,6 @@ ghost use Rattle.std.specs.Prelude.{◌≡◌, true};
 ghost use Rattle.sink.specs.Own.{is_own};
 
 use sink::Markup;
-use std::alloc::AllocError;
 use std::fmt::Display;
 
 /// The width of a character of a text, in pixels like all lengths here.
@@ -29,53 +28,42 @@ pub(crate) fn tell_rect(
     y: u64,
     right: u64,
     height: u64,
-) -> Result<(), AllocError>
+)
     requires { is_own class.now ≡ true }
 {
-    out.mark("<rect class=\"")?;
-    out.mark(class)?;
-    out.mark("\" ")?;
-    tell_box(out, left, y, right, height)?;
-    out.mark("/>\n")
+    out.mark("<rect class=\"");
+    out.mark(class);
+    out.mark("\" ");
+    tell_box(out, left, y, right, height);
+    out.mark("/>\n");
 }
 
 // Where a rectangle is, after a space in its tag.
-pub(crate) fn tell_box(
-    out: &mut Markup,
-    left: u64,
-    y: u64,
-    right: u64,
-    height: u64,
-) -> Result<(), AllocError> {
-    out.mark("x=\"")?;
-    out.say(left)?;
-    out.mark("\" y=\"")?;
-    out.say(y)?;
-    out.mark("\" width=\"")?;
-    out.say(right.saturating_sub(left))?;
-    out.mark("\" height=\"")?;
-    out.say(height)?;
-    out.mark("\"")
+pub(crate) fn tell_box(out: &mut Markup, left: u64, y: u64, right: u64, height: u64) {
+    out.mark("x=\"");
+    out.say(left);
+    out.mark("\" y=\"");
+    out.say(y);
+    out.mark("\" width=\"");
+    out.say(right.saturating_sub(left));
+    out.mark("\" height=\"");
+    out.say(height);
+    out.mark("\"");
 }
 
 // The size of a picture, whose points are pixels, and of which this one is the leftmost.
-pub(crate) fn tell_size(
-    out: &mut Markup,
-    left: u64,
-    width: u64,
-    height: u64,
-) -> Result<(), AllocError> {
-    out.mark(" width=\"")?;
-    out.say(width)?;
-    out.mark("\" height=\"")?;
-    out.say(height)?;
-    out.mark("\" viewBox=\"")?;
-    out.say(left)?;
-    out.mark(" 0 ")?;
-    out.say(width)?;
-    out.mark(" ")?;
-    out.say(height)?;
-    out.mark("\"")
+pub(crate) fn tell_size(out: &mut Markup, left: u64, width: u64, height: u64) {
+    out.mark(" width=\"");
+    out.say(width);
+    out.mark("\" height=\"");
+    out.say(height);
+    out.mark("\" viewBox=\"");
+    out.say(left);
+    out.mark(" 0 ");
+    out.say(width);
+    out.mark(" ");
+    out.say(height);
+    out.mark("\"");
 }
 
 // A text of this class, which begins at this point.
@@ -85,54 +73,48 @@ pub(crate) fn tell_text(
     x: u64,
     y: u64,
     text: impl Display + Drop,
-) -> Result<(), AllocError>
+)
     requires { is_own class.now ≡ true }
 {
-    out.mark("<text class=\"")?;
-    out.mark(class)?;
-    out.mark("\" x=\"")?;
-    out.say(x)?;
-    out.mark("\" y=\"")?;
-    out.say(y)?;
-    out.mark("\">")?;
-    out.say(text)?;
-    out.mark("</text>\n")
+    out.mark("<text class=\"");
+    out.mark(class);
+    out.mark("\" x=\"");
+    out.say(x);
+    out.mark("\" y=\"");
+    out.say(y);
+    out.mark("\">");
+    out.say(text);
+    out.mark("</text>\n");
 }
 
 // A line from top to bottom, over a broader one in the colour of the background.
-pub(crate) fn tell_line(out: &mut Markup, x: u64, top: u64, bottom: u64) -> Result<(), AllocError> {
-    out.mark("<line class=\"halo\" x1=\"")?;
-    tell_ends(out, x, top, bottom)?;
-    out.mark("<line x1=\"")?;
-    tell_ends(out, x, top, bottom)
+pub(crate) fn tell_line(out: &mut Markup, x: u64, top: u64, bottom: u64) {
+    out.mark("<line class=\"halo\" x1=\"");
+    tell_ends(out, x, top, bottom);
+    out.mark("<line x1=\"");
+    tell_ends(out, x, top, bottom);
 }
 
 // A line of this class from top to bottom.
-pub(crate) fn tell_line_of(
-    out: &mut Markup,
-    class: &'static str,
-    x: u64,
-    top: u64,
-    bottom: u64,
-) -> Result<(), AllocError>
+pub(crate) fn tell_line_of(out: &mut Markup, class: &'static str, x: u64, top: u64, bottom: u64)
     requires { is_own class.now ≡ true }
 {
-    out.mark("<line class=\"")?;
-    out.mark(class)?;
-    out.mark("\" x1=\"")?;
-    tell_ends(out, x, top, bottom)?;
-    out.mark("\n")
+    out.mark("<line class=\"");
+    out.mark(class);
+    out.mark("\" x1=\"");
+    tell_ends(out, x, top, bottom);
+    out.mark("\n");
 }
 
-fn tell_ends(out: &mut Markup, x: u64, top: u64, bottom: u64) -> Result<(), AllocError> {
-    out.say(x)?;
-    out.mark("\" x2=\"")?;
-    out.say(x)?;
-    out.mark("\" y1=\"")?;
-    out.say(top)?;
-    out.mark("\" y2=\"")?;
-    out.say(bottom)?;
-    out.mark("\"/>")
+fn tell_ends(out: &mut Markup, x: u64, top: u64, bottom: u64) {
+    out.say(x);
+    out.mark("\" x2=\"");
+    out.say(x);
+    out.mark("\" y1=\"");
+    out.say(top);
+    out.mark("\" y2=\"");
+    out.say(bottom);
+    out.mark("\"/>");
 }
 
 // The width of a text.
@@ -203,6 +185,22 @@ impl Display for Shortened<'_> {
             f.write_char(character)?;
         }
         Ok(())
+    }
+}
+
+// The label of a record, of which the record is shortened if it has more than this many characters. The outcome after a colon is whole.
+#[derive(Clone, Copy)]
+pub(crate) struct ShortLabel<'a>(pub &'a str, pub usize);
+
+impl Display for ShortLabel<'_> {
+    fn fmt<W: std::fmt::Write>(&self, f: &mut std::fmt::Formatter<W>) -> std::fmt::Result {
+        let Some((record, outcome)) = self.0.rsplit_once(": ") else {
+            return write!(f, "{}", Shortened(self.0, self.1));
+        };
+        let most = self
+            .1
+            .saturating_sub(outcome.chars().count().saturating_add(2));
+        write!(f, "{}: {outcome}", Shortened(record, most))
     }
 }
 

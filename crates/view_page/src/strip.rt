@@ -6,7 +6,7 @@ use crate::html::{PageTexts, tell_heading};
 use crate::layout::{LABELS, LONGEST_LABEL, Layout, Sides, Strip};
 use crate::names::{begin_lane, tell_names};
 use crate::scale::Scale;
-use crate::shapes::{CHARACTER, Numbered, Shortened, tell_rect, tell_size, tell_text};
+use crate::shapes::{Numbered, ShortLabel, tell_rect, tell_size, tell_text};
 use crate::strip_bars::{tell_bar_texts, tell_bars};
 use crate::strip_marks::{tell_arrows, tell_boxes, tell_points};
 use crate::style::{DEFINITIONS, STYLE};
@@ -25,10 +25,7 @@ const ANSWER_CHARACTER: u64 = 8;
 /// The space before such a line.
 const BEFORE_ANSWER: u64 = 8;
 
-/// The width of the longest label of a record, with its sign.
-const LABEL_WIDTH: u64 = (LONGEST_LABEL as u64 + 2) * CHARACTER;
-
-/// How much of a strip is shown first: before the left edge of a fault, beside the names of the lanes, and from this edge on.
+/// How much of a strip is shown first: before the left edge of a fault or its label, beside the names of the lanes, and from this edge on.
 const BEFORE_FAULT: u64 = 26;
 
 const FROM_FAULT: u64 = 176;
@@ -49,15 +46,16 @@ pub fn svg_head(
         width = width.max(layout.width);
         height = height.saturating_add(layout.height);
     }
-    out.mark("<svg xmlns=\"http://www.w3.org/2000/svg\" class=\"alone\"")?;
-    tell_size(out, 0, width, height)?;
-    out.mark(">\n<title>")?;
-    tell_heading(out, picture, texts)?;
-    out.mark("</title>\n<style>")?;
-    out.mark(STYLE)?;
-    out.mark("</style>\n")?;
-    out.mark(DEFINITIONS)?;
-    out.mark("<rect class=\"paper\" width=\"100%\" height=\"100%\"/>\n")
+    out.mark("xmlns=\"http://www.w3.org/2000/svg\" class=\"alone\"");
+    tell_size(out, 0, width, height);
+    out.mark(">\n<title>");
+    tell_heading(out, picture, texts);
+    out.mark("</title>\n<style>");
+    out.mark(STYLE);
+    out.mark("</style>\n");
+    out.mark(DEFINITIONS);
+    out.mark("<rect class=\"paper\" width=\"100%\" height=\"100%\"/>\n");
+    Ok(())
 }
 
 /// Ends a picture by itself, whose strips end at this height, with the line of the answer and why it is not Yes.
@@ -68,12 +66,13 @@ pub fn svg_foot(
     y: u64,
 ) -> Result<(), AllocError> {
     let mut y = y;
-    out.mark("<g class=\"answer\">\n")?;
+    out.mark("<g class=\"answer\">\n");
     for line in wrapped_lines(picture.alloc(), texts)?.iter() {
         y = y.saturating_add(TEXT_LINE);
-        tell_text(out, "line", BEFORE_ANSWER, y, line)?;
+        tell_text(out, "line", BEFORE_ANSWER, y, line);
     }
-    out.mark("</g>\n</svg>\n")
+    out.mark("</g>\n");
+    Ok(())
 }
 
 // The width of the lines of an answer.
@@ -91,16 +90,16 @@ pub fn tell_strip(
     y: u64,
 ) -> Result<u64, AllocError> {
     let layout = Layout::whole(picture, scale, strip)?;
-    out.mark("<svg class=\"strip\" y=\"")?;
-    out.say(y)?;
-    out.mark("\"")?;
-    tell_size(out, 0, layout.width, layout.height)?;
-    out.mark(" role=\"img\">\n<title>")?;
-    tell_places(out, picture, strip)?;
-    out.mark("</title>\n")?;
-    tell_names(out, picture, &layout)?;
-    tell_near_parts(out, picture, &layout)?;
-    out.mark("</svg>\n")?;
+    out.mark("<svg class=\"strip\" y=\"");
+    out.say(y);
+    out.mark("\"");
+    tell_size(out, 0, layout.width, layout.height);
+    out.mark(" role=\"img\">\n<title>");
+    tell_places(out, picture, strip);
+    out.mark("</title>\n");
+    tell_names(out, picture, &layout);
+    tell_near_parts(out, picture, &layout);
+    out.mark("</svg>\n");
     Ok(y.saturating_add(layout.height))
 }
 
@@ -112,27 +111,28 @@ pub fn tell_near(
     strip: Strip,
 ) -> Result<(), AllocError> {
     let layout = Layout::near(picture, scale, strip)?;
-    begin_box(out, picture, &layout)?;
-    tell_near_parts(out, picture, &layout)?;
-    end_box(out)
+    begin_box(out, picture, &layout);
+    tell_near_parts(out, picture, &layout);
+    end_box(out);
+    Ok(())
 }
 
 // What is in a strip that has the labels of its records, except for the names of the lanes.
-fn tell_near_parts(out: &mut Markup, picture: &Picture, layout: &Layout) -> Result<(), AllocError> {
-    tell_grounds(out, picture, layout)?;
-    tell_times(out, picture, layout)?;
-    tell_columns(out, picture, layout)?;
-    tell_lanes(out, picture, layout)
+fn tell_near_parts(out: &mut Markup, picture: &Picture, layout: &Layout) {
+    tell_grounds(out, picture, layout);
+    tell_times(out, picture, layout);
+    tell_columns(out, picture, layout);
+    tell_lanes(out, picture, layout);
 }
 
 /// Adds a major frame to a page.
-pub fn tell_frame(out: &mut Markup, picture: &Picture, layout: &Layout) -> Result<(), AllocError> {
-    begin_box(out, picture, layout)?;
-    tell_grounds(out, picture, layout)?;
-    tell_times(out, picture, layout)?;
-    tell_again(out, picture, layout)?;
-    tell_lanes(out, picture, layout)?;
-    end_box(out)
+pub fn tell_frame(out: &mut Markup, picture: &Picture, layout: &Layout) {
+    begin_box(out, picture, layout);
+    tell_grounds(out, picture, layout);
+    tell_times(out, picture, layout);
+    tell_again(out, picture, layout);
+    tell_lanes(out, picture, layout);
+    end_box(out);
 }
 
 /// Adds the lanes of a strip that have nothing to do with a fault in it, folded, if there are any.
@@ -147,60 +147,62 @@ pub fn tell_elsewhere(
         return Ok(());
     }
     let layout = Layout::elsewhere(picture, scale, strip)?;
-    out.mark("<details class=\"elsewhere\">\n<summary>")?;
-    out.say(count)?;
+    out.mark("<details class=\"elsewhere\">\n<summary>");
+    out.say(count);
     out.say(if count == 1 {
         " more lane"
     } else {
         " more lanes"
-    })?;
-    out.mark(", which the fault does not touch</summary>\n")?;
-    begin_box(out, picture, &layout)?;
-    tell_grounds(out, picture, &layout)?;
-    tell_numbers(out, picture, &layout)?;
-    tell_lanes(out, picture, &layout)?;
-    end_box(out)?;
-    out.mark("</details>\n")
+    });
+    out.mark(", which the fault does not touch</summary>\n");
+    begin_box(out, picture, &layout);
+    tell_grounds(out, picture, &layout);
+    tell_numbers(out, picture, &layout);
+    tell_lanes(out, picture, &layout);
+    end_box(out);
+    out.mark("</details>\n");
+    Ok(())
 }
 
 // Begins the box of a page in which a strip scrolls sideways: the names of its lanes, which stay, and the strip up to its title.
-fn begin_box(out: &mut Markup, picture: &Picture, layout: &Layout) -> Result<(), AllocError> {
-    out.mark("<div class=\"scrolled\" tabindex=\"0\"><div class=\"beside\">\n")?;
-    tell_target(out, picture, layout)?;
-    out.mark("<svg class=\"strip names\"")?;
-    tell_size(out, 0, LABELS, layout.height)?;
-    out.mark(">\n<rect class=\"paper\" width=\"100%\" height=\"100%\"/>\n")?;
-    tell_names(out, picture, layout)?;
-    out.mark("</svg>\n<svg class=\"strip\"")?;
+fn begin_box(out: &mut Markup, picture: &Picture, layout: &Layout) {
+    out.mark("<div class=\"scrolled\" tabindex=\"0\"><div class=\"beside\">\n");
+    tell_target(out, picture, layout);
+    out.mark("<svg class=\"strip names\"");
+    tell_size(out, 0, LABELS, layout.height);
+    out.mark(">\n<rect class=\"paper\" width=\"100%\" height=\"100%\"/>\n");
+    tell_names(out, picture, layout);
+    out.mark("</svg>\n<svg class=\"strip\"");
     tell_size(
         out,
         LABELS,
         layout.width.saturating_sub(LABELS),
         layout.height,
-    )?;
-    out.mark(" role=\"img\">\n<title>")?;
-    tell_places(out, picture, layout.strip)?;
-    out.mark("; the table below says the same</title>\n")
+    );
+    out.mark(" role=\"img\">\n<title>");
+    tell_places(out, picture, layout.strip);
+    out.mark("; the table below says the same</title>\n");
 }
 
 // Adds what is shown first of a strip that has a record that is rejected or breaks a rule: its box begins scrolled there.
-fn tell_target(out: &mut Markup, picture: &Picture, layout: &Layout) -> Result<(), AllocError> {
+fn tell_target(out: &mut Markup, picture: &Picture, layout: &Layout) {
     let Some(Sides { left, right }) = target_of(picture, layout) else {
-        return Ok(());
+        return;
     };
-    out.mark("<div class=\"to-fault\"><svg width=\"")?;
-    out.say(left)?;
-    out.mark("\" height=\"1\"></svg><svg class=\"target\" width=\"")?;
-    out.say(right.saturating_sub(left))?;
-    out.mark("\" height=\"1\"></svg></div>\n")
+    out.mark("<div class=\"to-fault\"><svg width=\"");
+    out.say(left);
+    out.mark("\" height=\"1\"></svg><svg class=\"target\" width=\"");
+    out.say(right.saturating_sub(left));
+    out.mark("\" height=\"1\"></svg></div>\n");
 }
 
-// What is shown first of a strip that has such a record: the record, and to its left the names of the lanes, which cover as much of the box.
+// What is shown first of a strip that has such a record: the record with its label, and to its left the names of the lanes, which cover as
+// much of the box.
 fn target_of(picture: &Picture, layout: &Layout) -> Option<Sides> {
     for index in layout.strip.from..layout.strip.to {
         if let Some(column) = picture.columns().get(index) {
             if column.status.is_fault() {
-                let left = layout.sides(column, index).left;
+                let left = layout.left_of_label(column, layout.sides(column, index).left);
                 return Some(Sides {
                     left: left.saturating_sub(LABELS + BEFORE_FAULT),
                     right: left.saturating_add(FROM_FAULT).min(layout.width),
@@ -212,82 +214,79 @@ fn target_of(picture: &Picture, layout: &Layout) -> Option<Sides> {
 }
 
 // Ends that box.
-fn end_box(out: &mut Markup) -> Result<(), AllocError> {
-    out.mark("</svg>\n</div></div>\n")
+fn end_box(out: &mut Markup) {
+    out.mark("</svg>\n</div></div>\n");
 }
 
 // The labels and numbers of the records, and what each says when a person points at it. By ticks, the records at a time have neither.
-fn tell_columns(out: &mut Markup, picture: &Picture, layout: &Layout) -> Result<(), AllocError> {
+fn tell_columns(out: &mut Markup, picture: &Picture, layout: &Layout) {
     let is_by_ticks = layout.edges.ticks().is_some();
     if is_by_ticks {
-        tell_slots(out, picture, layout)?;
+        tell_slots(out, picture, layout);
     }
     for column in layout.strip.from..layout.strip.to {
         if let Some(one) = picture.columns().get(column) {
             if !is_by_ticks || one.time.is_none() {
-                tell_column(out, layout, column, one)?;
+                tell_column(out, layout, column, one);
             }
         }
     }
-    Ok(())
 }
 
 // The numbers of the records alone, or the times and the records that are at one.
-fn tell_numbers(out: &mut Markup, picture: &Picture, layout: &Layout) -> Result<(), AllocError> {
+fn tell_numbers(out: &mut Markup, picture: &Picture, layout: &Layout) {
     if layout.edges.ticks().is_some() {
-        tell_times(out, picture, layout)?;
-        return tell_slots(out, picture, layout);
+        tell_times(out, picture, layout);
+        tell_slots(out, picture, layout);
+        return;
     }
     for column in layout.strip.from..layout.strip.to {
         if let Some(one) = picture.columns().get(column) {
-            tell_number(out, layout, column, one)?;
+            tell_number(out, layout, column, one);
         }
     }
-    Ok(())
 }
 
 // The lanes of a strip. No line is over a text: first the bars, then the frames, the arrows and the marks without texts, and then all texts.
-fn tell_lanes(out: &mut Markup, picture: &Picture, layout: &Layout) -> Result<(), AllocError> {
+fn tell_lanes(out: &mut Markup, picture: &Picture, layout: &Layout) {
     for row in layout.rows.iter() {
         if let Some(lane) = picture.lanes().get(row.lane) {
-            begin_lane(out, lane)?;
-            tell_bars(out, picture, layout, *row, lane)?;
-            out.mark("</g>\n")?;
+            begin_lane(out, lane);
+            tell_bars(out, picture, layout, *row, lane);
+            out.mark("</g>\n");
         }
     }
-    tell_bounds(out, picture, layout)?;
-    tell_frames(out, picture, layout)?;
-    tell_arrows(out, picture, layout)?;
+    tell_bounds(out, picture, layout);
+    tell_frames(out, picture, layout);
+    tell_arrows(out, picture, layout);
     for row in layout.rows.iter() {
         if let Some(lane) = picture.lanes().get(row.lane) {
-            begin_lane(out, lane)?;
-            tell_points(out, picture, layout, *row, lane)?;
-            out.mark("</g>\n")?;
+            begin_lane(out, lane);
+            tell_points(out, picture, layout, *row, lane);
+            out.mark("</g>\n");
         }
     }
     for row in layout.rows.iter() {
         if let Some(lane) = picture.lanes().get(row.lane) {
-            begin_lane(out, lane)?;
-            tell_bar_texts(out, layout, *row, lane)?;
-            tell_boxes(out, picture, layout, *row, lane)?;
-            out.mark("</g>\n")?;
+            begin_lane(out, lane);
+            tell_bar_texts(out, layout, *row, lane);
+            tell_boxes(out, picture, layout, *row, lane);
+            out.mark("</g>\n");
         }
     }
-    Ok(())
 }
 
 // The places of a strip.
-fn tell_places(out: &mut Markup, picture: &Picture, strip: Strip) -> Result<(), AllocError> {
+fn tell_places(out: &mut Markup, picture: &Picture, strip: Strip) {
     let first = picture.columns().get(strip.from);
     let last = picture.columns().get(strip.to.saturating_sub(1));
     if let (Some(first), Some(last)) = (first, last) {
-        out.say(format_args!("Places {} to {}", first.place.number(), last.place.number()))?;
+        out.say(format_args!("Places {} to {}", first.place.number(), last.place.number()));
     }
-    Ok(())
 }
 
 // The grounds of the lanes, and of the records that are rejected, named by the explanation, or not judged.
-fn tell_grounds(out: &mut Markup, picture: &Picture, layout: &Layout) -> Result<(), AllocError> {
+fn tell_grounds(out: &mut Markup, picture: &Picture, layout: &Layout) {
     for row in layout.rows.iter() {
         tell_rect(
             out,
@@ -296,7 +295,7 @@ fn tell_grounds(out: &mut Markup, picture: &Picture, layout: &Layout) -> Result<
             row.y,
             layout.edges.right(),
             row.height,
-        )?;
+        );
     }
     let height = layout.bottom.saturating_sub(layout.top);
     for column in layout.strip.from..layout.strip.to {
@@ -307,13 +306,12 @@ fn tell_grounds(out: &mut Markup, picture: &Picture, layout: &Layout) -> Result<
             continue;
         };
         let Sides { left, right } = layout.sides(one, column);
-        tell_rect(out, class, left, layout.top, right, height)?;
+        tell_rect(out, class, left, layout.top, right, height);
     }
-    Ok(())
 }
 
 // The frame around a record that is rejected or whose view breaks a rule, and the text over the records that are not judged.
-fn tell_frames(out: &mut Markup, picture: &Picture, layout: &Layout) -> Result<(), AllocError> {
+fn tell_frames(out: &mut Markup, picture: &Picture, layout: &Layout) {
     let height = layout.bottom.saturating_sub(layout.top);
     let mut is_said = false;
     for column in layout.strip.from..layout.strip.to {
@@ -324,7 +322,7 @@ fn tell_frames(out: &mut Markup, picture: &Picture, layout: &Layout) -> Result<(
         match one.status {
             Status::Accepted => {}
             Status::Rejected | Status::Broken => {
-                tell_rect(out, "frame", left, layout.top, right, height)?;
+                tell_rect(out, "frame", left, layout.top, right, height);
             }
             Status::After | Status::Beyond if !is_said => {
                 is_said = true;
@@ -334,84 +332,66 @@ fn tell_frames(out: &mut Markup, picture: &Picture, layout: &Layout) -> Result<(
                 } else {
                     "not shown"
                 };
-                tell_text(out, "place", left.saturating_add(3), y, said)?;
+                tell_text(out, "place", left.saturating_add(3), y, said);
             }
             Status::After | Status::Beyond => {}
         }
     }
-    Ok(())
 }
 
 // The label of a record, its place, and what it says when a person points at it.
-fn tell_column(
-    out: &mut Markup,
-    layout: &Layout,
-    index: usize,
-    column: &Column,
-) -> Result<(), AllocError> {
+fn tell_column(out: &mut Markup, layout: &Layout, index: usize, column: &Column) {
     let Sides { left, right } = layout.sides(column, index);
-    out.mark("<g class=\"record ")?;
-    out.mark(class_of_status(column.status))?;
-    out.mark("\" data-place=\"")?;
-    out.say(column.place.number())?;
-    out.mark("\"><title>")?;
-    tell_record(out, column)?;
-    out.mark("</title>\n")?;
+    out.mark("<g class=\"record ");
+    out.mark(class_of_status(column.status));
+    out.mark("\" data-place=\"");
+    out.say(column.place.number());
+    out.mark("\"><title>");
+    tell_record(out, column);
+    out.mark("</title>\n");
     let height = layout.bottom.saturating_sub(layout.foot_of_labels);
-    tell_rect(out, "hit", left, layout.foot_of_labels, right, height)?;
+    tell_rect(out, "hit", left, layout.foot_of_labels, right, height);
     if column.status.is_judged() {
-        tell_label_at(out, layout, left, column)?;
+        tell_label_at(out, layout, left, column);
     }
-    tell_number(out, layout, index, column)?;
-    out.mark("</g>\n")
+    tell_number(out, layout, index, column);
+    out.mark("</g>\n");
 }
 
 /// Adds the label of a record at this left edge: slanted, or by ticks, where it is the only one, above the major frames.
-pub fn tell_label_at(
-    out: &mut Markup,
-    layout: &Layout,
-    left: u64,
-    column: &Column,
-) -> Result<(), AllocError> {
-    out.mark("<text class=\"label\" transform=\"translate(")?;
+pub fn tell_label_at(out: &mut Markup, layout: &Layout, left: u64, column: &Column) {
+    out.mark("<text class=\"label\" transform=\"translate(");
     if layout.edges.ticks().is_some() {
-        let most = layout.width.saturating_sub(LABEL_WIDTH);
-        out.say(left.min(most).max(LABELS))?;
-        out.mark(",13)\">")?;
+        out.say(layout.left_of_label(column, left));
+        out.mark(",13)\">");
     } else {
-        out.say(left.saturating_add(9))?;
-        out.mark(",")?;
-        out.say(layout.foot_of_labels.saturating_sub(5))?;
-        out.mark(") rotate(-62)\">")?;
+        out.say(left.saturating_add(9));
+        out.mark(",");
+        out.say(layout.foot_of_labels.saturating_sub(5));
+        out.mark(") rotate(-62)\">");
     }
-    tell_label(out, column)
+    tell_label(out, column);
 }
 
-fn tell_label(out: &mut Markup, column: &Column) -> Result<(), AllocError> {
+fn tell_label(out: &mut Markup, column: &Column) {
     if column.status.is_fault() {
-        out.mark("✗ ")?;
+        out.mark("✗ ");
     }
-    out.say(Shortened(column.label.as_str(), LONGEST_LABEL))?;
-    out.mark("</text>\n")
+    out.say(ShortLabel(column.label.as_str(), LONGEST_LABEL));
+    out.mark("</text>\n");
 }
 
 // The place of a record that is judged, if there is room for it.
-fn tell_number(
-    out: &mut Markup,
-    layout: &Layout,
-    index: usize,
-    column: &Column,
-) -> Result<(), AllocError> {
+fn tell_number(out: &mut Markup, layout: &Layout, index: usize, column: &Column) {
     if !column.status.is_judged() {
-        return Ok(());
+        return;
     }
     let place = column.place.number();
     let x = layout.sides(column, index).left.saturating_add(2);
     let y = layout.foot_of_labels.saturating_add(11);
     if layout.edges.ticks().is_some() {
-        tell_text(out, "place", x, y, Numbered("place", place))?;
+        tell_text(out, "place", x, y, Numbered("place", place));
     } else if place < 10_000 || index % 3 == 0 {
-        tell_text(out, "place", x, y, place)?;
+        tell_text(out, "place", x, y, place);
     }
-    Ok(())
 }

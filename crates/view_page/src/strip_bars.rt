@@ -10,7 +10,6 @@ use crate::shapes::{
     BAND, BEFORE_TEXT, CHARACTER, Fitted, INSIDE, count_within, tell_box, tell_text, width_of_text,
 };
 use sink::Markup;
-use std::alloc::AllocError;
 use view_picture::{Bar, Lane, LaneKey, Picture, Saying};
 
 /// The fewest characters of a text that are worth showing.
@@ -41,44 +40,31 @@ fn places_of(row: Row, lane: &Lane) -> Places {
 }
 
 /// Adds the bars of a lane, without their texts.
-pub fn tell_bars(
-    out: &mut Markup,
-    picture: &Picture,
-    layout: &Layout,
-    row: Row,
-    lane: &Lane,
-) -> Result<(), AllocError> {
+pub fn tell_bars(out: &mut Markup, picture: &Picture, layout: &Layout, row: Row, lane: &Lane) {
     let windows = Places {
         y: row.y,
         height: BAND,
     };
     for bar in lane.windows.as_slice() {
-        tell_bar(out, picture, layout, lane, bar, windows)?;
+        tell_bar(out, picture, layout, lane, bar, windows);
     }
     for bar in lane.bars.as_slice() {
-        tell_bar(out, picture, layout, lane, bar, places_of(row, lane))?;
+        tell_bar(out, picture, layout, lane, bar, places_of(row, lane));
     }
-    Ok(())
 }
 
 /// Adds the texts of the bars of a lane.
-pub fn tell_bar_texts(
-    out: &mut Markup,
-    layout: &Layout,
-    row: Row,
-    lane: &Lane,
-) -> Result<(), AllocError> {
+pub fn tell_bar_texts(out: &mut Markup, layout: &Layout, row: Row, lane: &Lane) {
     let windows = Places {
         y: row.y,
         height: BAND,
     };
     for bar in lane.windows.as_slice() {
-        tell_bar_text(out, layout, lane, bar, windows)?;
+        tell_bar_text(out, layout, lane, bar, windows);
     }
     for bar in lane.bars.as_slice() {
-        tell_bar_text(out, layout, lane, bar, places_of(row, lane))?;
+        tell_bar_text(out, layout, lane, bar, places_of(row, lane));
     }
-    Ok(())
 }
 
 // Where a bar of a lane begins and ends in a strip. None if it is not in it, or takes no time.
@@ -103,42 +89,36 @@ fn tell_bar(
     lane: &Lane,
     bar: &Bar,
     places: Places,
-) -> Result<(), AllocError> {
+) {
     let Some(Sides { left, right }) = ends_of(layout, lane, bar) else {
-        return Ok(());
+        return;
     };
-    out.mark("<g class=\"")?;
-    out.mark(classes_of_look(bar.saying.look))?;
-    out.mark("\"><title>")?;
-    out.say(bar.saying.title.as_str())?;
-    tell_stretch(out, picture, bar)?;
-    out.mark("</title><rect class=\"fill\" ")?;
-    tell_box(out, left, places.y, right, places.height)?;
-    out.mark("/>")?;
+    out.mark("<g class=\"");
+    out.mark(classes_of_look(bar.saying.look));
+    out.mark("\"><title>");
+    out.say(bar.saying.title.as_str());
+    tell_stretch(out, picture, bar);
+    out.mark("</title><rect class=\"fill\" ");
+    tell_box(out, left, places.y, right, places.height);
+    out.mark("/>");
     if let Some(pattern) = pattern_of(bar.saying.look) {
-        out.mark("<rect class=\"pattern\" fill=\"")?;
-        out.mark(pattern)?;
-        out.mark("\" ")?;
-        tell_box(out, left, places.y, right, places.height)?;
-        out.mark("/>")?;
+        out.mark("<rect class=\"pattern\" fill=\"");
+        out.mark(pattern);
+        out.mark("\" ");
+        tell_box(out, left, places.y, right, places.height);
+        out.mark("/>");
     }
-    out.mark("</g>\n")
+    out.mark("</g>\n");
 }
 
 // The text of a bar, as far as there is room for it, on a plate of the bar's colour.
-fn tell_bar_text(
-    out: &mut Markup,
-    layout: &Layout,
-    lane: &Lane,
-    bar: &Bar,
-    places: Places,
-) -> Result<(), AllocError> {
+fn tell_bar_text(out: &mut Markup, layout: &Layout, lane: &Lane, bar: &Bar, places: Places) {
     let Some(Sides { left, right }) = ends_of(layout, lane, bar) else {
-        return Ok(());
+        return;
     };
     let room = right.saturating_sub(left).saturating_sub(INSIDE);
     let Some(text) = text_that_fits(&bar.saying, room) else {
-        return Ok(());
+        return;
     };
     let x = left.saturating_add(BEFORE_TEXT);
     let y = places
@@ -148,14 +128,14 @@ fn tell_bar_text(
     let end = x
         .saturating_add(width_of_text(text).min(room))
         .saturating_add(1);
-    out.mark("<g class=\"")?;
-    out.mark(classes_of_look(bar.saying.look))?;
-    out.mark("\"><rect class=\"plate\" ")?;
-    tell_box(out, x.saturating_sub(2), y.saturating_sub(9), end, 11)?;
-    out.mark("/>")?;
+    out.mark("<g class=\"");
+    out.mark(classes_of_look(bar.saying.look));
+    out.mark("\"><rect class=\"plate\" ");
+    tell_box(out, x.saturating_sub(2), y.saturating_sub(9), end, 11);
+    out.mark("/>");
     let shown = Fitted(text, count_within(text, room));
-    tell_text(out, class_of_text(places.height), x, y, shown)?;
-    out.mark("</g>\n")
+    tell_text(out, class_of_text(places.height), x, y, shown);
+    out.mark("</g>\n");
 }
 
 // The class of the text of a bar of this height.
@@ -180,13 +160,13 @@ fn text_that_fits(saying: &Saying, room: u64) -> Option<&str> {
 }
 
 // The first and the last place of a bar.
-fn tell_stretch(out: &mut Markup, picture: &Picture, bar: &Bar) -> Result<(), AllocError> {
-    out.mark("\n")?;
+fn tell_stretch(out: &mut Markup, picture: &Picture, bar: &Bar) {
+    out.mark("\n");
     match picture.columns().get(bar.from) {
         Some(column) if bar.from > 0 => {
-            out.say(format_args!("from place {}", column.place.number()))?;
+            out.say(format_args!("from place {}", column.place.number()));
         }
-        _ => out.mark("from before the picture or its first record")?,
+        _ => out.mark("from before the picture or its first record"),
     }
     match picture.columns().get(bar.to) {
         Some(column) => out.say(format_args!(", up to place {}", column.place.number())),

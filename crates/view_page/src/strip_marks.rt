@@ -4,12 +4,14 @@ use crate::classes::{
     class_of_point, classes_of_arrow, classes_of_box, sign_of_box, words_of_arrow,
 };
 use crate::layout::{LABELS, Layout};
-use crate::rows::{ABOVE_FOOT, MARKS, Row};
-use crate::shapes::{CHARACTER, Fitted, INSIDE, tell_box, tell_line};
+use crate::rows::{ABOVE_FOOT, BESIDE_BOX, BoxLines, MARKS, Row, count_box_lines};
+use crate::shapes::{tell_box, tell_line, tell_text};
 use sink::Markup;
-use std::alloc::AllocError;
 use std::fmt::Display;
 use view_picture::{Arrow, ArrowEnd, ArrowKind, Lane, Mark, MarkKind, Picture};
+
+/// How far the two lines of a mark with a text are from their middle.
+const HALF_LINE: u64 = 7;
 
 // The marks of a lane at the left edges of records.
 pub(crate) fn tell_points(
@@ -18,13 +20,12 @@ pub(crate) fn tell_points(
     layout: &Layout,
     row: Row,
     lane: &Lane,
-) -> Result<(), AllocError> {
+) {
     for mark in lane.marks.iter() {
         if layout.has(picture, mark.column) && !mark.kind.is_box() {
-            tell_point_mark(out, picture, layout, lane, mark, row)?;
+            tell_point_mark(out, picture, layout, lane, mark, row);
         }
     }
-    Ok(())
 }
 
 // The marks of a lane that have their texts beside them, one below the other.
@@ -34,55 +35,65 @@ pub(crate) fn tell_boxes(
     layout: &Layout,
     row: Row,
     lane: &Lane,
-) -> Result<(), AllocError> {
-    let boxes = lane.marks.iter().filter(|mark| mark.kind.is_box()).count() as u64;
-    let height = row.height / boxes.max(1);
+) {
+    let line = row.height / count_box_lines(lane).max(1);
     let mut y = row.y;
     for mark in lane.marks.iter() {
         if layout.has(picture, mark.column) && mark.kind.is_box() {
-            tell_box_mark(out, layout, lane, mark, y, height)?;
+            let height = line.saturating_mul(BoxLines::of(mark).count());
+            tell_box_mark(out, layout, lane, mark, y, height);
             y = y.saturating_add(height);
         }
     }
-    Ok(())
 }
 
 // A mark with its text in the column of the record that is rejected.
-fn tell_box_mark(
-    out: &mut Markup,
-    layout: &Layout,
-    lane: &Lane,
-    mark: &Mark,
-    y: u64,
-    height: u64,
-) -> Result<(), AllocError> {
+fn tell_box_mark(out: &mut Markup, layout: &Layout, lane: &Lane, mark: &Mark, y: u64, height: u64) {
     let (left, right) = (
-        layout.left(lane, mark.column).saturating_add(3),
+        layout.left(lane, mark.column).saturating_add(BESIDE_BOX),
         layout
             .left(lane, mark.column.saturating_add(1))
-            .saturating_sub(3),
+            .saturating_sub(BESIDE_BOX),
     );
-    out.mark("<g class=\"")?;
-    out.mark(classes_of_box(mark.kind))?;
-    out.mark("\"><title>")?;
-    out.say(mark.text.as_str())?;
-    out.mark("</title><rect ")?;
+    out.mark("<g class=\"");
+    out.mark(classes_of_box(mark.kind));
+    out.mark("\"><title>");
+    out.say(mark.text.as_str());
+    out.mark("</title><rect ");
     tell_box(
         out,
         left,
         y.saturating_add(1),
         right,
         height.saturating_sub(2),
-    )?;
-    out.mark("/><text class=\"said\" x=\"")?;
-    out.say(left.saturating_add(4))?;
-    out.mark("\" y=\"")?;
-    out.say(y.saturating_add(height / 2).saturating_add(4))?;
-    out.mark("\">")?;
-    out.mark(sign_of_box(mark.kind))?;
-    let room = right.saturating_sub(left).saturating_sub(INSIDE) / CHARACTER;
-    out.say(Fitted(mark.text.as_str(), (room as usize).saturating_sub(2)))?;
-    out.mark("</text></g>\n")
+    );
+    out.mark("/>");
+    let middle = y.saturating_add(height / 2).saturating_add(4);
+    tell_box_lines(out, mark, left.saturating_add(4), middle);
+    out.mark("</g>\n");
+}
+
+// The lines of a mark with its text, around the line at this height.
+fn tell_box_lines(out: &mut Markup, mark: &Mark, x: u64, middle: u64) {
+    let BoxLines { first, second } = BoxLines::of(mark);
+    let signed = Signed(mark.kind, first);
+    match second {
+        None => tell_text(out, "said", x, middle, signed),
+        Some(second) => {
+            tell_text(out, "said", x, middle.saturating_sub(HALF_LINE), signed);
+            tell_text(out, "said", x, middle.saturating_add(HALF_LINE), second);
+        }
+    }
+}
+
+// A text after the sign of its mark.
+#[derive(Clone, Copy)]
+struct Signed<'a>(MarkKind, &'a str);
+
+impl Display for Signed<'_> {
+    fn fmt<W: std::fmt::Write>(&self, f: &mut std::fmt::Formatter<W>) -> std::fmt::Result {
+        write!(f, "{}{}", sign_of_box(self.0), self.1)
+    }
 }
 
 // A mark at the left edge of a record.
@@ -93,18 +104,18 @@ fn tell_point_mark(
     lane: &Lane,
     mark: &Mark,
     row: Row,
-) -> Result<(), AllocError> {
-    out.mark("<g class=\"mark ")?;
-    out.mark(class_of_point(mark.kind))?;
-    out.mark("\"><title>")?;
-    out.say(mark.text.as_str())?;
+) {
+    out.mark("<g class=\"mark ");
+    out.mark(class_of_point(mark.kind));
+    out.mark("\"><title>");
+    out.say(mark.text.as_str());
     if let Some(column) = picture.columns().get(mark.column) {
-        out.mark("\n")?;
-        out.say(column.source.as_str())?;
+        out.mark("\n");
+        out.say(column.source.as_str());
     }
-    out.mark("</title>")?;
-    tell_point(out, picture, layout, lane, mark, row)?;
-    out.mark("</g>\n")
+    out.mark("</title>");
+    tell_point(out, picture, layout, lane, mark, row);
+    out.mark("</g>\n");
 }
 
 // The sign of a mark at the left edge of a record.
@@ -115,18 +126,18 @@ fn tell_point(
     lane: &Lane,
     mark: &Mark,
     row: Row,
-) -> Result<(), AllocError> {
+) {
     let x = layout.left(lane, mark.column);
     match mark.kind {
         MarkKind::Tick => tell_line(out, x, row.foot().saturating_sub(MARKS), row.foot()),
         MarkKind::Restart => {
             let bottom = foot_of_partition(picture, layout, row);
-            tell_line(out, x, row.y.saturating_sub(4), bottom)
+            tell_line(out, x, row.y.saturating_sub(4), bottom);
         }
         MarkKind::Dispatch => {
-            out.mark("<path d=\"M")?;
-            out.say(format_args!("{x},{}", row.foot().saturating_sub(MARKS)))?;
-            out.mark("l9,6l-9,6z\"/>")
+            out.mark("<path d=\"M");
+            out.say(format_args!("{x},{}", row.foot().saturating_sub(MARKS)));
+            out.mark("l9,6l-9,6z\"/>");
         }
         MarkKind::Call
         | MarkKind::Return
@@ -135,11 +146,11 @@ fn tell_point(
         | MarkKind::Rejected
         | MarkKind::Lawful
         | MarkKind::Unlawful => {
-            out.mark("<circle r=\"3.5\" cx=\"")?;
-            out.say(x)?;
-            out.mark("\" cy=\"")?;
-            out.say(row.foot().saturating_sub(ABOVE_FOOT))?;
-            out.mark("\"/>")
+            out.mark("<circle r=\"3.5\" cx=\"");
+            out.say(x);
+            out.mark("\" cy=\"");
+            out.say(row.foot().saturating_sub(ABOVE_FOOT));
+            out.mark("\"/>");
         }
     }
 }
@@ -163,22 +174,17 @@ fn foot_of_partition(picture: &Picture, layout: &Layout, row: Row) -> u64 {
 
 // Arrows, as far as they are in the strip, over broader lines in the colour of the background. Those of all come first, so that none hides
 // the head of another arrow.
-pub(crate) fn tell_arrows(
-    out: &mut Markup,
-    picture: &Picture,
-    layout: &Layout,
-) -> Result<(), AllocError> {
+pub(crate) fn tell_arrows(out: &mut Markup, picture: &Picture, layout: &Layout) {
     for arrow in picture.arrows().iter() {
         if let Some(way) = way_of(picture, layout, arrow) {
-            tell_halo(out, arrow, way)?;
+            tell_halo(out, arrow, way);
         }
     }
     for arrow in picture.arrows().iter() {
         if let Some(way) = way_of(picture, layout, arrow) {
-            tell_arrow(out, arrow, way)?;
+            tell_arrow(out, arrow, way);
         }
     }
-    Ok(())
 }
 
 // The path of an arrow, if a part of it is in the strip.
@@ -194,27 +200,27 @@ fn way_of(picture: &Picture, layout: &Layout, arrow: &Arrow) -> Option<Way> {
 }
 
 // The line below an arrow along this path.
-fn tell_halo(out: &mut Markup, arrow: &Arrow, way: Way) -> Result<(), AllocError> {
-    out.mark("<g class=\"")?;
-    out.mark(classes_of_arrow(arrow.kind))?;
-    out.mark("\"><path class=\"halo\" d=\"")?;
-    out.say(way)?;
-    out.mark("\"/></g>\n")
+fn tell_halo(out: &mut Markup, arrow: &Arrow, way: Way) {
+    out.mark("<g class=\"");
+    out.mark(classes_of_arrow(arrow.kind));
+    out.mark("\"><path class=\"halo\" d=\"");
+    out.say(way);
+    out.mark("\"/></g>\n");
 }
 
 // An arrow along this path.
-fn tell_arrow(out: &mut Markup, arrow: &Arrow, way: Way) -> Result<(), AllocError> {
-    out.mark("<g class=\"")?;
-    out.mark(classes_of_arrow(arrow.kind))?;
-    out.mark("\"><title>")?;
-    out.mark(words_of_arrow(arrow.kind))?;
+fn tell_arrow(out: &mut Markup, arrow: &Arrow, way: Way) {
+    out.mark("<g class=\"");
+    out.mark(classes_of_arrow(arrow.kind));
+    out.mark("\"><title>");
+    out.mark(words_of_arrow(arrow.kind));
     out.say(format_args!(
         ": from place {} to place {}",
         arrow.from.place, arrow.to.place
-    ))?;
-    out.mark("</title><path class=\"way\" d=\"")?;
-    out.say(way)?;
-    out.mark("\"/></g>\n")
+    ));
+    out.mark("</title><path class=\"way\" d=\"");
+    out.say(way);
+    out.mark("\"/></g>\n");
 }
 
 // The path of an arrow, from one point to another.

@@ -126,6 +126,9 @@ h3 { font-size: 14px; margin: 0 0 2px; color: var(--soft); font-weight: 600; }
 p { margin: 0; overflow-wrap: anywhere; }
 code, pre { font: 13px/1.45 ui-monospace, 'DejaVu Sans Mono', monospace; }
 pre { margin: 8px 0; padding: 10px 12px; border-left: 4px solid var(--fault); background: var(--ground); white-space: pre-wrap; overflow-wrap: anywhere; text-indent: 6ch hanging each-line; }
+code.hanging { display: block; }
+code.below { text-indent: 8ch hanging each-line; }
+code.option { white-space: pre; }
 .lawful-run pre { border-left-color: var(--right); }
 .figures pre { border-left-color: var(--line); }
 .strips { display: flex; flex-wrap: wrap; gap: 14px 18px; align-items: flex-start; }

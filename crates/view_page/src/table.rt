@@ -3,68 +3,66 @@
 use crate::classes::tag_of_row;
 use crate::layout::Strip;
 use sink::Markup;
-use std::alloc::AllocError;
 use view_picture::{Column, Picture, Status};
 
 /// Begins the table, if there are records.
-pub fn table_head(out: &mut Markup, picture: &Picture) -> Result<(), AllocError> {
+pub fn table_head(out: &mut Markup, picture: &Picture) {
     if picture.len() == 0 {
-        return Ok(());
+        return;
     }
     out.mark(
         "<h2>The same as a table</h2>\n<table>\n<caption>The records in their order, and what each changed</caption>\n<thead><tr><th scope=\"col\">Place</th><th scope=\"col\">Core</th><th scope=\"col\">Time</th><th scope=\"col\">Record</th><th scope=\"col\">What it changed</th><th scope=\"col\">File, line and row</th></tr></thead>\n<tbody>\n",
-    )
+    );
 }
 
 /// Adds the rows of these records.
-pub fn tell_rows(out: &mut Markup, picture: &Picture, strip: Strip) -> Result<(), AllocError> {
+pub fn tell_rows(out: &mut Markup, picture: &Picture, strip: Strip) {
     for index in strip.from..strip.to {
         if let Some(column) = picture.columns().get(index) {
-            tell_row(out, column)?;
+            tell_row(out, column);
         }
     }
-    Ok(())
 }
 
 /// Ends the table, if there are records.
-pub fn table_foot(out: &mut Markup, picture: &Picture) -> Result<(), AllocError> {
+pub fn table_foot(out: &mut Markup, picture: &Picture) {
     if picture.len() == 0 {
-        return Ok(());
+        return;
     }
-    out.mark("</tbody>\n</table>\n")
+    out.mark("</tbody>\n</table>\n");
 }
 
 // That a record breaks a rule, and what it changed.
-fn tell_broken(out: &mut Markup, column: &Column) -> Result<(), AllocError> {
-    out.mark("breaks a rule")?;
+fn tell_broken(out: &mut Markup, column: &Column) {
+    out.mark("breaks a rule");
     if column.changes.is_empty() {
-        return Ok(());
+        return;
     }
-    out.mark("; ")?;
-    out.say(column.changes.as_str())
+    out.mark("; ");
+    out.say(column.changes.as_str());
 }
 
-fn tell_row(out: &mut Markup, column: &Column) -> Result<(), AllocError> {
-    out.mark(tag_of_row(column.status))?;
-    out.mark("<td>")?;
-    out.say(column.place.number())?;
-    out.mark("</td><td>")?;
-    out.say(column.core.number())?;
-    out.mark("</td><td>")?;
+fn tell_row(out: &mut Markup, column: &Column) {
+    out.mark(tag_of_row(column.status));
+    out.mark("<td>");
+    out.say(column.place.number());
+    out.mark("</td><td>");
+    out.say(column.core.number());
+    out.mark("</td><td>");
     if let Some(time) = column.time {
-        out.say(time)?;
+        out.say(time);
     }
-    out.mark("</td><td>")?;
-    out.say(column.words.as_str())?;
-    out.mark("</td><td>")?;
+    out.mark("</td><td>");
+    out.say(column.words.as_str());
+    out.mark("</td><td>");
     match column.status {
-        Status::Accepted => out.say(column.changes.as_str())?,
-        Status::Broken => tell_broken(out, column)?,
-        Status::Rejected => out.mark("rejected")?,
-        Status::After => out.mark("not judged")?,
-        Status::Beyond => out.mark("not shown")?,
+        Status::Accepted => out.say(column.changes.as_str()),
+        Status::Broken => tell_broken(out, column),
+        Status::Rejected => out.mark("rejected"),
+        Status::After => out.mark("not judged"),
+        Status::Beyond => out.mark("not shown"),
     }
-    out.mark("</td><td>")?;
-    out.say(column.source.as_str())?;
-    out.mark("</td></tr>\n")
+    out.mark("</td><td>");
+    out.say(column.source.as_str());
+    out.mark("</td></tr>\n");
 }

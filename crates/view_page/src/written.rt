@@ -1,6 +1,10 @@
 // Pictures and pages that go to a sink.
 
-ghost use Rattle.view_page.specs.Sent.{Ends, taken_by};
+ghost use Rattle.std.specs.Prelude.{◌≡◌, ◌++◌, OnOk, false, true};
+ghost use Rattle.sink.specs.Markup.{no_markup};
+ghost use Rattle.sink.specs.Own.{is_own};
+ghost use Rattle.sink.specs.Written.{IsWritten};
+ghost use Rattle.view_page.specs.Sent.{Ends, IsBetween, page_begins, page_ends, svg_begins, svg_ends, taken_by};
 
 use crate::fault::PageFault;
 use crate::html::{
@@ -12,7 +16,7 @@ use crate::layout::{Layout, Strip};
 use crate::scale::Scale;
 use crate::strip::{svg_foot, svg_head, tell_elsewhere, tell_frame, tell_near, tell_strip};
 use crate::table::{table_foot, table_head, tell_rows};
-use sink::{Markup, Sink};
+use sink::{Markup, SendFault, Sink};
 use std::alloc::{AllocError, Global};
 use view_picture::Picture;
 
@@ -25,18 +29,35 @@ pub fn write_svg<W: Sink>(
     texts: &PageTexts<'_>,
     output: &mut W,
 ) -> Result<(), PageFault>
-    ensures { Ends result (taken_by W.bytes W.failures output.old) (taken_by W.bytes W.failures output.new) }
+    ensures ends { Ends result (taken_by W.bytes W.failures output.old) (taken_by W.bytes W.failures output.new) }
+    ensures whole { OnOk result (IsBetween svg_begins svg_ends (W.bytes output.old) (W.bytes output.new)) }
 {
     let mut out = Markup::new(alloc);
-    svg_head(&mut out, picture, scale, strips, texts)?;
-    put(&mut out, output)?;
+    put_with(&mut out, "<svg ", output)?;
+    write_alone(&mut out, picture, scale, strips, texts, output)?;
+    put_with(&mut out, "</svg>\n", output)
+}
+
+// Writes what a picture by itself has within its element, except for what is left in the markup.
+fn write_alone<W: Sink>(
+    out: &mut Markup,
+    picture: &Picture,
+    scale: Scale,
+    strips: &[Strip],
+    texts: &PageTexts<'_>,
+    output: &mut W,
+) -> Result<(), PageFault>
+    ensures { Ends result (taken_by W.bytes W.failures output.old) (taken_by W.bytes W.failures output.new) }
+{
+    svg_head(out, picture, scale, strips, texts)?;
+    put(out, output)?;
     let mut y = 0u64;
     for strip in strips {
-        y = tell_strip(&mut out, picture, scale, *strip, y)?;
-        put(&mut out, output)?;
+        y = tell_strip(out, picture, scale, *strip, y)?;
+        put(out, output)?;
     }
-    svg_foot(&mut out, picture, texts, y)?;
-    put(&mut out, output)
+    svg_foot(out, picture, texts, y)?;
+    Ok(())
 }
 
 /// Writes a page. If the recording is lawful, it has one major frame by time, the key, the figures, the strips and the table; otherwise the
@@ -49,14 +70,31 @@ pub fn write_html<W: Sink>(
     texts: &PageTexts<'_>,
     output: &mut W,
 ) -> Result<(), PageFault>
-    ensures { Ends result (taken_by W.bytes W.failures output.old) (taken_by W.bytes W.failures output.new) }
+    ensures ends { Ends result (taken_by W.bytes W.failures output.old) (taken_by W.bytes W.failures output.new) }
+    ensures whole { OnOk result (IsBetween page_begins page_ends (W.bytes output.old) (W.bytes output.new)) }
 {
     let mut out = Markup::new(alloc);
-    page_head(&mut out, picture, texts)?;
-    tell_sizes(&mut out, picture)?;
-    put(&mut out, output)?;
-    write_pictures(&mut out, picture, scale, strips, texts, output)?;
-    write_table(&mut out, picture, strips, output)
+    put_with(&mut out, "<!DOCTYPE html>\n", output)?;
+    write_page(&mut out, picture, scale, strips, texts, output)?;
+    put_with(&mut out, "</html>\n", output)
+}
+
+// Writes what a page has between its document type and its end, except for what is left in the markup.
+fn write_page<W: Sink>(
+    out: &mut Markup,
+    picture: &Picture,
+    scale: Scale,
+    strips: &[Strip],
+    texts: &PageTexts<'_>,
+    output: &mut W,
+) -> Result<(), PageFault>
+    ensures { Ends result (taken_by W.bytes W.failures output.old) (taken_by W.bytes W.failures output.new) }
+{
+    page_head(out, picture, texts);
+    tell_sizes(out, picture);
+    put(out, output)?;
+    write_pictures(out, picture, scale, strips, texts, output)?;
+    write_table(out, picture, strips, output)
 }
 
 // Writes the pictures of a page, the key and the figures.
@@ -74,7 +112,7 @@ fn write_pictures<W: Sink>(
         write_lawful(out, picture, scale, strips, texts, output)
     } else {
         write_strips(out, picture, scale, strips, output)?;
-        tell_figures(out, texts)?;
+        tell_figures(out, texts);
         Ok(())
     }
 }
@@ -91,10 +129,10 @@ fn write_lawful<W: Sink>(
     ensures { Ends result (taken_by W.bytes W.failures output.old) (taken_by W.bytes W.failures output.new) }
 {
     add_frame(out, picture)?;
-    tell_key(out, picture)?;
-    tell_figures(out, texts)?;
+    tell_key(out, picture);
+    tell_figures(out, texts);
     put(out, output)?;
-    records_heading(out, picture)?;
+    records_heading(out, picture);
     write_all(out, picture, scale, strips, output)
 }
 
@@ -103,10 +141,11 @@ fn add_frame(out: &mut Markup, picture: &Picture) -> Result<(), AllocError> {
     let Some(layout) = Layout::of_frame(picture)? else {
         return Ok(());
     };
-    out.mark("<div class=\"piece\">\n")?;
-    frame_heading(out, picture, &layout)?;
-    tell_frame(out, picture, &layout)?;
-    out.mark("</div>\n")
+    out.mark("<div class=\"piece\">\n");
+    frame_heading(out, picture, &layout);
+    tell_frame(out, picture, &layout);
+    out.mark("</div>\n");
+    Ok(())
 }
 
 // Writes the last strip and the key, and then the strips before it.
@@ -123,11 +162,11 @@ fn write_strips<W: Sink>(
         return Ok(());
     };
     write_piece(out, picture, scale, *last, output)?;
-    tell_key(out, picture)?;
+    tell_key(out, picture);
     if before.is_empty() {
         return Ok(());
     }
-    out.mark("<h2>What came before</h2>\n")?;
+    out.mark("<h2>What came before</h2>\n");
     write_all(out, picture, scale, before, output)
 }
 
@@ -141,11 +180,11 @@ fn write_all<W: Sink>(
 ) -> Result<(), PageFault>
     ensures { Ends result (taken_by W.bytes W.failures output.old) (taken_by W.bytes W.failures output.new) }
 {
-    out.mark("<div class=\"strips\">\n")?;
+    out.mark("<div class=\"strips\">\n");
     for strip in strips {
         write_piece(out, picture, scale, *strip, output)?;
     }
-    out.mark("</div>\n")?;
+    out.mark("</div>\n");
     Ok(())
 }
 
@@ -159,15 +198,15 @@ fn write_piece<W: Sink>(
 ) -> Result<(), PageFault>
     ensures { Ends result (taken_by W.bytes W.failures output.old) (taken_by W.bytes W.failures output.new) }
 {
-    out.mark("<div class=\"piece\">\n")?;
-    strip_heading(out, picture, strip)?;
+    out.mark("<div class=\"piece\">\n");
+    strip_heading(out, picture, strip);
     tell_near(out, picture, scale, strip)?;
     tell_elsewhere(out, picture, scale, strip)?;
-    out.mark("</div>\n")?;
+    out.mark("</div>\n");
     put(out, output)
 }
 
-// Writes the table, after the markup so far, and ends the page.
+// Writes the table, after the markup so far, and adds the end of the page's body.
 fn write_table<W: Sink>(
     out: &mut Markup,
     picture: &Picture,
@@ -176,22 +215,41 @@ fn write_table<W: Sink>(
 ) -> Result<(), PageFault>
     ensures { Ends result (taken_by W.bytes W.failures output.old) (taken_by W.bytes W.failures output.new) }
 {
-    table_head(out, picture)?;
+    table_head(out, picture);
     for strip in strips {
-        tell_rows(out, picture, *strip)?;
+        tell_rows(out, picture, *strip);
         put(out, output)?;
     }
-    table_foot(out, picture)?;
-    page_foot(out)?;
+    table_foot(out, picture);
+    page_foot(out);
+    Ok(())
+}
+
+// Writes the markup so far and this after it, and forgets it.
+fn put_with<W: Sink>(
+    out: &mut Markup,
+    markup: &'static str,
+    output: &mut W,
+) -> Result<(), PageFault>
+    requires { is_own markup.now ≡ true }
+    ensures ends { Ends result (taken_by W.bytes W.failures output.old) (taken_by W.bytes W.failures output.new) }
+    ensures sent { OnOk result (IsWritten (W.bytes output.old) (out.old.text ++ markup.now) (W.bytes output.new)) }
+    ensures emptied { OnOk result (out.new ≡ no_markup) }
+{
+    out.mark(markup);
     put(out, output)
 }
 
 // Writes the markup so far, and forgets it.
 fn put<W: Sink>(out: &mut Markup, output: &mut W) -> Result<(), PageFault>
-    ensures { Ends result (taken_by W.bytes W.failures output.old) (taken_by W.bytes W.failures output.new) }
+    ensures ends { Ends result (taken_by W.bytes W.failures output.old) (taken_by W.bytes W.failures output.new) }
+    ensures sent { OnOk result (IsWritten (W.bytes output.old) out.old.text (W.bytes output.new)) }
+    ensures complete { OnOk result (out.old.lacks_memory ≡ false) }
+    ensures emptied { OnOk result (out.new ≡ no_markup) }
 {
     match out.send(output) {
         Ok(()) => Ok(()),
-        Err(_) => Err(PageFault::Unwritten),
+        Err(SendFault::Memory) => Err(PageFault::Memory),
+        Err(SendFault::Unwritten) => Err(PageFault::Unwritten),
     }
 }

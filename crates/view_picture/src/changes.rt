@@ -23,23 +23,23 @@ impl Picture {
         pieces: &[Piece],
         changes: &[Change],
         column: usize,
-        told: &mut String,
+        hover: &mut String,
     ) -> Result<(), AllocError> {
         for change in changes {
             match change {
-                Change::Core(view) => self.apply_core(column, view, told)?,
-                Change::Mode(part, mode) => self.apply_mode(column, part, *mode, told)?,
+                Change::Core(view) => self.apply_core(column, view, hover)?,
+                Change::Mode(part, mode) => self.apply_mode(column, part, *mode, hover)?,
                 Change::Process(who, view) => {
-                    self.apply_process(pieces, column, who, view, told)?;
+                    self.apply_process(pieces, column, who, view, hover)?;
                 }
                 Change::Ended(who) => {
-                    add_words(told, format_args!("{} is no longer there", Numbered(*who)))?;
+                    add_words(hover, format_args!("{} is no longer there", Numbered(*who)))?;
                     self.processes.retain(|process| process.who != *who);
                     self.end_lane(LaneKey::Process(*who), column)?;
                 }
-                Change::Thing(key) => self.apply_thing(pieces, column, key, told)?,
+                Change::Thing(key) => self.apply_thing(pieces, column, key, hover)?,
                 Change::Removed(key) => {
-                    add_words(told, format_args!("{} is no longer there", KeyName(*key)))?;
+                    add_words(hover, format_args!("{} is no longer there", KeyName(*key)))?;
                     self.end_lane(LaneKey::Thing(*key), column)?;
                 }
             }
@@ -59,10 +59,10 @@ impl Picture {
         column: usize,
         part: &PartId,
         mode: Mode,
-        told: &mut String,
+        hover: &mut String,
     ) -> Result<(), AllocError> {
         let saying = mode_saying(self.alloc, *part, mode, false)?;
-        add_words(told, format_args!("{}", saying.title))?;
+        add_words(hover, format_args!("{}", saying.title))?;
         let lane = self.lane(LaneKey::Partition(*part), "")?;
         lane.bars.say(column, saying)?;
         lane.concerned.push(column)?;
@@ -73,7 +73,7 @@ impl Picture {
         &mut self,
         column: usize,
         view: &CoreView,
-        told: &mut String,
+        hover: &mut String,
     ) -> Result<(), AllocError> {
         let window = window_saying(self.alloc, view)?;
         let occupant = occupant_saying(self.alloc, view)?;
@@ -84,10 +84,10 @@ impl Picture {
         let has_window = matches!(&last, Some(last) if last.window == view.window);
         let has_occupant = matches!(&last, Some(last) if last.occupant == view.occupant);
         if !has_window {
-            add_words(told, format_args!("{}", window.title))?;
+            add_words(hover, format_args!("{}", window.title))?;
         }
         if !has_occupant {
-            add_words(told, format_args!("{}", occupant.title))?;
+            add_words(hover, format_args!("{}", occupant.title))?;
         }
         self.keep_core(view)?;
         let lane = self.lane(LaneKey::Core(view.core), "")?;
@@ -113,14 +113,14 @@ impl Picture {
         column: usize,
         who: &Who,
         view: &ProcessView,
-        told: &mut String,
+        hover: &mut String,
     ) -> Result<(), AllocError> {
         let is_affected = self.is_affected(who, view);
         let name = process_name(self.alloc, pieces, who)?;
         let lane = self.lane(LaneKey::Process(*who), name.as_str())?;
         if is_affected {
             lane.concerned.push(column)?;
-            self.tell_process(who, name.as_str(), view, told)?;
+            self.tell_process(who, name.as_str(), view, hover)?;
         }
         self.keep_process(who, name, view)
     }
@@ -131,25 +131,25 @@ impl Picture {
         who: &Who,
         name: &str,
         view: &ProcessView,
-        told: &mut String,
+        hover: &mut String,
     ) -> Result<(), AllocError> {
         let saying = process_saying(self.alloc, who, name, view, Hold::Waits)?;
         let verb = verb_of(saying.look);
         add_words(
-            told,
+            hover,
             format_args!("{}{name} {verb}{}", Numbered(*who), saying.text),
         )?;
         let (current, base) = (view.current_priority, view.base_priority);
         if current != base {
             add_words(
-                told,
+                hover,
                 format_args!("its priority is {current}, and its own {base}"),
             )?;
         }
         match view.deadline {
-            Some(deadline) => add_words(told, format_args!("its deadline is at time {deadline}")),
+            Some(deadline) => add_words(hover, format_args!("its deadline is at time {deadline}")),
             None if self.had_deadline(who) => {
-                add_words(told, format_args!("it has no deadline now"))
+                add_words(hover, format_args!("it has no deadline now"))
             }
             None => Ok(()),
         }
@@ -206,13 +206,13 @@ impl Picture {
         pieces: &[Piece],
         column: usize,
         key: &ThingKey,
-        told: &mut String,
+        hover: &mut String,
     ) -> Result<(), AllocError> {
         let Some(view) = view_of(self.alloc, pieces, key)? else {
             return Ok(());
         };
         let saying = thing_saying(self.alloc, key, &view)?;
-        add_words(told, format_args!("{}", saying.title))?;
+        add_words(hover, format_args!("{}", saying.title))?;
         let name = quoted(self.alloc, view.name.as_slice())?;
         let lane = self.lane(LaneKey::Thing(*key), name.as_str())?;
         lane.bars.say(column, saying)?;

@@ -121,9 +121,9 @@ pub fn words_of(alloc: Global, ordered: &Ordered) -> Result<String, AllocError> 
 }
 
 /// Adds words to others.
-pub fn add_words(told: &mut String, words: impl Display + Drop) -> Result<(), AllocError> {
-    if !told.is_empty() {
-        told.push_str("; ")?;
+pub fn add_words(hover: &mut String, words: impl Display + Drop) -> Result<(), AllocError> {
+    if !hover.is_empty() {
+        hover.push_str("; ")?;
     }
-    write!(told, "{words}")
+    write!(hover, "{words}")
 }

@@ -11,10 +11,10 @@ use crate::lane::{Lane, MarkKind};
 use crate::lane_key::LaneKey;
 use crate::marks::actor_of;
 use crate::process_bars::Hold;
-use crate::touched::{is_at_core, names};
+use crate::touched::{furthest_behind, is_at_core, names, process_at};
 use apex_types::{Body, CoreId, Ordered, Place, Who};
 use piece_check::Piece;
-use run_view::{Change, CoreView, Followed, Lawful, ProcessView};
+use run_view::{Change, CoreView, Followed, Lawful, ProcessState, ProcessView};
 use std::alloc::{AllocError, Global};
 
 /// A stretch of a run as a picture.
@@ -44,6 +44,9 @@ pub(crate) struct ProcessNow {
     pub(crate) hold: Hold,
 }
 
+/// The name of the cause of a tick that would take its core too far ahead of another.
+const TOO_FAR_AHEAD: &str = "Skew";
+
 /// A record that is added to a picture.
 #[derive(Clone, Copy)]
 pub struct Added<'a> {
@@ -70,8 +73,8 @@ impl Picture {
 
     /// Shows what the pieces hold before the first record: all of it is among the changes.
     pub fn begin(&mut self, pieces: &[Piece], changes: &[Change]) -> Result<(), AllocError> {
-        let mut told = String::new(self.alloc);
-        self.apply(pieces, changes, 0, &mut told)?;
+        let mut hover = String::new(self.alloc);
+        self.apply(pieces, changes, 0, &mut hover)?;
         for lane in self.lanes.iter_mut() {
             lane.concerned.clear();
         }
@@ -90,14 +93,14 @@ impl Picture {
         followed: &Followed,
     ) -> Result<(), AllocError> {
         let column = self.columns.len();
-        let mut told = String::new(self.alloc);
-        self.apply(pieces, changes, column, &mut told)?;
+        let mut hover = String::new(self.alloc);
+        self.apply(pieces, changes, column, &mut hover)?;
         self.mark_record(column, added.ordered)?;
         self.add_wakes(column, added.ordered)?;
         if let Some(received) = &followed.received {
             self.add_message(column, added.ordered, &received.sent)?;
         }
-        self.add_column(added, told)
+        self.add_column(added, hover)
     }
 
     /// Adds the record that is rejected, the name of the cause, and what would have been lawful. No state is shown from there on.
@@ -119,7 +122,12 @@ impl Picture {
         for one in lawful {
             self.add_lawful(column, one)?;
         }
-        self.add_column(added, String::new(self.alloc))
+        self.add_column(added, String::new(self.alloc))?;
+        if cause == TOO_FAR_AHEAD {
+            let behind = furthest_behind(self.cores.as_slice());
+            self.note_core(behind);
+        }
+        Ok(())
     }
 
     /// Adds a record after the last one whose states are shown.
@@ -206,6 +214,50 @@ impl Picture {
         }
     }
 
+    // Notes that this record touches the core of the process that makes it or gets a core, and the core of the error handler or the
+    // initialising process of its partition.
+    fn note_cores(&mut self, ordered: &Ordered) {
+        let own = self.core_of(process_at(&ordered.rec.body));
+        self.note_core(own);
+        let handling = self.core_of_handling(&ordered.core);
+        self.note_core(handling);
+    }
+
+    // Notes that a record touches the lane of this core too.
+    fn note_core(&mut self, core: Option<CoreId>) {
+        let Some(core) = core else {
+            return;
+        };
+        for lane in self.lanes.iter_mut() {
+            if lane.key == LaneKey::Core(core) {
+                lane.is_touched = true;
+            }
+        }
+    }
+
+    // The core on which a process runs, if the process is known.
+    fn core_of(&self, who: Option<Who>) -> Option<CoreId> {
+        let who = who?;
+        match self.processes.iter().find(|process| process.who == who) {
+            Some(process) => Some(process.view.affinity),
+            None => None,
+        }
+    }
+
+    // The core of process 0 of the partition in whose window a core is, while it is ready: the partition's other cores may wait for it.
+    fn core_of_handling(&self, core: &CoreId) -> Option<CoreId> {
+        let part = self.cores.iter().find(|view| view.core == *core)?.window?;
+        let handling = self.processes.iter().find(|process| process.who.part == part
+            && process.who.proc.number() == 0)?;
+        match handling.view.state {
+            ProcessState::Ready => Some(handling.view.affinity),
+            ProcessState::Dormant
+            | ProcessState::Waiting(_)
+            | ProcessState::Suspended(_)
+            | ProcessState::Faulted(_) => None,
+        }
+    }
+
     fn add_column(&mut self, added: &Added<'_>, changes: String) -> Result<(), AllocError> {
         let ordered = added.ordered;
         let time = match added.status {
@@ -220,6 +272,7 @@ impl Picture {
         }
         if added.status.is_fault() {
             self.note_touched(column, ordered);
+            self.note_cores(ordered);
         }
         let label = label_of(self.alloc, ordered, time)?;
         let location = location_text(self.alloc, &added.source)?;

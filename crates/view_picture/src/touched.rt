@@ -1,7 +1,9 @@
 // What a record touches, by the record itself and by what is on its core. No rule of the machine is asked.
 
 use crate::lane_key::LaneKey;
-use apex_types::{Body, Call, MutexOperation, NamedKind, ObjectOperation, Ordered, Request, Who};
+use apex_types::{
+    Body, Call, CoreId, MutexOperation, NamedKind, ObjectOperation, Ordered, Request, Who,
+};
 use run_view::{CoreView, ThingKey};
 
 // Whether a record is of this core, or names this process, object, lock or channel.
@@ -30,6 +32,30 @@ pub(crate) fn is_at_core(core: &Option<CoreView>, key: &LaneKey) -> bool {
         LaneKey::Process(who) => core.occupant == Some(*who),
         LaneKey::Core(_) | LaneKey::Thing(_) => false,
     }
+}
+
+// The process that makes a record, or that a core is given to.
+pub(crate) fn process_at(body: &Body) -> Option<Who> {
+    match body {
+        Body::Call(call) => Some(call.who),
+        Body::Ret(ret) => Some(ret.who),
+        Body::Error(report) => Some(report.who),
+        Body::Disp(occupant) => *occupant,
+        Body::Tick(_) | Body::Arrive(_) | Body::Depart(_) => None,
+    }
+}
+
+// The first of the cores that are furthest behind. A tick that takes its core too far ahead of another takes it too far ahead of this one.
+pub(crate) fn furthest_behind(cores: &[CoreView]) -> Option<CoreId> {
+    let mut found: Option<CoreId> = None;
+    let mut least = u64::MAX;
+    for view in cores {
+        if found.is_none() || view.time < least {
+            found = Some(view.core);
+            least = view.time;
+        }
+    }
+    found
 }
 
 fn names_process(body: &Body, who: &Who) -> bool {

@@ -6,7 +6,4 @@ pub returns-in_err-put : goal.returns-in_err-put
 returns-in_err-put g c = ends_after _ _ _ _ c.loop-strip.invariant (search rules)
 
 pub loop-strip-preserved : goal.loop-strip-preserved
-loop-strip-preserved g c = sends_then c.loop-strip.invariant c.in_ok-put.ensures
-
-pub returns : goal.returns
-returns g c = ends_after _ _ _ _ c.loop-strip.invariant c.put-2.ensures
+loop-strip-preserved g c = sends_then c.loop-strip.invariant c.in_ok-put.ensures.ends

@@ -1,5 +1,5 @@
 use Rattle.view_page.specs.Sent.{Sends, taken_by}
-use Rattle.view_page.proofs.written.write_svg.Given as goal
+use Rattle.view_page.proofs.written.write_alone.Given as goal
 
 -- markup went out so far
 abbrev pub invariant-loop-strip : goal.invariant-loop-strip
