@@ -11,9 +11,9 @@ mod explainer;
 mod files;
 mod names;
 mod notices;
+mod reason;
 mod recordings;
 mod terminal;
-mod told;
 
 pub use broken::note_broken;
 pub use explainer::Explainer;
@@ -23,5 +23,5 @@ pub use notices::{
     words_of_awaited, words_of_stored_run, words_of_unwritten_answer, words_of_unwritten_log,
     words_of_unwritten_output,
 };
+pub use reason::{Reason, RunFiles, name_of_core};
 pub use terminal::Terminal;
-pub use told::{RunFiles, Told, name_of_core};

@@ -1,7 +1,7 @@
 // What is said of the recordings of a run as a whole: that there are too few records, that some recordings have none, and that another order
 // may be lawful.
 
-use crate::told::{RunFiles, Told};
+use crate::reason::{Reason, RunFiles};
 use input_explanation::find_row;
 use report::{CheckFault, Verdict};
 use std::alloc::AllocError;
@@ -11,7 +11,7 @@ use wording::Words;
 
 impl<'a, R: Files<File = F>, F: Read + Drop> RunFiles<'a, R> {
     /// That a Yes is for this number of records, which is less than the number that is required; and which recordings have none.
-    pub fn told_of_few(&self, records: u64, at_least: u64) -> Told<'a> {
+    pub fn reason_of_few(&self, records: u64, at_least: u64) -> Reason<'a> {
         let mut words = Words::new(self.alloc);
         let judged = if records == 1 {
             "record was judged"
@@ -24,7 +24,7 @@ impl<'a, R: Files<File = F>, F: Read + Drop> RunFiles<'a, R> {
             words.next_line();
         }
         words.append(&empty);
-        Told::of(words)
+        Reason::of(words)
     }
 
     /// The recordings that have no record, after a Yes for this number of records; empty if each has one. A pipe, which gives its text only
@@ -61,11 +61,15 @@ impl<'a, R: Files<File = F>, F: Read + Drop> RunFiles<'a, R> {
     }
 
     /// Adds to a No that another order of the records may be lawful, if there are several recordings.
-    pub fn tell_other_orders(&self, told: &mut Told<'_>, outcome: &Result<Verdict, CheckFault>) {
+    pub fn tell_other_orders(
+        &self,
+        reason: &mut Reason<'_>,
+        outcome: &Result<Verdict, CheckFault>,
+    ) {
         if let Ok(Verdict::No { .. }) = outcome {
             if self.names.cores.len() > 1 {
-                told.words.next_line();
-                told.words.say(
+                reason.words.next_line();
+                reason.words.say(
                     "another order of these records may be lawful; to search for one: apexorder --config FILE CORE... > ORDER",
                 );
             }

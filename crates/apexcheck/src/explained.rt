@@ -1,7 +1,7 @@
 // The answer in words, on standard error, after its line. It decides nothing: a failure there, or a lack of memory, ends only the words.
 
 use answer_words::{
-    Explainer, InputNames, RunFiles, Told, words_of_stored_run, words_of_unwritten_answer,
+    Explainer, InputNames, Reason, RunFiles, words_of_stored_run, words_of_unwritten_answer,
     words_of_unwritten_log, words_of_unwritten_output,
 };
 use check_request::{Asked, FilesAsked};
@@ -63,8 +63,8 @@ fn explain_rows<'a, R: Files<File = F> + Eprint, F: Read + Drop>(
         if let (Ok(core), Some(fault)) = (u32::try_from(core), one.fault) {
             let seq = one.records;
             let refusal = Err(CheckFault::Input(InputFault::Row { core, seq, fault }));
-            if let Some(told) = files.told_of(&refusal, explainer) {
-                tell(rt, &told.words, look);
+            if let Some(reason) = files.reason_of(&refusal, explainer) {
+                tell(rt, &reason.words, look);
             }
         }
     }
@@ -92,7 +92,7 @@ fn explain_files<'a, R: Env + Files<File = F> + Eprint + AllocGlobal, F: Read + 
     let explained = Explained {
         ending,
         explainer,
-        told: told_of(&files, asked, ending, explainer),
+        reason: reason_of(&files, asked, ending, explainer),
         status,
     };
     if !asked.quiet {
@@ -110,8 +110,8 @@ fn tell_end<'a, R: Files<File = F> + Eprint, F: Read + Drop>(
     let rt = files.rt;
     tell(rt, &files.unknown_keys(explained.explainer), look);
     tell(rt, &files.warnings(explained.explainer), look);
-    if let Some(told) = &explained.told {
-        tell(rt, &told.words, look);
+    if let Some(reason) = &explained.reason {
+        tell(rt, &reason.words, look);
     }
     if let Ending::Own(
         CheckEnd::Checked {
@@ -145,21 +145,23 @@ fn write_files<'a, R: Env + Files<File = F> + Eprint + AllocGlobal, F: Read + Wr
 }
 
 // Why the answer is not Yes. None after a Yes, or if only a note says why.
-fn told_of<'a, R: Files<File = F>, F: Read + Drop>(
+fn reason_of<'a, R: Files<File = F>, F: Read + Drop>(
     files: &RunFiles<'a, R>,
     asked: &FilesAsked,
     ending: &Ending<CheckEnd>,
     explainer: &Explainer,
-) -> Option<Told<'a>> {
+) -> Option<Reason<'a>> {
     match ending {
-        Ending::Own(CheckEnd::Checked { outcome, .. }) => match files.told_of(outcome, explainer) {
-            Some(mut told) => {
-                files.tell_other_orders(&mut told, outcome);
-                Some(told)
+        Ending::Own(CheckEnd::Checked { outcome, .. }) => match files.reason_of(
+            outcome, explainer,
+        ) {
+            Some(mut reason) => {
+                files.tell_other_orders(&mut reason, outcome);
+                Some(reason)
             }
             None => None,
         },
-        Ending::Own(CheckEnd::Few { records }) => Some(files.told_of_few(
+        Ending::Own(CheckEnd::Few { records }) => Some(files.reason_of_few(
             *records,
             asked.at_least?,
         )),

@@ -9,14 +9,15 @@ ghost use Rattle.std.specs.Prelude.{◌≡◌};
 ghost use Rattle.apexmake.specs.declared.ending.Ending.{Ending};
 ghost use Rattle.apexmake.specs.Endings.{EndsBy, status_of};
 
+mod closing_words;
 mod ending;
 mod file_folder;
 mod folder;
 mod making;
 mod of_itself;
-mod told;
 mod usage;
 
+use closing_words::tell;
 use ending::{Ending, refused_words};
 use file_folder::{FileFolder, FolderFaults};
 use folder::Folder;
@@ -31,7 +32,6 @@ use std::process::ExitCode;
 use std::rt::Env;
 use std::sync::Wait;
 use std::thread::Threads;
-use told::tell;
 use usage::{Asked, UsageFault, from_words};
 
 fn main(rt: HostRuntime) -> ExitCode {

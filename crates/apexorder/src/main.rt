@@ -23,6 +23,7 @@ ghost use Rattle.apexorder.specs.declared.ending.OrderEnd.{OrderEnd as End};
 ghost use Rattle.apexorder.specs.Endings.{own_status_of};
 ghost use Rattle.apexorder.specs.Files.{EndsBy};
 
+mod closing_words;
 mod configuration;
 mod ending;
 mod files;
@@ -36,9 +37,9 @@ mod ruled;
 mod search_files;
 mod seen;
 mod stops;
-mod told;
 mod usage;
 
+use closing_words::tell;
 use csv_rows::{TextSource, Watched};
 use ending::OrderEnd;
 use files::propose_for;
@@ -52,7 +53,6 @@ use std::io;
 use std::io::{IsTerminal, Read};
 use std::process::ExitCode;
 use std::rt::{Clock, Env};
-use told::tell;
 use usage::{Asked, from_words};
 
 fn main(rt: HostRuntime) -> ExitCode {

@@ -94,9 +94,9 @@ impl<'a> Explained<'a> {
             let files = RunFiles { rt, alloc, names };
             explained.unknown_keys = files.unknown_keys(explainer);
             explained.warnings = files.warnings(explainer);
-            if let Some(mut told) = files.told_of(outcome, explainer) {
-                files.tell_other_orders(&mut told, outcome);
-                explained.reason = told.words;
+            if let Some(mut reason) = files.reason_of(outcome, explainer) {
+                files.tell_other_orders(&mut reason, outcome);
+                explained.reason = reason.words;
             } else if let Ok(Verdict::Yes { records }) = outcome {
                 explained.reason = files.without_records(*records);
             }

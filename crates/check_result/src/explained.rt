@@ -1,7 +1,7 @@
 // The end of a run with what explains it.
 
 use crate::ending::CheckEnd;
-use answer_words::{Explainer, Told};
+use answer_words::{Explainer, Reason};
 use program_ends::Ending;
 
 /// What is written of the end of a run over files, as a log or as data.
@@ -12,7 +12,7 @@ pub struct Explained<'e, 'a> {
     /// What explains the end: what was noted of it, and the last records before the place of a No.
     pub explainer: &'a Explainer,
     /// Why the answer is not Yes. None after a Yes, or if only a note says why.
-    pub told: Option<Told<'a>>,
+    pub reason: Option<Reason<'a>>,
     /// The exit status of the program.
     pub status: u8,
 }

@@ -146,7 +146,7 @@ fn read_site<'a, R: Files<File = F>, F: Read + Drop>(
         files,
         explained.ending,
         explained.explainer,
-        explained.told.as_ref(),
+        explained.reason.as_ref(),
     );
     let row = match site.row {
         Some(number) => Some(Row {
@@ -173,8 +173,8 @@ fn explanation_of<'a, R: Files<File = F>, F: Read + Drop>(
     add_lines(alloc, &mut texts, explainer.noted())?;
     add_lines(alloc, &mut texts, &files.unknown_keys(explainer))?;
     add_lines(alloc, &mut texts, &files.warnings(explainer))?;
-    if let Some(told) = &explained.told {
-        add_lines(alloc, &mut texts, &told.words)?;
+    if let Some(reason) = &explained.reason {
+        add_lines(alloc, &mut texts, &reason.words)?;
     }
     if let Ending::Own(
         CheckEnd::Checked {

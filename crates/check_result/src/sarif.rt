@@ -161,7 +161,7 @@ fn place_of<'a, R: Files<File = F>, F: Read + Drop>(
         files,
         explained.ending,
         explained.explainer,
-        explained.told.as_ref(),
+        explained.reason.as_ref(),
     );
     let id = match rule {
         Some(rule) => rule.id.as_str(),
@@ -206,12 +206,12 @@ fn message_of(
 ) -> Result<String, AllocError> {
     let noted = explained.explainer.noted().shown(Look::plain());
     let mut message = format!(in alloc; "{noted}")?;
-    if let Some(told) = &explained.told {
+    if let Some(reason) = &explained.reason {
         if !message.is_empty() {
             message.push_str("\n")?;
         }
-        let told = format!(in alloc; "{}", told.words.shown(Look::plain()))?;
-        message.push_str(told.as_str())?;
+        let words = format!(in alloc; "{}", reason.words.shown(Look::plain()))?;
+        message.push_str(words.as_str())?;
     }
     for (id, record) in records.iter().enumerate() {
         let before = if id == 0 { "\nbefore it: " } else { ", " };

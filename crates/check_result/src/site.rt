@@ -1,7 +1,7 @@
 // Where an answer is: in which file of the run, and on which line and in which row of it.
 
 use crate::ending::CheckEnd;
-use answer_words::{Explainer, RunFiles, Told, name_of_core, open_text};
+use answer_words::{Explainer, Reason, RunFiles, name_of_core, open_text};
 use placement::InputFault;
 use program_ends::Ending;
 use report::{ArgumentFault, CheckFault, Verdict};
@@ -23,7 +23,7 @@ pub fn site_of<'a, R: Files<File = F>, F: Read + Drop>(
     files: &RunFiles<'a, R>,
     ending: &Ending<CheckEnd>,
     explainer: &'a Explainer,
-    told: Option<&Told<'a>>,
+    reason: Option<&Reason<'a>>,
 ) -> Site<'a> {
     let names = files.names;
     let config = names.config.as_str();
@@ -34,7 +34,7 @@ pub fn site_of<'a, R: Files<File = F>, F: Read + Drop>(
             explainer.rules_line(),
         ),
         Ending::Own(CheckEnd::Checked { outcome, .. }) => {
-            site_of_outcome(files, outcome, explainer, line_of(told))
+            site_of_outcome(files, outcome, explainer, line_of(reason))
         }
         Ending::BadUsage
         | Ending::Own(CheckEnd::Few { .. } | CheckEnd::Rows(_) | CheckEnd::Version) => {
@@ -119,9 +119,9 @@ fn in_row<'a, R>(
 }
 
 // The line that an explanation has, if there is one.
-fn line_of(told: Option<&Told<'_>>) -> Option<u64> {
-    match told {
-        Some(told) => told.line(),
+fn line_of(reason: Option<&Reason<'_>>) -> Option<u64> {
+    match reason {
+        Some(reason) => reason.line(),
         None => None,
     }
 }

@@ -91,7 +91,7 @@ abbrev pub required_after : Requirements → Judging → Requirements
 required_after requirements judging = with_kept requirements judging.kept
 
 -- the verdict over what is after and what comes
-over_all : (configuration : Configuration) (requirements : Requirements) (judging : Judging) (before records : List Ordered) (verdict : Verdict) → HoldBefore configuration requirements before judging
+pub over_all : (configuration : Configuration) (requirements : Requirements) (judging : Judging) (before records : List Ordered) (verdict : Verdict) → HoldBefore configuration requirements before judging
     → IsVerdictFrom configuration (required_after requirements judging) (parts_of judging) judging.count records verdict
     → IsVerdictFrom configuration requirements (cold_parts configuration) 0 (before ++ records) verdict
 over_all configuration requirements judging before records verdict (run, meet, count) is =

@@ -23,17 +23,17 @@ use wording::Words;
 
 /// Why the answer is not Yes: in words, with the file that they are about, and the line and the row there, if they are found again.
 #[derive(Drop)]
-pub struct Told<'a> {
+pub struct Reason<'a> {
     pub words: Words,
     pub file: Option<&'a str>,
     line: Option<u64>,
     row: Option<FoundRow>,
 }
 
-impl<'a> Told<'a> {
+impl<'a> Reason<'a> {
     // These words, which are about no file.
-    pub(crate) fn of(words: Words) -> Told<'a> {
-        Told {
+    pub(crate) fn of(words: Words) -> Reason<'a> {
+        Reason {
             words,
             file: None,
             line: None,
@@ -65,26 +65,26 @@ pub struct RunFiles<'a, R> {
 
 impl<'a, R: Files<File = F>, F: Read + Drop> RunFiles<'a, R> {
     /// Why the answer is not Yes. None after a Yes, or if only a note says why.
-    pub fn told_of(
+    pub fn reason_of(
         &self,
         outcome: &Result<Verdict, CheckFault>,
         explainer: &Explainer,
-    ) -> Option<Told<'a>> {
+    ) -> Option<Reason<'a>> {
         match outcome {
             Ok(Verdict::Yes { .. }) => None,
             Ok(Verdict::No { .. } | Verdict::Broken { .. }) => {
-                self.told_of_record(explainer.explanation())
+                self.reason_of_record(explainer.explanation())
             }
             Err(CheckFault::Memory) => {
                 let mut words = Words::new(self.alloc);
                 words.say("out of memory: not all records were judged");
-                Some(Told::of(words))
+                Some(Reason::of(words))
             }
-            Err(CheckFault::Arguments(fault)) => Some(Told::of(self.words_of_arguments(*fault))),
+            Err(CheckFault::Arguments(fault)) => Some(Reason::of(self.words_of_arguments(*fault))),
             Err(CheckFault::Config(fault)) => {
-                Some(self.told_of_configuration(*fault, explainer.foreign()))
+                Some(self.reason_of_configuration(*fault, explainer.foreign()))
             }
-            Err(CheckFault::Input(fault)) => self.told_of_input(fault),
+            Err(CheckFault::Input(fault)) => self.reason_of_input(fault),
         }
     }
 
@@ -139,46 +139,46 @@ impl<'a, R: Files<File = F>, F: Read + Drop> RunFiles<'a, R> {
     }
 
     // Where a refused certificate, order or recording is wrong, and what is wrong with it.
-    fn told_of_input(&self, fault: &InputFault) -> Option<Told<'a>> {
+    fn reason_of_input(&self, fault: &InputFault) -> Option<Reason<'a>> {
         match fault {
             InputFault::Cert { place, fault } => {
                 let name = &self.names.order;
-                let mut told = self.told_of_row(name, *place);
-                let foreign = self.foreign_of(name, &mut told.words);
+                let mut reason = self.reason_of_row(name, *place);
+                let foreign = self.foreign_of(name, &mut reason.words);
                 let mut words = Words::new(self.alloc);
-                tell_certificate(&mut words, *fault, *place, fields_of(told.row(foreign)));
-                told.words.append(&words);
-                tell_foreign(&mut told.words, name, foreign);
-                Some(told)
+                tell_certificate(&mut words, *fault, *place, fields_of(reason.row(foreign)));
+                reason.words.append(&words);
+                tell_foreign(&mut reason.words, name, foreign);
+                Some(reason)
             }
             InputFault::Order { place, core, fault } => {
-                let mut told = self.told_of_row(&self.names.order, *place);
-                let named = number_named(fields_of(told.row(None)));
-                tell_order(&mut told.words, *fault, *core, named);
-                Some(told)
+                let mut reason = self.reason_of_row(&self.names.order, *place);
+                let named = number_named(fields_of(reason.row(None)));
+                tell_order(&mut reason.words, *fault, *core, named);
+                Some(reason)
             }
             InputFault::Row { core, seq, fault } => {
                 let name = name_of_core(self.names, *core)?;
-                let mut told = self.told_of_row(name, *seq);
-                let foreign = self.foreign_of(name, &mut told.words);
+                let mut reason = self.reason_of_row(name, *seq);
+                let foreign = self.foreign_of(name, &mut reason.words);
                 let mut words = Words::new(self.alloc);
-                let row = row_with(*seq, told.row(foreign));
+                let row = row_with(*seq, reason.row(foreign));
                 tell_row_fault(&mut words, self.alloc, *fault, row);
-                told.words.append(&words);
-                tell_foreign(&mut told.words, name, foreign);
-                Some(told)
+                reason.words.append(&words);
+                tell_foreign(&mut reason.words, name, foreign);
+                Some(reason)
             }
         }
     }
 
     // What the record at the place of a No says.
-    fn told_of_record(&self, explanation: &Explanation) -> Option<Told<'a>> {
+    fn reason_of_record(&self, explanation: &Explanation) -> Option<Reason<'a>> {
         let RecordNumber { core, seq } = explanation.record()?;
         let name = name_of_core(self.names, u32::from(core.number()))?;
-        let mut told = self.told_of_row(name, u64::from(seq));
-        told.words.append(explanation.words());
-        self.tell_places(&mut told.words, explanation.words().places());
-        Some(told)
+        let mut reason = self.reason_of_row(name, u64::from(seq));
+        reason.words.append(explanation.words());
+        self.tell_places(&mut reason.words, explanation.words().places());
+        Some(reason)
     }
 
     // Reports in which files and lines the records at these places are.
@@ -219,7 +219,7 @@ impl<'a, R: Files<File = F>, F: Read + Drop> RunFiles<'a, R> {
     }
 
     // What is wrong with the configuration, which is this if it is not plain text.
-    fn told_of_configuration(&self, fault: ConfigFault, foreign: Option<Foreign>) -> Told<'a> {
+    fn reason_of_configuration(&self, fault: ConfigFault, foreign: Option<Foreign>) -> Reason<'a> {
         let name = &self.names.config;
         let mut words = Words::new(self.alloc);
         let text = match foreign {
@@ -228,7 +228,7 @@ impl<'a, R: Files<File = F>, F: Read + Drop> RunFiles<'a, R> {
         };
         let line = tell_configuration(&mut words, self.alloc, name, fault, text.as_deref());
         tell_foreign(&mut words, name, foreign);
-        Told {
+        Reason {
             words,
             file: Some(name.as_str()),
             line,
@@ -247,7 +247,7 @@ impl<'a, R: Files<File = F>, F: Read + Drop> RunFiles<'a, R> {
     }
 
     // Where a row is: its file and its line, or its number if it is not found again.
-    fn told_of_row(&self, name: &'a str, number: u64) -> Told<'a> {
+    fn reason_of_row(&self, name: &'a str, number: u64) -> Reason<'a> {
         let mut words = Words::new(self.alloc);
         let row = unless_refused(self.row_of(name, number), &mut words);
         match &row {
@@ -258,7 +258,7 @@ impl<'a, R: Files<File = F>, F: Read + Drop> RunFiles<'a, R> {
             Some(row) => Some(row.line),
             None => None,
         };
-        Told {
+        Reason {
             words,
             file: Some(name),
             line,
