@@ -3,7 +3,7 @@ import re
 import xml.etree.ElementTree as ET
 
 SVG = "{http://www.w3.org/2000/svg}"
-# The width of the names of lanes, and what is shown first of a strip to the left and to the right of where a fault begins.
+# The width of the names of lanes, and what is shown first of a strip to the left and to the right of where a fault or its label begins.
 NAMES, BEFORE_FAULT, FROM_FAULT = 186, 26, 176
 
 
@@ -85,16 +85,64 @@ def faults_of_figures(page, wanted, last, line):
 
 
 def faults_of_targets(page):
-    """Whether each box that has a fault, and no other, begins scrolled to it: from beside the names of the lanes to the fault's end."""
+    """Whether each box that has a fault, and no other, begins scrolled to it: from beside the names of the lanes to the fault's end. By time,
+    the fault's label is level, and may begin before the fault."""
+    level = [int(x) for label in of_class(page, "label") for x in re.findall(r"^translate\((\d+),\d+\)$", label.get("transform"))]
     for box in of_class(page, "scrolled"):
         strip = [part for part in of_class(box, "strip") if "names" not in classes(part)][0]
-        lefts = sorted({int(frame.get("x")) for frame in of_class(strip, "frame")})
+        lefts = sorted({min([int(frame.get("x")), *level]) for frame in of_class(strip, "frame")})
         found = [[int(part.get("width")) for part in elements(target, "svg")] for target in of_class(box, "to-fault")]
         begin = [max(0, left - NAMES - BEFORE_FAULT) for left in lefts]
         ends = [min(left + FROM_FAULT, NAMES + int(strip.get("width"))) for left in lefts]
         if found != [[first, last - first] for first, last in zip(begin, ends)]:
             return f"the box with faults at {lefts} begins at {found}"
     return ""
+
+
+def faults_of_labels(tree, records):
+    """Whether the label of each call and each return ends with its outcome, if a label says it: whole, however long the service is."""
+    for record in of_class(tree, "record"):
+        number = int(record.get("data-place"))
+        fields = records[number][2]
+        code = fields[11] if fields[1] in ("call", "ret") else ""
+        outcome = "waits" if code == "wait" else code
+        for label in map(texts, of_class(record, "label")):
+            if outcome not in ("", "none", "NO_ERROR") and not label.endswith(f": {outcome}"):
+                return f"the label of place {number} is {label!r}, and its outcome {outcome}"
+    return ""
+
+
+def faults_of_boxes(tree):
+    """Whether each mark that has its text beside it has all of it, after its sign."""
+    for mark in [*of_class(tree, "mark", "lawful"), *of_class(tree, "mark", "unlawful")]:
+        whole, said = texts(elements(mark, "title")[0]), " ".join(map(texts, of_class(mark, "said")))
+        if said[2:] != whole:
+            return f"it has the mark {said!r} for {whole!r}"
+    return ""
+
+
+def faults_of_words(page):
+    """Whether each option in the words of a page is in one piece, and each line that says more of the one before it hangs by its own
+    indentation."""
+    for part in [*elements(page, "pre"), *elements(page, "summary")]:
+        options = [word for word in texts(part).split() if re.match("--[a-z]", word)]
+        kept = [word for code in of_class(part, "option") for word in texts(code).split() if word.startswith("--")]
+        if options != kept:
+            return f"of the options {options} it keeps {kept} in one piece"
+        below = [line for line in texts(part).split("\n") if line.startswith(" " * 6)]
+        hanging = [texts(code).removesuffix("\n") for code in of_class(part, "below")]
+        if below != hanging:
+            return f"of the lines {below} these hang: {hanging}"
+    return ""
+
+
+def faults_of_named_cores(page, line, explained):
+    """Whether there is a lane for each core that the explanation of a fault names. How recordings may be named is no part of a fault."""
+    if "place=" not in line:
+        return ""
+    names = {name_of(lane) for lane in of_class(page, "lane")}
+    named = {core for said in explained.splitlines() if "are the recordings named" not in said for core in re.findall(r"\bcore \d+\b", said)}
+    return f"there are no lanes of {sorted(named - names)}" if named - names else ""
 
 
 def uses_of(part):
