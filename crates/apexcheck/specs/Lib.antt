@@ -1,5 +1,4 @@
 pub mod Files
-pub mod Folders
 pub mod RowsAlone
 pub mod Ruled
 pub mod Runs

@@ -3,6 +3,7 @@ use Rattle.std.specs.Prelude.{◌≡◌, ◌⊎◌, ℕ, Bool, List, Option, Any
 use Rattle.std.specs.Global.{Vec}
 use Rattle.std.specs.List.{AllZip}
 use Rattle.answer_words.specs.declared.names.InputNames.{InputNames}
+use Rattle.answer_words.specs.Folders.{FolderView, ReadFiles}
 use Rattle.csv_rows.specs.declared.watched.Watched.{Watched}
 use Rattle.program_ends.specs.declared.ending.Ending.{Ending}
 use Rattle.program_ends.specs.declared.ending.Ending.TheVariants as ending
@@ -14,8 +15,7 @@ use Rattle.apexcheck.specs.declared.awaited.Observed.{Observed}
 use Rattle.check_result.specs.declared.ending.CheckEnd.{CheckEnd}
 use Rattle.check_result.specs.declared.ending.CheckEnd.TheVariants.{Rows}
 use Rattle.check_result.specs.Endings.{refusing}
-use Rattle.apexcheck.specs.Files.{ReadFiles}
-use Rattle.apexcheck.specs.Folders.{FolderView}
+use Rattle.apexcheck.specs.Files.{file_of}
 
 -- what is found in each of these sources, as far as its text is known
 abbrev pub AreFound : {S : Type 0} → (S → Option (List ℕ)) → Bool → List S → List RowsFound → Type 0
@@ -34,4 +34,4 @@ module _ {F : Type 0} (facts : FolderView F) where
   IsOfRows known can_fail names end =
       (end ≡ out_of_memory refusing)
       ⊎ ((end ≡ ending.Unopened) × Any (λ name. facts.refuses (string_bytes name)) names.cores.items)
-      ⊎ ((sources : List (Observed (Watched F))) × ReadFiles facts (map string_bytes names.cores.items) sources × EndsByRows known can_fail sources end)
+      ⊎ ((sources : List (Observed (Watched F))) × ReadFiles facts file_of (map string_bytes names.cores.items) sources × EndsByRows known can_fail sources end)

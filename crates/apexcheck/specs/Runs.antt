@@ -1,6 +1,7 @@
 -- A run of the program: what it ends with, and what it leaves.
 use Rattle.std.specs.Prelude.{◌≡◌, ◌≢◌, ◌<◌, ℕ, Bool, false, List, [], ◌∷◌, Option, Some, None, Result, Ok, Err}
 use Rattle.std.specs.declared.io.ErrorKind.{ErrorKind}
+use Rattle.answer_words.specs.Folders.{FolderView}
 use Rattle.csv_rows.specs.declared.watched.Watched.{Watched}
 use Rattle.program_ends.specs.declared.ending.Ending.{Ending}
 use Rattle.program_ends.specs.declared.ending.Ending.TheVariants.{Own}
@@ -19,7 +20,6 @@ use Rattle.apexcheck.specs.declared.stored.TheConstants.{CONFIG, ORDER, RECORDIN
 use Rattle.check_request.specs.declared.usage.Asked.{Asked}
 use Rattle.check_result.specs.Endings.{own_status_of, own_text_of, refusing}
 use Rattle.apexcheck.specs.Files.{IsOfFiles}
-use Rattle.apexcheck.specs.Folders.{FolderView}
 use Rattle.check_request.specs.Requests.{IsRequested}
 use Rattle.apexcheck.specs.RowsAlone.{IsOfRows}
 

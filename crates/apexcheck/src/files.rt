@@ -1,25 +1,23 @@
 // The check of files.
 
-ghost use Rattle.std.specs.Prelude.{◌≡◌, ◌≢◌, Any, IfErr, IfOk, IsErrAnd, IsSomeAnd, map, option_map, string_bytes};
-ghost use Rattle.std.specs.IoError.{error_kind};
-ghost use Rattle.apexcheck.specs.Files.{AreOpened, AreRulesOf, EndsAsAsked, IsOfFiles, ReadFiles, RefusesOne, ending_of};
+ghost use Rattle.std.specs.Prelude.{◌≡◌, Any, IfErr, IfOk, map, string_bytes};
+ghost use Rattle.answer_words.specs.Folders.{ReadFiles, RefusesOne};
+ghost use Rattle.apexcheck.specs.Files.{AreOpened, EndsAsAsked, IsOfFiles, ending_of, file_of};
 ghost use Rattle.apexcheck.specs.Ruled.{where_asked};
 
 use crate::awaited::{Awaited, Observed, copy_of, end_watch, watch};
 use crate::course::Course;
-use crate::folder::Folder;
 use crate::ruled::check_ruled;
-use answer_words::{Explainer, note_broken};
+use answer_words::{Explainer, Folder, OpenFault, note_broken, open_rules, reported};
 use asked_rules::read_rules;
 use check_request::FilesAsked;
 use check_result::{CheckEnd, end_of_check};
 use csv_rows::{TextSource, Watched};
 use program_ends::{Ending, out_of_memory, refused_rules};
 use report::{Inputs, Last};
-use std::alloc::{AllocFailed, Global};
+use std::alloc::Global;
 use std::fs::Files;
-use std::io;
-use std::io::{ErrorKind, Read};
+use std::io::Read;
 use std::rt::Clock;
 use std::sync::{Arc, Wait};
 use std::thread::Threads;
@@ -165,23 +163,6 @@ fn where_asked(asked: bool, last: Last) -> Option<Last>
     if asked { Some(last) } else { None }
 }
 
-// The text of the rules file of this name, if one is named.
-fn open_rules<D: Folder>(
-    folder: &D,
-    alloc: Global,
-    name: &Option<String>,
-    explainer: &mut Explainer,
-) -> Result<Option<Vec<u8>>, OpenFault>
-    ensures rules { IfOk result (λ rules. AreRulesOf (D.facts folder.now) (option_map string_bytes name.now) (option_map (λ text. text.items) rules)) }
-    ensures refused { IfErr result (λ fault. fault ≡ OpenFault.Unopened → IsSomeAnd (option_map string_bytes name.now) (D.facts folder.now).refuses) }
-{
-    let Some(name) = name else {
-        return Ok(None);
-    };
-    let text = reported(explainer, name, folder.open_text(alloc, name))?;
-    Ok(Some(text))
-}
-
 // The files that may hold up the check once its answer is known, if they are to be reported.
 fn awaited_of<R: Files>(rt: &R, alloc: Global, asked: &FilesAsked) -> Option<Arc<Awaited>> {
     if asked.quiet {
@@ -198,7 +179,7 @@ pub fn open_cores<D: Folder<File = F>, F: Read + Drop>(
     awaited: &Option<Arc<Awaited>>,
     explainer: &mut Explainer,
 ) -> Result<Vec<Observed<Watched<F>>>, OpenFault>
-    ensures cores { IfOk result (λ cores. ReadFiles (D.facts folder.now) (map string_bytes names.now) cores.items) }
+    ensures cores { IfOk result (λ cores. ReadFiles (D.facts folder.now) file_of (map string_bytes names.now) cores.items) }
     ensures refused { IfErr result (λ fault. fault ≡ OpenFault.Unopened → Any (λ name. (D.facts folder.now).refuses (string_bytes name)) names.now) }
 {
     let mut cores = Vec::new(alloc);
@@ -209,46 +190,4 @@ pub fn open_cores<D: Folder<File = F>, F: Read + Drop>(
         cores.push(Observed::new(core, copy_of(awaited), index))?;
     }
     Ok(cores)
-}
-
-/// Why not all files of a run could be opened.
-#[derive(Clone, Copy, Debug, PartialEq, Eq)]
-pub enum OpenFault {
-    /// A file cannot be opened, or the configuration or the rules file cannot be read.
-    Unopened,
-    /// Memory was refused.
-    Memory,
-}
-
-// The answer of the system for the file of this name. A refusal other than a lack of memory is noted for a person.
-fn reported<T: Drop>(
-    explainer: &mut Explainer,
-    name: &str,
-    answer: io::Result<T>,
-) -> Result<T, OpenFault>
-    ensures value { IfOk answer (λ value. result ≡ Ok value) }
-    ensures given { IfOk result (λ value. answer ≡ Ok value) }
-    ensures refused { IfErr result (λ fault. fault ≡ OpenFault.Unopened → IsErrAnd answer (λ e. error_kind e ≢ ErrorKind.OutOfMemory)) }
-    ensures memory { IfErr answer (λ e. error_kind e ≡ ErrorKind.OutOfMemory → result ≡ Err OpenFault.Memory) }
-    ensures unopened { IfErr answer (λ e. error_kind e ≢ ErrorKind.OutOfMemory → result ≡ Err OpenFault.Unopened) }
-{
-    match answer {
-        Ok(value) => Ok(value),
-        Err(e) if e.kind() == ErrorKind::OutOfMemory => Err(OpenFault::Memory),
-        Err(e) => {
-            explainer.note_unopened(name, e);
-            Err(OpenFault::Unopened)
-        }
-    }
-}
-
-impl<T: Drop> From<AllocFailed<T>> for OpenFault {
-    ghost use Rattle.std.specs.Prelude.{◌≡◌};
-    ghost use Rattle.apexcheck.specs.declared.files.OpenFault.TheVariants.{Memory};
-
-    ghost from_gives = { λ _ fault. fault ≡ Memory };
-
-    fn from(_: AllocFailed<T>) -> OpenFault {
-        OpenFault::Memory
-    }
 }

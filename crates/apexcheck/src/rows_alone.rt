@@ -4,8 +4,7 @@ ghost use Rattle.apexcheck.specs.RowsAlone.{EndsByRows, IsOfRows};
 
 use crate::awaited::Observed;
 use crate::files::{end_by, open_cores};
-use crate::folder::Folder;
-use answer_words::{Explainer, InputNames};
+use answer_words::{Explainer, Folder, InputNames};
 use check_result::CheckEnd;
 use csv_rows::{TextSource, Watched};
 use program_ends::{Ending, out_of_memory};

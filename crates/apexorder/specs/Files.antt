@@ -1,6 +1,10 @@
 -- How a run over files ends.
-use Rattle.std.specs.Prelude.{◌≡◌, ◌⊎◌, ℕ, List, Option, Some, Result, Ok, Err, is_some, length, map, option_map, vec_len}
+use Rattle.std.specs.Prelude.{◌≡◌, ◌⊎◌, ℕ, List, Option, Some, Result, Ok, Err, Any, IsSomeAnd, length, map, option_map, string_bytes}
+use Rattle.answer_words.specs.declared.opening.OpenFault.{OpenFault}
+use Rattle.answer_words.specs.declared.opening.OpenFault.TheVariants.{Unopened, Memory}
+use Rattle.answer_words.specs.Folders.{AreRulesOf, FolderView, ReadFiles}
 use Rattle.apex_machine.specs.Configuration.{Configuration}
+use Rattle.csv_rows.specs.declared.watched.Watched.{Watched}
 use Rattle.module_config.specs.Reading.{configuration_of}
 use Rattle.record_read.specs.Row.{records_of}
 use Rattle.apexorder.specs.declared.names.OrderNames.{OrderNames}
@@ -13,8 +17,6 @@ use Rattle.asked_rules.specs.declared.fault.RulesFault.{RulesFault}
 use Rattle.asked_rules.specs.Reading.{SaidFile}
 use Rattle.apexorder.specs.declared.ending.OrderEnd.{OrderEnd}
 use Rattle.apexorder.specs.declared.ending.OrderEnd.TheVariants as own
-use Rattle.apexorder.specs.declared.files.OpenFault.{OpenFault}
-use Rattle.apexorder.specs.declared.files.OpenFault.TheVariants.{Unopened, Memory}
 use Rattle.apexorder.specs.declared.files.Opened.{Opened}
 use Rattle.apexorder.specs.declared.usage.Asked.{Asked}
 use Rattle.apexorder.specs.declared.usage.Asked.TheVariants as asks
@@ -46,20 +48,36 @@ pub record EndsAsAsked {S : Type 0} (known : S → Option (List ℕ)) (opened : 
       → map known opened.cores.items ≡ map Some texts → rules_given (rules_text opened) ≡ Ok file
       → IsCertified configuration (in_order asked.options) file texts before after end
 
--- a file was opened for each recording that is named, and the rules file if one is named
-pub record AreOpened {S : Type 0} (names : OrderNames) (opened : Opened S) : Type 0 where
-  pub cores : vec_len opened.cores ≡ vec_len names.cores
-  pub rules : is_some opened.rules ≡ is_some names.rules
+-- the file that a source reads
+abbrev pub file_of : {F : Type 0} → Watched F → F
+file_of source = source.inner
 
--- a run over the requested files: not all of them could be opened; or they were opened, and it ends as it was requested
-abbrev pub IsOfFiles : {S : Type 0} → (S → Option (List ℕ)) → OrderAsked → Ending OrderEnd → Type 0
-IsOfFiles {S} known asked end =
-    ((fault : OpenFault) × (end ≡ ending_of_files fault))
-    ⊎ ((opened : Opened S) × (before : Option (List ℕ)) × (after : Option (List ℕ)) × AreOpened asked.names opened × EndsAsAsked known opened asked before after end)
+module _ {F : Type 0} (facts : FolderView F) where
+  -- each file was opened in its role: the configuration and the rules are the texts in the files that are named as such, and the recordings
+  -- are read from theirs, core 0 first
+  pub record AreOpened (names : OrderNames) (opened : Opened (Watched F)) : Type 0 where
+    pub config : facts.is_text (string_bytes names.config) opened.text.items
+    pub rules : AreRulesOf facts (option_map string_bytes names.rules) (rules_text opened)
+    pub cores : ReadFiles facts file_of (map string_bytes names.cores.items) opened.cores.items
 
--- a run for what the command line requests: over files; or it printed the version or the help, or could not; or the words are refused
-abbrev pub EndsBy : {S : Type 0} → (S → Option (List ℕ)) → Result Asked UsageFault → Ending OrderEnd → Type 0
-EndsBy known (Ok (asks.Order asked)) end = IsOfFiles known asked end
-EndsBy known (Ok asks.Version) end = (end ≡ ending.Own own.Version) ⊎ (end ≡ ending.Own own.Unwritten)
-EndsBy known (Ok asks.Help) end = (end ≡ ending.Own own.Help) ⊎ (end ≡ ending.Own own.Unwritten)
-EndsBy known (Err fault) end = end ≡ refused_words refusing fault
+  -- one of the files that are named is refused
+  abbrev pub RefusesOne : OrderNames → Type 0
+  RefusesOne names =
+      facts.refuses (string_bytes names.config)
+      ⊎ IsSomeAnd (option_map string_bytes names.rules) facts.refuses
+      ⊎ Any (λ name. facts.refuses (string_bytes name)) names.cores.items
+
+  -- a run over the requested files: memory ran out before the search; or one of the files is refused, and the run ends with that; or each was
+  -- opened in its role, and the run ends as it was requested
+  abbrev pub IsOfFiles : (Watched F → Option (List ℕ)) → OrderAsked → Ending OrderEnd → Type 0
+  IsOfFiles known asked end =
+      (end ≡ out_of_memory refusing)
+      ⊎ ((end ≡ ending.Unopened) × RefusesOne asked.names)
+      ⊎ ((opened : Opened (Watched F)) × (before : Option (List ℕ)) × (after : Option (List ℕ)) × AreOpened asked.names opened × EndsAsAsked known opened asked before after end)
+
+  -- a run for what the command line requests: over files; or it printed the version or the help, or could not; or the words are refused
+  abbrev pub EndsBy : (Watched F → Option (List ℕ)) → Result Asked UsageFault → Ending OrderEnd → Type 0
+  EndsBy known (Ok (asks.Order asked)) end = IsOfFiles known asked end
+  EndsBy known (Ok asks.Version) end = (end ≡ ending.Own own.Version) ⊎ (end ≡ ending.Own own.Unwritten)
+  EndsBy known (Ok asks.Help) end = (end ≡ ending.Own own.Help) ⊎ (end ≡ ending.Own own.Unwritten)
+  EndsBy known (Err fault) end = end ≡ refused_words refusing fault

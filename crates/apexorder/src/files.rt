@@ -1,7 +1,9 @@
 // The search over files.
 
-ghost use Rattle.std.specs.Prelude.{◌≡◌, IfOk, is_some, length, vec_len};
-ghost use Rattle.apexorder.specs.Files.{AreOpened, EndsAsAsked, IsOfFiles, ending_of_files};
+ghost use Rattle.std.specs.Prelude.{◌≡◌, ◌≢◌, Any, IfErr, IfOk, IsErrAnd, IsSomeAnd, map, option_map, string_bytes};
+ghost use Rattle.std.specs.IoError.{error_kind};
+ghost use Rattle.answer_words.specs.Folders.{AreRulesOf, ReadFiles};
+ghost use Rattle.apexorder.specs.Files.{AreOpened, EndsAsAsked, IsOfFiles, RefusesOne, ending_of_files, file_of};
 
 use crate::ending::OrderEnd;
 use crate::names::OrderNames;
@@ -9,47 +11,34 @@ use crate::noted::Noted;
 use crate::ruled::propose_ruled;
 use crate::seen::Seen;
 use crate::usage::OrderAsked;
-use answer_words::{open, open_text};
+use answer_words::{Folder, OpenFault};
 use asked_rules::{NamedRule, RuleOption, read_rules};
 use csv_rows::{TextSource, Watched};
 use program_ends::{Ending, out_of_memory, refused_rules};
 use report::CheckFault;
 use sink::WriterSink;
-use std::alloc::{AllocFailed, Global};
-use std::fs::Files;
+use std::alloc::Global;
 use std::io;
 use std::io::{ErrorKind, Read, Write};
 use std::rt::Clock;
 
-// Why not all files were opened.
-#[derive(Clone, Copy, Debug, PartialEq, Eq)]
-enum OpenFault {
-    // A file cannot be opened, or the configuration or the rules file cannot be read.
-    Unopened,
-    // Memory was refused.
-    Memory,
-}
-
-impl<T: Drop> From<AllocFailed<T>> for OpenFault {
-    fn from(_: AllocFailed<T>) -> OpenFault {
-        OpenFault::Memory
-    }
-}
-
-/// Searches for an order of the recordings in the files that the command line names, and writes it to standard output. The configuration
-/// is read first, then the rules file, if one is named; then the recordings are opened, core 0 first. The rules file is judged after that.
-pub fn propose_for<R, F>(
+/// Searches for an order of the recordings in the files of this folder that the command line names, and writes it to standard output. The
+/// configuration is read first, then the rules file, if one is named; then the recordings are opened, core 0 first. The rules file is judged
+/// after that.
+pub fn propose_for<R, D, F>(
     rt: &R,
+    folder: &D,
     alloc: Global,
     asked: &OrderAsked,
     seen: &mut Seen<'_, R>,
 ) -> Ending<OrderEnd>
 where
-    R: Files<File = F> + Clock + Print + Eprint,
+    R: Clock + Print + Eprint,
+    D: Folder<File = F>,
     F: Read + Drop,
-    ensures { IsOfFiles ⟦<Watched<F> as TextSource>⟧.remaining asked.now result }
+    ensures { IsOfFiles (D.facts folder.now) ⟦<Watched<F> as TextSource>⟧.remaining asked.now result }
 {
-    match Opened::open(rt, alloc, &asked.names, &mut seen.noted) {
+    match Opened::open(folder, alloc, &asked.names, &mut seen.noted) {
         Ok(opened) => {
             let mut output = WriterSink::new(io::writer(rt));
             opened.propose(alloc, asked, seen, &mut output)
@@ -77,17 +66,19 @@ struct Opened<S> {
 }
 
 impl<F: Read + Drop> Opened<Watched<F>> {
-    fn open<R: Files<File = F>>(
-        rt: &R,
+    // Opens each file in its role.
+    fn open<D: Folder<File = F>>(
+        folder: &D,
         alloc: Global,
         names: &OrderNames,
         noted: &mut Noted,
     ) -> Result<Opened<Watched<F>>, OpenFault>
-        ensures { IfOk result (AreOpened names.now) }
+        ensures opened { IfOk result (AreOpened (D.facts folder.now) names.now) }
+        ensures refused { IfErr result (λ fault. fault ≡ OpenFault.Unopened → RefusesOne (D.facts folder.now) names.now) }
     {
-        let text = reported(noted, &names.config, open_text(rt, alloc, &names.config))?;
-        let rules = open_rules(rt, alloc, &names.rules, noted)?;
-        let cores = open_cores(rt, alloc, &names.cores, noted)?;
+        let text = reported(noted, &names.config, folder.open_text(alloc, &names.config))?;
+        let rules = open_rules(folder, alloc, &names.rules, noted)?;
+        let cores = open_cores(folder, alloc, &names.cores, noted)?;
         Ok(Opened { text, rules, cores })
     }
 }
@@ -158,38 +149,44 @@ fn note_end(
 }
 
 // The text of the rules file of this name, if one is named.
-fn open_rules<R: Files<File = F>, F: Read + Drop>(
-    rt: &R,
+fn open_rules<D: Folder>(
+    folder: &D,
     alloc: Global,
     name: &Option<String>,
     noted: &mut Noted,
 ) -> Result<Option<Vec<u8>>, OpenFault>
-    ensures { IfOk result (λ rules. is_some rules ≡ is_some name.now) }
+    ensures rules { IfOk result (λ rules. AreRulesOf (D.facts folder.now) (option_map string_bytes name.now) (option_map (λ text. text.items) rules)) }
+    ensures refused { IfErr result (λ fault. fault ≡ OpenFault.Unopened → IsSomeAnd (option_map string_bytes name.now) (D.facts folder.now).refuses) }
 {
-    match name {
-        Some(name) => Ok(Some(reported(noted, name, open_text(rt, alloc, name))?)),
-        None => Ok(None),
-    }
+    let Some(name) = name else {
+        return Ok(None);
+    };
+    let text = reported(noted, name, folder.open_text(alloc, name))?;
+    Ok(Some(text))
 }
 
 // The recordings in the files of these names, in their order.
-fn open_cores<R: Files<File = F>, F: Read + Drop>(
-    rt: &R,
+fn open_cores<D: Folder<File = F>, F: Read + Drop>(
+    folder: &D,
     alloc: Global,
     names: &[String],
     noted: &mut Noted,
 ) -> Result<Vec<Watched<F>>, OpenFault>
-    ensures { IfOk result (λ cores. vec_len cores ≡ length names.now) }
+    ensures cores { IfOk result (λ cores. ReadFiles (D.facts folder.now) file_of (map string_bytes names.now) cores.items) }
+    ensures refused { IfErr result (λ fault. fault ≡ OpenFault.Unopened → Any (λ name. (D.facts folder.now).refuses (string_bytes name)) names.now) }
 {
     let mut cores = Vec::new(alloc);
     for name in names {
-        cores.push(Watched::new(reported(noted, name, open(rt, name))?))?;
+        cores.push(Watched::new(reported(noted, name, folder.open(name))?))?;
     }
     Ok(cores)
 }
 
-// The answer of the system for the file of this name. A refusal other than that of memory is noted for a person.
-fn reported<T: Drop>(noted: &mut Noted, name: &str, answer: io::Result<T>) -> Result<T, OpenFault> {
+// The answer of the folder for the file of this name. A refusal other than that of memory is noted for a person.
+fn reported<T: Drop>(noted: &mut Noted, name: &str, answer: io::Result<T>) -> Result<T, OpenFault>
+    ensures given { IfOk result (λ value. answer ≡ Ok value) }
+    ensures refused { IfErr result (λ fault. fault ≡ OpenFault.Unopened → IsErrAnd answer (λ e. error_kind e ≢ ErrorKind.OutOfMemory)) }
+{
     match answer {
         Ok(value) => Ok(value),
         Err(e) if e.kind() == ErrorKind::OutOfMemory => Err(OpenFault::Memory),

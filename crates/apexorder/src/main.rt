@@ -1,8 +1,8 @@
 //! The program: searches for an order of the recordings of several cores, and prints it as a certificate.
 //!
 //! Promises: what goes to standard output during a search are rows of a certificate, of which `order_run` says what they are; the exit
-//! status is that of the end, and the end is what the command line and its files came to (`run`). Standard error shows a person that end
-//! in words.
+//! status is that of the end, and the end is what the command line and its files came to, over files that are each opened in their role
+//! (`run`). `main` passes to `run` the files of the system and what its words request. Standard error shows a person that end in words.
 //!
 //! # The words
 //!
@@ -39,6 +39,7 @@ mod seen;
 mod stops;
 mod usage;
 
+use answer_words::{Folder, SystemFiles};
 use closing_words::tell;
 use csv_rows::{TextSource, Watched};
 use ending::OrderEnd;
@@ -64,7 +65,14 @@ fn main(rt: HostRuntime) -> ExitCode {
         wants_progress(&asked, rt.stderr().is_terminal()),
     );
     let mut output = WriterSink::new(rt.stderr());
-    ExitCode::from(run(&rt, alloc, &asked, &mut seen, &mut output))
+    ExitCode::from(run(
+        &rt,
+        &SystemFiles::new(&rt),
+        alloc,
+        &asked,
+        &mut seen,
+        &mut output,
+    ))
 }
 
 // Whether the progress is shown: on a terminal, unless `--quiet` is given.
@@ -75,38 +83,44 @@ fn wants_progress(asked: &Result<Asked, UsageFault>, is_terminal: bool) -> bool 
     }
 }
 
-// Does what the command line requests, and reports how that ended. Returns the exit status of the end. The line of a refusal goes to this
-// output.
-fn run<R, F: Read + Drop, W: Sink>(
+// Does what the command line requests, with files of this folder, and reports how that ended. Returns the exit status of the end. The line
+// of a refusal goes to this output.
+fn run<R, D, F, W: Sink>(
     rt: &R,
+    folder: &D,
     alloc: Global,
     asked: &Result<Asked, UsageFault>,
     seen: &mut Seen<'_, R>,
     output: &mut W,
 ) -> u8
 where
-    R: Files<File = F> + Env + Clock + Print + Eprint + AllocGlobal,
-    ensures { (ending : EndingValue End) × EndsBy ⟦<Watched<F> as TextSource>⟧.remaining asked.now ending × (result ≡ exit_status_of own_status_of ending) }
+    R: Files<File = File> + Env + Clock + Print + Eprint + AllocGlobal,
+    D: Folder<File = F>,
+    F: Read + Drop,
+    ensures { (ending : EndingValue End) × EndsBy (D.facts folder.now) ⟦<Watched<F> as TextSource>⟧.remaining asked.now ending × (result ≡ exit_status_of own_status_of ending) }
 {
-    let ending = end_of(rt, alloc, asked, seen);
+    let ending = end_of(rt, folder, alloc, asked, seen);
     seen.clear();
     tell(rt, alloc, output, asked, &ending, &seen.noted);
     status_of(&ending)
 }
 
 // Does what the command line requests.
-fn end_of<R, F: Read + Drop>(
+fn end_of<R, D, F>(
     rt: &R,
+    folder: &D,
     alloc: Global,
     asked: &Result<Asked, UsageFault>,
     seen: &mut Seen<'_, R>,
 ) -> Ending<OrderEnd>
 where
-    R: Files<File = F> + Clock + Print + Eprint + AllocGlobal,
-    ensures { EndsBy ⟦<Watched<F> as TextSource>⟧.remaining asked.now result }
+    R: Files + Clock + Print + Eprint + AllocGlobal,
+    D: Folder<File = F>,
+    F: Read + Drop,
+    ensures { EndsBy (D.facts folder.now) ⟦<Watched<F> as TextSource>⟧.remaining asked.now result }
 {
     match asked {
-        Ok(Asked::Order(asked)) => propose_for(rt, alloc, asked, seen),
+        Ok(Asked::Order(asked)) => propose_for(rt, folder, alloc, asked, seen),
         Ok(Asked::Version) => print_version(rt),
         Ok(Asked::Help) => print_help(rt, alloc),
         Err(fault) => refused_words(*fault),

@@ -3,8 +3,9 @@
 //! The picture or the trace is printed on standard output. Standard error has the line that `apexcheck` prints, and why the answer is not
 //! Yes. The exit status is that of `apexcheck`.
 //!
-//! Promises: the exit status and the line are those of the end of the run, and the end is what the command line and its files came to
-//! (`run`). If memory is refused, whatever it is needed for, the run ends with `MEMORY`.
+//! Promises: the exit status and the line are those of the end of the run, and the end is what the command line and its files came to, over
+//! files that are each opened in their role (`run`). `main` passes to `run` the files of the system and what its words request. If memory is
+//! refused, whatever it is needed for, the run ends with `MEMORY`.
 #![tactic(auto)]
 
 ghost use Rattle.std.specs.Prelude.{◌≡◌, ◌≢◌, ◌<◌};
@@ -20,7 +21,7 @@ mod explained;
 mod of_itself;
 mod usage;
 
-use answer_words::{Explainer, Terminal};
+use answer_words::{Explainer, Folder, SystemFiles, Terminal};
 use csv_rows::{TextSource, Watched};
 use explained::explain;
 use of_itself::{print_help, print_version};
@@ -30,7 +31,7 @@ use sink::{Sink, WriteFault, WriterSink};
 use std::alloc::Global;
 use std::fs::{File, Files};
 use std::io;
-use std::io::Write;
+use std::io::{Read, Write};
 use std::process::ExitCode;
 use std::rt::Env;
 use std::sync::Wait;
@@ -41,13 +42,14 @@ fn main(rt: HostRuntime) -> ExitCode {
     let alloc = rt.alloc();
     let asked = from_words(&rt, alloc);
     let mut output = WriterSink::new(io::writer(&rt));
-    ExitCode::from(run(&rt, alloc, &asked, &mut output))
+    ExitCode::from(run(&rt, &SystemFiles::new(&rt), alloc, &asked, &mut output))
 }
 
-// Does what the command line requests, and reports on standard error how that ended. Returns the exit status of the end. The picture or the
-// trace goes to this output.
-fn run<R, W: Write + Drop>(
+// Does what the command line requests, with files of this folder, and reports on standard error how that ended. Returns the exit status of
+// the end. The picture or the trace goes to this output.
+fn run<R, D, F, W: Write + Drop>(
     rt: &R,
+    folder: &D,
     alloc: Global,
     asked: &Result<Asked, UsageFault>,
     output: &mut WriterSink<W>,
@@ -55,19 +57,22 @@ fn run<R, W: Write + Drop>(
 where
     R: Files<File = File> + Env + Eprint + AllocGlobal,
     R: Threads + Wait + Sync + Copy + Send + 'static,
-    ensures { (ending : EndingValue End) × EndsBy ⟦<Watched<File> as TextSource>⟧.remaining ⟦<Watched<File> as TextSource>⟧.can_fail asked.now ending × (result ≡ exit_status_of own_status_of ending) }
+    D: Folder<File = F>,
+    F: Read + Drop + Send + 'static,
+    ensures { (ending : EndingValue End) × EndsBy (D.facts folder.now) ⟦<Watched<F> as TextSource>⟧.remaining ⟦<Watched<F> as TextSource>⟧.can_fail asked.now ending × (result ≡ exit_status_of own_status_of ending) }
 {
     let mut explainer = Explainer::new(alloc, Terminal::new(rt, false));
-    let shown = answer(rt, alloc, asked, &mut explainer, output);
+    let shown = answer(rt, folder, alloc, asked, &mut explainer, output);
     let written = conclude(output, shown);
     let ending = explain(rt, alloc, asked, written, &explainer);
     status_of(&ending)
 }
 
 // Does what the command line requests.
-#[tactic(auto, using(crate::proofs::Ended::version_printed, crate::proofs::Ended::help_printed, crate::proofs::Ended::files_shown, crate::proofs::Ended::words_refused))]
-fn answer<R, W: Sink>(
+#[tactic(auto, using(crate::proofs::Ended::version_printed, crate::proofs::Ended::help_printed, crate::proofs::Ended::words_refused))]
+fn answer<R, D, F, W: Sink>(
     rt: &R,
+    folder: &D,
     alloc: Global,
     asked: &Result<Asked, UsageFault>,
     explainer: &mut Explainer,
@@ -75,13 +80,15 @@ fn answer<R, W: Sink>(
 ) -> Ending<ViewEnd>
 where
     R: Files<File = File> + AllocGlobal + Threads + Wait + Sync + Copy + Send + 'static,
-    ensures { EndsBy ⟦<Watched<File> as TextSource>⟧.remaining ⟦<Watched<File> as TextSource>⟧.can_fail asked.now result }
+    D: Folder<File = F>,
+    F: Read + Drop + Send + 'static,
+    ensures { EndsBy (D.facts folder.now) ⟦<Watched<F> as TextSource>⟧.remaining ⟦<Watched<F> as TextSource>⟧.can_fail asked.now result }
 {
     match asked {
         Ok(Asked::Version) => print_version(output),
         Ok(Asked::Help) => print_help(rt, alloc, output),
         Ok(Asked::Files { files, view }) => {
-            show_files(rt, alloc, files, view, explainer, output)
+            show_files(rt, folder, alloc, files, view, explainer, output)
         }
         Err(fault) => refused_words(*fault),
     }

@@ -1,23 +1,20 @@
 // The files of a run, opened and shown.
 
-ghost use Rattle.std.specs.Prelude.{◌≡◌, ◌⊎◌, IfErr, IfOk, is_some, length, vec_len};
-ghost use Rattle.program_ends.specs.declared.ending.Ending.TheVariants.{Unopened};
-ghost use Rattle.program_ends.specs.Endings.{out_of_memory};
-ghost use Rattle.shown_run.specs.Endings.{refusing};
-ghost use Rattle.shown_run.specs.Files.{AreOpened, EndsAsAsked, IsOfFiles};
+ghost use Rattle.std.specs.Prelude.{◌≡◌, Any, IfErr, IfOk, map, string_bytes};
+ghost use Rattle.answer_words.specs.Folders.{ReadFiles, RefusesOne};
+ghost use Rattle.shown_run.specs.Files.{AreOpened, EndsAsAsked, IsOfFiles, ending_of, file_of};
 
 use crate::ending::ViewEnd;
 use crate::shown::{Judged, Request, show_under};
 use crate::viewer::Viewer;
-use answer_words::{Explainer, InputNames, open, open_text};
+use answer_words::{Explainer, Folder, InputNames, OpenFault, open_rules, reported};
 use asked_rules::{RuleOptions, all_relations, read_rules};
 use csv_rows::{TextSource, Watched};
 use program_ends::{Ending, out_of_memory, refused_rules};
 use sink::Sink;
 use std::alloc::Global;
 use std::fs::{File, Files};
-use std::io;
-use std::io::ErrorKind;
+use std::io::Read;
 use std::sync::Wait;
 use std::thread::Threads;
 
@@ -28,10 +25,11 @@ pub struct FilesAsked {
     pub options: RuleOptions,
 }
 
-/// Opens the files of a run, judges it, and shows it by this viewer. The configuration is read first, then the rules file, if one is named; then the order is
-/// opened, then the recordings, core 0 first. The explainer receives what explains its end.
-pub fn show_files<R, V: Viewer, W: Sink>(
+/// Opens the files of a run in this folder, judges it, and shows it by this viewer. The configuration is read first, then the rules file, if
+/// one is named; then the order is opened, then the recordings, core 0 first. The explainer receives what explains its end.
+pub fn show_files<R, D, F, V: Viewer, W: Sink>(
     rt: &R,
+    folder: &D,
     alloc: Global,
     asked: &FilesAsked,
     viewer: &V,
@@ -40,11 +38,23 @@ pub fn show_files<R, V: Viewer, W: Sink>(
 ) -> Ending<ViewEnd>
 where
     R: Files<File = File> + Threads + Wait + Sync + Copy + Send + 'static,
-    ensures { IsOfFiles ⟦<Watched<File> as TextSource>⟧.remaining ⟦<Watched<File> as TextSource>⟧.can_fail asked.now result }
+    D: Folder<File = F>,
+    F: Read + Drop + Send + 'static,
+    ensures { IsOfFiles (D.facts folder.now) ⟦<Watched<F> as TextSource>⟧.remaining ⟦<Watched<F> as TextSource>⟧.can_fail asked.now result }
 {
-    match Opened::open(rt, alloc, &asked.names, explainer) {
+    match Opened::open(folder, alloc, &asked.names, explainer) {
         Ok(opened) => opened.show(rt, alloc, asked, viewer, explainer, output),
-        Err(ending) => ending,
+        Err(fault) => end_by(fault),
+    }
+}
+
+// The end of a run if not all its files could be opened.
+fn end_by(fault: OpenFault) -> Ending<ViewEnd>
+    ensures { result ≡ ending_of fault }
+{
+    match fault {
+        OpenFault::Unopened => Ending::Unopened,
+        OpenFault::Memory => out_of_memory(),
     }
 }
 
@@ -57,24 +67,25 @@ struct Opened<S> {
     cores: Vec<S>,
 }
 
-impl Opened<Watched<File>> {
-    fn open<R: Files<File = File>>(
-        rt: &R,
+impl<F: Read + Drop> Opened<Watched<F>> {
+    // Opens each file in its role.
+    fn open<D: Folder<File = F>>(
+        folder: &D,
         alloc: Global,
         names: &InputNames,
         explainer: &mut Explainer,
-    ) -> Result<Opened<Watched<File>>, Ending<ViewEnd>>
-        ensures opened { IfOk result (AreOpened names.now) }
-        ensures refused { IfErr result (λ ending. (ending ≡ Unopened) ⊎ (ending ≡ out_of_memory refusing)) }
+    ) -> Result<Opened<Watched<F>>, OpenFault>
+        ensures opened { IfOk result (AreOpened (D.facts folder.now) names.now) }
+        ensures refused { IfErr result (λ fault. fault ≡ OpenFault.Unopened → RefusesOne (D.facts folder.now) names.now) }
     {
         let config = reported(
             explainer,
             &names.config,
-            open_text(rt, alloc, &names.config),
+            folder.open_text(alloc, &names.config),
         )?;
-        let rules = open_rules(rt, alloc, names, explainer)?;
-        let order = Watched::new(reported(explainer, &names.order, open(rt, &names.order))?);
-        let cores = open_cores(rt, alloc, names, explainer)?;
+        let rules = open_rules(folder, alloc, &names.rules, explainer)?;
+        let order = Watched::new(reported(explainer, &names.order, folder.open(&names.order))?);
+        let cores = open_cores(folder, alloc, &names.cores, explainer)?;
         Ok(Opened {
             config,
             rules,
@@ -136,60 +147,19 @@ impl<S: TextSource + Drop + Send + 'static> Opened<S> {
     }
 }
 
-// The answer of the system for the file of this name. A refusal other than a lack of memory is noted for a person.
-fn reported<T: Drop>(
-    explainer: &mut Explainer,
-    name: &str,
-    answer: io::Result<T>,
-) -> Result<T, Ending<ViewEnd>>
-    ensures { IfErr result (λ ending. (ending ≡ Unopened) ⊎ (ending ≡ out_of_memory refusing)) }
-{
-    match answer {
-        Ok(value) => Ok(value),
-        Err(e) if e.kind() == ErrorKind::OutOfMemory => Err(out_of_memory()),
-        Err(e) => {
-            explainer.note_unopened(name, e);
-            Err(Ending::Unopened)
-        }
-    }
-}
-
-fn open_rules<R: Files<File = File>>(
-    rt: &R,
+// The recordings in the files of these names, in their order. The explainer receives which file cannot be opened and why.
+fn open_cores<D: Folder<File = F>, F: Read + Drop>(
+    folder: &D,
     alloc: Global,
-    names: &InputNames,
+    names: &[String],
     explainer: &mut Explainer,
-) -> Result<Option<Vec<u8>>, Ending<ViewEnd>>
-    ensures opened { IfOk result (λ rules. is_some rules ≡ is_some names.now.rules) }
-    ensures refused { IfErr result (λ ending. (ending ≡ Unopened) ⊎ (ending ≡ out_of_memory refusing)) }
-{
-    match &names.rules {
-        None => Ok(None),
-        Some(name) => match reported(explainer, name, open_text(rt, alloc, name)) {
-            Ok(text) => Ok(Some(text)),
-            Err(ending) => Err(ending),
-        },
-    }
-}
-
-fn open_cores<R: Files<File = File>>(
-    rt: &R,
-    alloc: Global,
-    names: &InputNames,
-    explainer: &mut Explainer,
-) -> Result<Vec<Watched<File>>, Ending<ViewEnd>>
-    ensures opened { IfOk result (λ cores. vec_len cores ≡ vec_len names.now.cores) }
-    ensures refused { IfErr result (λ ending. (ending ≡ Unopened) ⊎ (ending ≡ out_of_memory refusing)) }
+) -> Result<Vec<Watched<F>>, OpenFault>
+    ensures cores { IfOk result (λ cores. ReadFiles (D.facts folder.now) file_of (map string_bytes names.now) cores.items) }
+    ensures refused { IfErr result (λ fault. fault ≡ OpenFault.Unopened → Any (λ name. (D.facts folder.now).refuses (string_bytes name)) names.now) }
 {
     let mut cores = Vec::new(alloc);
-    for name in names.cores.iter() {
-        let core: File = match reported(explainer, name, open(rt, name)) {
-            Ok(core) => core,
-            Err(ending) => return Err(ending),
-        };
-        if cores.push(Watched::new(core)).is_err() {
-            return Err(out_of_memory());
-        }
+    for name in names {
+        cores.push(Watched::new(reported(explainer, name, folder.open(name))?))?;
     }
     Ok(cores)
 }

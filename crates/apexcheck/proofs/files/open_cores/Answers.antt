@@ -1,35 +1,12 @@
 -- Each recording is the file of the next name.
-use Rattle.std.proofs.Common.{◌≡◌, ◌≢◌, ◌∙◌, ◌<◌, ◌+◌, ◌++◌, ℕ, List, [], ◌∷◌, Result, Ok, Err, ap, get_or, length, map, string_bytes, subst, sym, take}
+use Rattle.std.proofs.Common.{◌≡◌, ◌≢◌, string_bytes, subst, sym}
 use Rattle.std.specs.IoError.{error_kind}
-use Rattle.std.specs.List.{AllZip}
-use Rattle.std.specs.Prelude.{Any, IfErr, IsErrAnd}
+use Rattle.std.specs.Prelude.{Any}
 use Rattle.std.specs.declared.io.ErrorKind.TheVariants.{OutOfMemory}
-use Rattle.std.proofs.lemmas.List.{map-append, take_more}
 use Rattle.std.proofs.lemmas.Result.{IfOk-at_ok}
-use Rattle.apexcheck.proofs.Failed.{of_error}
+use Rattle.answer_words.proofs.InTurn.{next_name, of_error, of_kind}
+use Rattle.answer_words.specs.declared.opening.OpenFault.TheVariants.{Unopened}
 use Rattle.apexcheck.proofs.files.open_cores.Goals as goal
-use Rattle.apexcheck.specs.declared.files.OpenFault.TheVariants.{Unopened}
-
-module _ {A B : Type 0} (R : A → B → Type 0) where
-  -- one more item of each of two lists
-  one_more : (xs : List A) (ys : List B) (x : A) (y : B) → AllZip R xs ys → R x y → AllZip R (xs ++ x ∷ []) (ys ++ y ∷ [])
-  one_more [] [] x y all next = (next, tt)
-  one_more [] (other ∷ ys) x y all next = absurd all
-  one_more (other ∷ xs) [] x y all next = absurd all
-  one_more (first ∷ xs) (second ∷ ys) x y all next = (all.0, one_more xs ys x y all.1 next)
-
-  -- one more name, and what it names
-  next_name : {N : Type 0} (named : N → A) (names : List N) (ys : List B) (i : ℕ) (name : N) (y : B) → i < length names → name ≡ get_or names i name
-      → AllZip R (map named (take i names)) ys → R (named name) y → AllZip R (map named (take (i + 1) names)) (ys ++ y ∷ [])
-  next_name named names ys i name y within is all next =
-      let longer : map named (take (i + 1) names) ≡ map named (take i names) ++ named name ∷ [] =
-      ap (map named) (take_more names i name within) ∙ map-append named (take i names) (get_or names i name ∷ []) ∙ ap (λ name. map named (take i names) ++ named name ∷ []) (sym is) in
-      subst (λ front. AllZip R front (ys ++ y ∷ [])) (sym longer) (one_more (map named (take i names)) ys (named name) y all next)
-
--- what an error of some kind means holds if there is one
-of_kind : {Value Fault Fact : Type 0} (IsKind : Fault → Type 0) (answer : Result Value Fault) → IsErrAnd answer IsKind → IfErr answer (λ fault. IsKind fault → Fact) → Fact
-of_kind IsKind (Ok value) is then = absurd is
-of_kind IsKind (Err fault) is then = then is
 
 pub returns-in_err-reported-clause-refused : goal.returns-in_err-reported-clause-refused
 returns-in_err-reported-clause-refused g c =

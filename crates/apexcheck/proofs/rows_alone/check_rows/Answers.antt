@@ -3,8 +3,8 @@ use Rattle.program_ends.specs.declared.ending.Ending.{Ending}
 use Rattle.program_ends.specs.declared.ending.Ending.TheVariants as ending
 use Rattle.program_ends.specs.Endings.{out_of_memory}
 use Rattle.check_result.specs.declared.ending.CheckEnd.{CheckEnd}
-use Rattle.apexcheck.specs.declared.files.OpenFault.{OpenFault}
-use Rattle.apexcheck.specs.declared.files.OpenFault.TheVariants.{Unopened, Memory}
+use Rattle.answer_words.specs.declared.opening.OpenFault.{OpenFault}
+use Rattle.answer_words.specs.declared.opening.OpenFault.TheVariants.{Unopened, Memory}
 use Rattle.check_result.specs.Endings.{refusing}
 use Rattle.apexcheck.specs.Files.{ending_of}
 use Rattle.apexcheck.proofs.rows_alone.check_rows.Goals as goal

@@ -1,7 +1,7 @@
 use Rattle.std.proofs.Common.{◌≡◌, inr}
-use Rattle.apexcheck.proofs.Failed.{of_error}
-use Rattle.apexcheck.specs.declared.files.OpenFault.TheVariants.{Unopened}
-use Rattle.apexcheck.specs.Files.{RefusesOne}
+use Rattle.answer_words.proofs.InTurn.{of_error}
+use Rattle.answer_words.specs.declared.opening.OpenFault.TheVariants.{Unopened}
+use Rattle.answer_words.specs.Folders.{RefusesOne}
 use Rattle.apexcheck.proofs.files.Opened+Observed+Watched+F.open.Goals as goal
 
 pub returns-in_err-cores-clause-refused : goal.returns-in_err-cores-clause-refused

@@ -2,8 +2,9 @@
 
 ghost use Rattle.std.specs.Prelude.{◌≢◌, IfErr, IfOk};
 ghost use Rattle.std.specs.IoError.{error_kind};
-ghost use Rattle.apexcheck.specs.Folders.{FolderView};
+ghost use Rattle.answer_words.specs.Folders.{FolderView};
 
+use crate::files;
 use std::alloc::Global;
 use std::fs::Files;
 use std::io;
@@ -51,10 +52,10 @@ impl<R: Files> Folder for SystemFiles<'_, R> {
     ghost facts = { λ files. record { is_text = λ name text. ⊤; is_file = λ name file. ⊤; refuses = λ name. ⊤ } };
 
     fn open_text(&self, alloc: Global, name: &str) -> io::Result<Vec<u8>> {
-        answer_words::open_text(self.rt, alloc, name)
+        files::open_text(self.rt, alloc, name)
     }
 
     fn open(&self, name: &str) -> io::Result<R::File> {
-        answer_words::open(self.rt, name)
+        files::open(self.rt, name)
     }
 }
