@@ -166,9 +166,12 @@ def frame_wanted(frame, records, times, first):
     return range(max(begin, earliest), min(begin + frame, latest))
 
 
-def faults_of_frame(page, frame, records, first):
-    """What is wrong with the major frame of a lawful page whose picture begins with this record: its ticks, its heading, and its records."""
+def faults_of_frame(page, frame, records, first, is_by_time):
+    """What is wrong with the major frame of a lawful page whose picture begins with this record: its ticks, its heading, and its records. There
+    is none if the picture is one strip by time, which would show it again."""
     pieces = [piece for piece in of_class(page, "piece") if of_class(piece, "again")]
+    if is_by_time and len(of_class(page, "piece")) - len(pieces) == 1:
+        return "the strip shows its major frame too" if pieces else ""
     if len(pieces) != 1 or [strip for strip in of_class(page, "piece")][0] is not pieces[0]:
         return f"{len(pieces)} pieces have a major frame"
     times = times_of(records)

@@ -3,8 +3,15 @@ import re
 import xml.etree.ElementTree as ET
 
 SVG = "{http://www.w3.org/2000/svg}"
-# The width of the names of lanes, and what is shown first of a strip to the left and to the right of where a fault or its label begins.
-NAMES, BEFORE_FAULT, FROM_FAULT = 186, 26, 176
+# The width of the names of lanes, that of what a narrow screen shows first of a strip beside them, and the least that it shows of a fault, if
+# that is not narrower.
+NAMES, SHOWN, LEAST_SHOWN = 178, 212, 176
+# The least width of a letter of a label, how far to its right a slanted label begins, and how far it goes to the right for its width.
+LETTER, BEFORE_LABEL, SLANT = 5, 9, 0.47
+# How many characters a field of a row has at most that is in one line, with the comma after it.
+LONGEST_FIELD = 40
+# The marks and arrows that a key explains.
+SIGNS = ["mark tick", "mark dispatch", "mark call", "mark return", "mark restart", "mark error", "arrow wake", "arrow message"]
 
 
 def texts(element):
@@ -84,19 +91,93 @@ def faults_of_figures(page, wanted, last, line):
     return "" if first == f"Figures of {accepted} record{'s' * (accepted != 1)}" else f"its figures begin with {first!r}"
 
 
+def strip_of(box):
+    """The strip of a box that scrolls, without the names of its lanes."""
+    return [part for part in of_class(box, "strip") if "names" not in classes(part)][0]
+
+
+def sides_of_fault(strip):
+    """From where to where the record that is rejected or breaks a rule is in a strip, and so its label as far as its letters tell. By time,
+    the label is level, and may begin before the record."""
+    sides = [(int(frame.get("x")), int(frame.get("x")) + int(frame.get("width"))) for frame in of_class(strip, "frame")]
+    for record in [*of_class(strip, "rejected"), *of_class(strip, "broken")]:
+        for label in of_class(record, "label"):
+            x, is_slanted = re.match(r"translate\((\d+),\d+\)( rotate)?", label.get("transform")).groups()
+            width = LETTER * len(texts(label)) * (SLANT if is_slanted else 1)
+            sides.append((int(x) - (BEFORE_LABEL if is_slanted else 0), int(x) + width))
+    return sides
+
+
 def faults_of_targets(page):
-    """Whether each box that has a fault, and no other, begins scrolled to it: from beside the names of the lanes to the fault's end. By time,
-    the fault's label is level, and may begin before the fault."""
-    level = [int(x) for label in of_class(page, "label") for x in re.findall(r"^translate\((\d+),\d+\)$", label.get("transform"))]
+    """Whether each box that has a fault, and no other, begins scrolled to it: a narrow screen has room for what is shown beside the names of
+    the lanes, which is the fault, or the beginning of a wide one, with its label, and what comes before it if there is room."""
     for box in of_class(page, "scrolled"):
-        strip = [part for part in of_class(box, "strip") if "names" not in classes(part)][0]
-        lefts = sorted({min([int(frame.get("x")), *level]) for frame in of_class(strip, "frame")})
+        sides = sides_of_fault(strip_of(box))
         found = [[int(part.get("width")) for part in elements(target, "svg")] for target in of_class(box, "to-fault")]
-        begin = [max(0, left - NAMES - BEFORE_FAULT) for left in lefts]
-        ends = [min(left + FROM_FAULT, NAMES + int(strip.get("width"))) for left in lefts]
-        if found != [[first, last - first] for first, last in zip(begin, ends)]:
-            return f"the box with faults at {lefts} begins at {found}"
+        if len(found) != bool(sides):
+            return f"the box with faults at {sides} begins at {found}"
+        for first, width in found:
+            begin, end = first + NAMES, first + width
+            if end - begin > SHOWN or any(left < begin or min(right, left + LEAST_SHOWN) > end for left, right in sides):
+                return f"of the box with faults at {sides} it shows {begin} to {end}"
     return ""
+
+
+def faults_of_edges(page):
+    """Whether each mark is whole in its strip, also at its left edge, and begins where the names of the lanes end."""
+    for box in of_class(page, "scrolled"):
+        names = int(of_class(box, "names")[0].get("width"))
+        left = int(strip_of(box).get("viewBox").split()[0])
+        cut = [x for mark in of_class(strip_of(box), "mark") for circle in elements(mark, "circle")
+               if (x := int(circle.get("cx"))) - float(circle.get("r")) - 1 < left]
+        if names != left or cut:
+            return f"the names end at {names} and the strip begins at {left}, with marks at {cut}"
+    return ""
+
+
+def faults_of_extents(page, is_by_time):
+    """Whether the heading of each strip names its places, and before them its times if the strip is by time and has some."""
+    for piece in of_class(page, "piece"):
+        if of_class(piece, "again"):
+            continue
+        heading = texts(elements(piece, "h3")[0])
+        strip = strip_of(of_class(piece, "scrolled")[0])
+        places = sorted(int(record.get("data-place")) for record in of_class(piece, "record"))
+        if not places:
+            return f"the strip below {heading!r} has no record"
+        times = r"Times? \d+( to \d+)? of the cores; p" if is_by_time and of_class(strip, "short") else "P"
+        if not re.fullmatch(rf"{times}laces {places[0]} to {places[-1]}", heading):
+            return f"the strip of the places {places[0]} to {places[-1]} has the heading {heading!r}"
+    return ""
+
+
+def faults_of_bar_texts(tree):
+    """Whether each text of a bar that is cut is cut in its middle, and each window names its partition as one."""
+    for bar in of_class(tree, "bar"):
+        for said in map(texts, of_class(bar, "said")):
+            if "…" in said and not re.search("[^…]…[^…]", said):
+                return f"a bar says {said!r}"
+            if "window" in classes(bar) and not re.fullmatch(r"(window of )?partition \d+|part \d+|window.*….*", said):
+                return f"a window says {said!r}"
+    return ""
+
+
+def faults_of_fields(page):
+    """Whether each field in the table is in one line, with the comma after it, unless it is long."""
+    for row in elements(page, "tr")[1:]:
+        fields = texts(row[5]).partition(": ")[2].split(",")
+        whole = [f"{field}," for field in fields[:-1]] + fields[-1:]
+        wanted = [field for field in whole if 1 < len(field.encode()) <= LONGEST_FIELD]
+        if wanted != [texts(field) for field in of_class(row[5], "field")]:
+            return f"the fields of {texts(row[5])!r} are not in one line each"
+    return ""
+
+
+def faults_of_style(style):
+    """Whether a dormant process has a colour, so that it differs from one that is not there."""
+    fills = re.findall(r"\.dormant \.fill \{ fill: ([^;]*);", style)
+    grounds = re.findall(r"\.ground \{ fill: ([^;]*);", style)
+    return "" if len(fills) == 2 and "none" not in fills and not set(fills) & set(grounds) else f"the dormant are {fills} on {grounds}"
 
 
 def faults_of_labels(tree, records):
@@ -129,6 +210,10 @@ def faults_of_words(page):
         kept = [word for code in of_class(part, "option") for word in texts(code).split() if word.startswith("--")]
         if options != kept:
             return f"of the options {options} it keeps {kept} in one piece"
+        rules = re.findall(r"(?:--forbid|--max-elapsed) \S+", texts(part))
+        whole = [texts(code).strip() for code in of_class(part, "option")]
+        if any(rule not in whole for rule in rules):
+            return f"of the rules {rules} these are in one piece: {whole}"
         below = [line for line in texts(part).split("\n") if line.startswith(" " * 6)]
         hanging = [texts(code).removesuffix("\n") for code in of_class(part, "below")]
         if below != hanging:
@@ -145,6 +230,11 @@ def faults_of_named_cores(page, line, explained):
     return f"there are no lanes of {sorted(named - names)}" if named - names else ""
 
 
+def signs_of(part):
+    """The marks and arrows in a part of a page."""
+    return {sign for sign in SIGNS if of_class(part, *sign.split())}
+
+
 def uses_of(part):
     """The looks of bars and the grounds of records in a part of a page. An occupied core looks like a process that runs."""
     looks = {classes(bar)[1] for bar in of_class(part, "bar")}
@@ -153,14 +243,18 @@ def uses_of(part):
 
 
 def faults_of_key(page):
-    """Whether the key has what the strips use. It has nothing else if the picture is one strip of records, all of whose bars are wide enough."""
+    """Whether the key has what the strips use. It has no other marks and arrows, and nothing else at all if the picture is one strip of
+    records, all of whose bars are wide enough."""
     keys = of_class(page, "key")
     strips = [strip for strip in of_class(page, "strip") if "names" not in classes(strip)]
     if not keys:
-        return "it has strips and no key" if any(map(uses_of, strips)) else ""
+        return "it has strips and no key" if strips else ""
     used, found = set().union(*map(uses_of, strips)), uses_of(keys[0])
     if used - found:
         return f"its key lacks {sorted(used - found)}"
+    drawn, signs = set().union(*map(signs_of, strips)), signs_of(keys[0])
+    if drawn != signs:
+        return f"its key has {sorted(signs)}, and its strips {sorted(drawn)}"
     is_whole = len(of_class(page, "piece")) == 1 and not of_class(page, "slot")
     return f"its key has {sorted(found - used)}, which no strip uses" if is_whole and found != used else ""
 

@@ -84,6 +84,19 @@ impl fmt::Display for Reached {
     }
 }
 
+/// A greatest value after words that name its unit, with its place.
+#[derive(Clone, Copy)]
+pub(crate) struct Most(pub Option<Extreme>);
+
+impl fmt::Display for Most {
+    fn fmt<W: fmt::Write>(&self, f: &mut fmt::Formatter<W>) -> fmt::Result {
+        match &self.0 {
+            Some(extreme) => write!(f, "{} at place {}", extreme.value, extreme.place.number()),
+            None => write!(f, "none"),
+        }
+    }
+}
+
 fn add_core(
     text: &mut String,
     core: CoreId,

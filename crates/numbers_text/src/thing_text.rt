@@ -1,6 +1,6 @@
 // The figures of objects and channels as text.
 
-use crate::text::{count_of, counted, greatest_of};
+use crate::text::{Most, count_of, counted, greatest_of};
 use apex_types::ChanId;
 use run_numbers::{Figure, Named, Numbers, Thing};
 use std::alloc::AllocError;
@@ -43,7 +43,7 @@ fn add_name(text: &mut String, thing: &Thing) -> Result<(), AllocError> {
 }
 
 fn add_messages(text: &mut String, thing: &Thing, numbers: &Numbers) -> Result<(), AllocError> {
-    let messages = greatest_of(numbers, Figure::Messages(*thing), "message");
+    let messages = Most(numbers.tallies().tally(&Figure::Messages(*thing)).greatest);
     write!(text, "  most messages: {messages}\n")
 }
 

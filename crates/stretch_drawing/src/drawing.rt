@@ -176,8 +176,10 @@ impl<'a> Drawing<'a> {
     ) -> Result<(), AllocError> {
         if let Some(rejected) = &rest.rejected {
             let added = added(rows, &rejected.ordered, Status::Rejected);
-            let cause = name_of_cause(rejected.cause);
-            self.picture.reject(&added, cause, rest.lawful.as_slice())?;
+            let cause = rejected.cause;
+            let lawful = rest.lawful.as_slice();
+            self.picture
+                .reject(&added, cause, name_of_cause(cause), lawful)?;
         }
         for ordered in rest.after.iter() {
             self.picture.follow(&added(rows, ordered, rest.status()))?;

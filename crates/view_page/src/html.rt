@@ -1,6 +1,6 @@
 // The page around a picture.
 
-use crate::layout::{Layout, Strip};
+use crate::layout::Layout;
 use crate::scale::Ticks;
 use crate::style::{DEFINITIONS, PAGE_STYLE, STYLE};
 use sink::Markup;
@@ -97,30 +97,72 @@ fn tell_lines(out: &mut Markup, text: &str) {
 /// How many bytes a word has at most that may be an option.
 const LONGEST_OPTION: usize = 20;
 
-// The words of a line, of which an option is not broken at its dashes.
+// The words of a line, of which an option is not broken at its dashes, and not before its value if it asks for a rule.
 fn tell_words(out: &mut Markup, line: &str) {
+    let mut is_open = false;
     for (number, word) in line.split(' ').enumerate() {
         if number > 0 {
             out.mark(" ");
         }
-        if word.starts_with("--") && word.len() <= LONGEST_OPTION {
+        if is_open {
+            tell_value(out, word);
+            is_open = false;
+        } else if word.starts_with("--") && word.len() <= LONGEST_OPTION {
             out.mark("<code class=\"option\">");
             out.say(word);
-            out.mark("</code>");
+            is_open = asks_for_rule(word);
+            if !is_open {
+                out.mark("</code>");
+            }
         } else {
             out.say(word);
         }
     }
+    if is_open {
+        out.mark("</code>");
+    }
+}
+
+// Whether a word is an option that asks for a rule.
+fn asks_for_rule(word: &str) -> bool {
+    word == "--forbid" || word == "--max-elapsed"
+}
+
+/// How many bytes the value of such an option has at most: no name of a service is longer.
+const LONGEST_VALUE: usize = 40;
+
+// The value of an option, and the end of their line, which is before a word that is too long to be a value.
+fn tell_value(out: &mut Markup, word: &str) {
+    if word.len() <= LONGEST_VALUE {
+        out.say(word);
+        out.mark("</code>");
+    } else {
+        out.mark("</code>");
+        out.say(word);
+    }
 }
 
 /// Begins a part of the picture with its heading.
-pub fn strip_heading(out: &mut Markup, picture: &Picture, strip: Strip) {
-    let first = picture.columns().get(strip.from);
-    let last = picture.columns().get(strip.to.saturating_sub(1));
+pub fn strip_heading(out: &mut Markup, picture: &Picture, layout: &Layout) {
+    out.mark("<h3>");
+    tell_extent(out, picture, layout);
+    out.mark("</h3>\n");
+}
+
+/// The places of a strip, after its times if its width counts ticks.
+pub fn tell_extent(out: &mut Markup, picture: &Picture, layout: &Layout) {
+    let is_by_ticks = match layout.edges.ticks() {
+        Some(ticks) if ticks.len() > 0 => {
+            tell_times(out, ticks);
+            true
+        }
+        _ => false,
+    };
+    let first = picture.columns().get(layout.strip.from);
+    let last = picture.columns().get(layout.strip.to.saturating_sub(1));
     if let (Some(first), Some(last)) = (first, last) {
-        out.mark("<h3>");
-        out.say(format_args!("places {} to {}", first.place.number(), last.place.number()));
-        out.mark("</h3>\n");
+        out.say(if is_by_ticks { "; places " } else { "Places " });
+        out.say(format_args!("{} to {}", first.place.number(), last.place.number()));
     }
 }
 
@@ -160,13 +202,13 @@ pub fn frame_heading(out: &mut Markup, picture: &Picture, layout: &Layout) {
     out.mark("</h3>\n");
 }
 
-// The times of a part of a major frame.
+// The times of a strip or a part of a major frame.
 fn tell_times(out: &mut Markup, ticks: Ticks) {
     let last = ticks.to.saturating_sub(1);
     if ticks.from == last {
-        out.say(format_args!("time {last} of the cores"));
+        out.say(format_args!("Time {last} of the cores"));
     } else {
-        out.say(format_args!("times {} to {last} of the cores", ticks.from));
+        out.say(format_args!("Times {} to {last} of the cores", ticks.from));
     }
 }
 

@@ -7,14 +7,18 @@ ghost use Rattle.view_picture.specs.Records.{record_count};
 use crate::edges::Edges;
 use crate::frames::ticks_of_frame;
 use crate::groups::{Group, all_groups, has_fault, near_groups};
+use crate::labels::{width_of_level, width_of_slanted};
 use crate::rows::{Heading, Row, Rows};
 use crate::scale::{Scale, Ticks};
 use crate::shares::{Share, Times, most_of_a_tick, shares_of, times_in};
 use std::alloc::AllocError;
 use view_picture::{Column, Lane, LaneKey, Picture, Status};
 
-/// The width of the labels of lanes, in pixels like all lengths here.
+/// Where the records of a strip begin, to the right of the names of lanes, in pixels like all lengths here.
 pub const LABELS: u64 = 186;
+
+/// The width of those names. The marks of the first record have the rest.
+pub const NAMES: u64 = 178;
 
 /// The greatest width of the columns of a strip, and the free width to their right.
 pub const COLUMNS: u64 = 938;
@@ -44,6 +48,12 @@ const FAULT_LABEL: u64 = 20;
 
 const FRAMES: u64 = 16;
 
+/// How far the label of a record is to the right of its left edge.
+pub(crate) const BEFORE_LABEL: u64 = 9;
+
+/// The free height above and below the labels of records together.
+const ABOVE_LABELS: u64 = 14;
+
 /// The free height below the last lane.
 const BELOW: u64 = 8;
 
@@ -52,6 +62,13 @@ const BELOW: u64 = 8;
 pub struct Strip {
     pub from: usize,
     pub to: usize,
+}
+
+impl Strip {
+    /// Whether it has no records.
+    pub(crate) fn is_empty(self) -> bool {
+        self.from >= self.to
+    }
 }
 
 /// The strips of a picture, which have all its records in their order. The last strip is full.
@@ -327,7 +344,7 @@ impl Layout {
         if self.edges.ticks().is_none() {
             return left;
         }
-        let most = self.width.saturating_sub(width_of_label(record));
+        let most = self.width.saturating_sub(width_of_level(record));
         left.min(most).max(LABELS)
     }
 
@@ -357,9 +374,6 @@ fn edges_of(picture: &Picture, scale: Scale, strip: Strip) -> Result<Edges, Allo
     }
 }
 
-/// How many characters of a record's label are shown.
-pub const LONGEST_LABEL: usize = 30;
-
 // The height of the labels of the records, which are slanted.
 fn height_of_labels(picture: &Picture, strip: Strip) -> u64 {
     let mut longest = 0u64;
@@ -368,26 +382,14 @@ fn height_of_labels(picture: &Picture, strip: Strip) -> u64 {
             longest = longest.max(height_of_label(column));
         }
     }
-    longest.saturating_add(25)
+    longest.saturating_add(ABOVE_LABELS)
 }
 
-// How high the label of a record reaches.
+// How high the label of a record reaches, at its angle.
 fn height_of_label(column: &Column) -> u64 {
-    if column.status.is_fault() {
-        width_of_label(column)
-    } else if column.status.is_judged() {
-        letters_of(column).saturating_mul(13) / 2
+    if column.status.is_judged() {
+        width_of_slanted(column).saturating_mul(8) / 9
     } else {
         0
     }
-}
-
-// The width of the label of a fault, which is bold, after its sign.
-fn width_of_label(column: &Column) -> u64 {
-    letters_of(column).saturating_add(2).saturating_mul(8)
-}
-
-// How many characters of the label of a record are shown.
-fn letters_of(column: &Column) -> u64 {
-    column.label.chars().count().min(LONGEST_LABEL) as u64
 }

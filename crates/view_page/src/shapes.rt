@@ -6,11 +6,8 @@ ghost use Rattle.sink.specs.Own.{is_own};
 use sink::Markup;
 use std::fmt::Display;
 
-/// The width of a character of a text, in pixels like all lengths here.
+/// The width of most characters of a text, in pixels like all lengths here.
 pub const CHARACTER: u64 = 7;
-
-// The width of a capital, of which most names of modes and services are.
-const CAPITAL: u64 = 8;
 
 /// The free width beside the text of a bar, on both sides together and on the left, where the mark of a record can be.
 pub const INSIDE: u64 = 12;
@@ -126,46 +123,66 @@ pub(crate) fn width_of_text(text: &str) -> u64 {
     width
 }
 
-// How many of the first characters of a text have room in this width.
+// How many characters of a text have room in this width, if it is cut in the middle.
 pub(crate) fn count_within(text: &str, room: u64) -> usize {
-    let (mut count, mut width) = (0usize, 0u64);
-    for character in text.chars() {
-        width = width.saturating_add(width_of_character(character));
-        if width > room {
-            return count;
+    let all = text.chars().count();
+    for fewer in 0..all {
+        let most = all - fewer;
+        if width_of_shortened(text, all, most) <= room {
+            return most;
         }
-        count = count.saturating_add(1);
     }
-    count
+    0
 }
 
+// The width of a text of so many characters, of which this many are shown at most.
+fn width_of_shortened(text: &str, all: usize, most: usize) -> u64 {
+    if all <= most {
+        return width_of_text(text);
+    }
+    let Ends { before, after } = ends_of(most);
+    let last = all.saturating_sub(after);
+    let mut width = width_of_character('…');
+    for (index, character) in text.chars().enumerate() {
+        if index < before || index >= last {
+            width = width.saturating_add(width_of_character(character));
+        }
+    }
+    width
+}
+
+// The width of a character of the letters of a picture, in the widest of its fonts.
 fn width_of_character(character: char) -> u64 {
-    if character.is_ascii_uppercase() {
-        CAPITAL
-    } else {
-        CHARACTER
+    match character {
+        ' ' | ',' | '.' | '/' | ':' | ';' | '|' | '-' | 'I' | 'J' | 'f' | 'i' | 'j' | 'l' => 4,
+        '(' | ')' | '[' | ']' | '!' | 'r' | 't' => 5,
+        '"' | '*' | '_' | '?' | 's' | 'z' => 6,
+        'A' | 'B' | 'C' | 'K' | 'R' | 'V' | 'X' | 'Z' => 8,
+        'D' | 'G' | 'H' | 'N' | 'O' | 'Q' | 'U' | '&' | 'w' => 9,
+        'M' | '#' | '+' | '<' | '=' | '>' | '^' | '~' => 10,
+        'W' | '%' | '@' | 'm' | '…' => 11,
+        _ => CHARACTER,
     }
 }
 
-// A text, or its first characters if it has more than this many.
+// How many characters are shown before and after the gap of a text that is cut. Two thirds are before it.
 #[derive(Clone, Copy)]
-pub(crate) struct Fitted<'a>(pub &'a str, pub usize);
+struct Ends {
+    before: usize,
+    after: usize,
+}
 
-impl Display for Fitted<'_> {
-    fn fmt<W: std::fmt::Write>(&self, f: &mut std::fmt::Formatter<W>) -> std::fmt::Result {
-        let count = self.0.chars().count();
-        if count <= self.1 {
-            return write!(f, "{}", self.0);
-        }
-        for character in self.0.chars().take(self.1.saturating_sub(1)) {
-            f.write_char(character)?;
-        }
-        f.write_char('…')
+// Those of a text of which this many characters are shown at most, with the gap.
+fn ends_of(most: usize) -> Ends {
+    let shown = most.saturating_sub(1);
+    let after = shown / 3;
+    Ends {
+        before: shown.saturating_sub(after),
+        after,
     }
 }
 
-// A name, or its first and last characters if it has more than this many: names that begin alike often differ at their ends. Two thirds
-// of those that are shown are before the gap.
+// A text, or its first and last characters if it has more than this many: texts that begin alike often differ at their ends.
 #[derive(Clone, Copy)]
 pub(crate) struct Shortened<'a>(pub &'a str, pub usize);
 
@@ -175,9 +192,8 @@ impl Display for Shortened<'_> {
         if count <= self.1 {
             return write!(f, "{}", self.0);
         }
-        let shown = self.1.saturating_sub(1);
-        let after = shown / 3;
-        for character in self.0.chars().take(shown.saturating_sub(after)) {
+        let Ends { before, after } = ends_of(self.1);
+        for character in self.0.chars().take(before) {
             f.write_char(character)?;
         }
         f.write_char('…')?;

@@ -2,14 +2,16 @@
 
 use crate::classes::{class_of_ground, class_of_status};
 use crate::groups::count_elsewhere;
-use crate::html::{PageTexts, tell_heading};
-use crate::layout::{LABELS, LONGEST_LABEL, Layout, Sides, Strip};
+use crate::html::{PageTexts, tell_extent, tell_heading};
+use crate::labels::{level, slanted};
+use crate::layout::{BEFORE_LABEL, LABELS, Layout, NAMES, Sides, Strip};
 use crate::names::{begin_lane, tell_names};
 use crate::scale::Scale;
-use crate::shapes::{Numbered, ShortLabel, tell_rect, tell_size, tell_text};
+use crate::shapes::{Numbered, tell_rect, tell_size, tell_text};
 use crate::strip_bars::{tell_bar_texts, tell_bars};
 use crate::strip_marks::{tell_arrows, tell_boxes, tell_points};
 use crate::style::{DEFINITIONS, STYLE};
+use crate::target::tell_target;
 use crate::times::{tell_again, tell_bounds, tell_record, tell_slots, tell_times};
 use crate::wrapped::{longest, wrapped_lines};
 use sink::Markup;
@@ -25,11 +27,6 @@ const ANSWER_CHARACTER: u64 = 8;
 /// The space before such a line.
 const BEFORE_ANSWER: u64 = 8;
 
-/// How much of a strip is shown first: before the left edge of a fault or its label, beside the names of the lanes, and from this edge on.
-const BEFORE_FAULT: u64 = 26;
-
-const FROM_FAULT: u64 = 176;
-
 /// Begins a picture by itself, with these strips one below the other.
 pub fn svg_head(
     out: &mut Markup,
@@ -42,6 +39,9 @@ pub fn svg_head(
     let mut width = width_of_lines(&lines);
     let mut height = TEXT_LINE.saturating_mul((lines.len() as u64).saturating_add(1));
     for strip in strips {
+        if strip.is_empty() {
+            continue;
+        }
         let layout = Layout::whole(picture, scale, *strip)?;
         width = width.max(layout.width);
         height = height.saturating_add(layout.height);
@@ -81,7 +81,7 @@ fn width_of_lines(lines: &[String]) -> u64 {
     longest.saturating_add(2 * BEFORE_ANSWER)
 }
 
-/// Adds a strip to a picture by itself, at this height. Returns the height at which it ends.
+/// Adds a strip to a picture by itself, at this height, if it has records. Returns the height at which it ends.
 pub fn tell_strip(
     out: &mut Markup,
     picture: &Picture,
@@ -89,13 +89,16 @@ pub fn tell_strip(
     strip: Strip,
     y: u64,
 ) -> Result<u64, AllocError> {
+    if strip.is_empty() {
+        return Ok(y);
+    }
     let layout = Layout::whole(picture, scale, strip)?;
     out.mark("<svg class=\"strip\" y=\"");
     out.say(y);
     out.mark("\"");
     tell_size(out, 0, layout.width, layout.height);
     out.mark(" role=\"img\">\n<title>");
-    tell_places(out, picture, strip);
+    tell_extent(out, picture, &layout);
     out.mark("</title>\n");
     tell_names(out, picture, &layout);
     tell_near_parts(out, picture, &layout);
@@ -103,18 +106,11 @@ pub fn tell_strip(
     Ok(y.saturating_add(layout.height))
 }
 
-/// Adds a strip to a page, without those lanes that have nothing to do with a fault in it.
-pub fn tell_near(
-    out: &mut Markup,
-    picture: &Picture,
-    scale: Scale,
-    strip: Strip,
-) -> Result<(), AllocError> {
-    let layout = Layout::near(picture, scale, strip)?;
-    begin_box(out, picture, &layout);
-    tell_near_parts(out, picture, &layout);
+/// Adds a strip to a page.
+pub fn tell_near(out: &mut Markup, picture: &Picture, layout: &Layout) {
+    begin_box(out, picture, layout);
+    tell_near_parts(out, picture, layout);
     end_box(out);
-    Ok(())
 }
 
 // What is in a strip that has the labels of its records, except for the names of the lanes.
@@ -169,48 +165,19 @@ fn begin_box(out: &mut Markup, picture: &Picture, layout: &Layout) {
     out.mark("<div class=\"scrolled\" tabindex=\"0\"><div class=\"beside\">\n");
     tell_target(out, picture, layout);
     out.mark("<svg class=\"strip names\"");
-    tell_size(out, 0, LABELS, layout.height);
+    tell_size(out, 0, NAMES, layout.height);
     out.mark(">\n<rect class=\"paper\" width=\"100%\" height=\"100%\"/>\n");
     tell_names(out, picture, layout);
     out.mark("</svg>\n<svg class=\"strip\"");
     tell_size(
         out,
-        LABELS,
-        layout.width.saturating_sub(LABELS),
+        NAMES,
+        layout.width.saturating_sub(NAMES),
         layout.height,
     );
     out.mark(" role=\"img\">\n<title>");
-    tell_places(out, picture, layout.strip);
+    tell_extent(out, picture, layout);
     out.mark("; the table below says the same</title>\n");
-}
-
-// Adds what is shown first of a strip that has a record that is rejected or breaks a rule: its box begins scrolled there.
-fn tell_target(out: &mut Markup, picture: &Picture, layout: &Layout) {
-    let Some(Sides { left, right }) = target_of(picture, layout) else {
-        return;
-    };
-    out.mark("<div class=\"to-fault\"><svg width=\"");
-    out.say(left);
-    out.mark("\" height=\"1\"></svg><svg class=\"target\" width=\"");
-    out.say(right.saturating_sub(left));
-    out.mark("\" height=\"1\"></svg></div>\n");
-}
-
-// What is shown first of a strip that has such a record: the record with its label, and to its left the names of the lanes, which cover as
-// much of the box.
-fn target_of(picture: &Picture, layout: &Layout) -> Option<Sides> {
-    for index in layout.strip.from..layout.strip.to {
-        if let Some(column) = picture.columns().get(index) {
-            if column.status.is_fault() {
-                let left = layout.left_of_label(column, layout.sides(column, index).left);
-                return Some(Sides {
-                    left: left.saturating_sub(LABELS + BEFORE_FAULT),
-                    right: left.saturating_add(FROM_FAULT).min(layout.width),
-                });
-            }
-        }
-    }
-    None
 }
 
 // Ends that box.
@@ -273,15 +240,6 @@ fn tell_lanes(out: &mut Markup, picture: &Picture, layout: &Layout) {
             tell_boxes(out, picture, layout, *row, lane);
             out.mark("</g>\n");
         }
-    }
-}
-
-// The places of a strip.
-fn tell_places(out: &mut Markup, picture: &Picture, strip: Strip) {
-    let first = picture.columns().get(strip.from);
-    let last = picture.columns().get(strip.to.saturating_sub(1));
-    if let (Some(first), Some(last)) = (first, last) {
-        out.say(format_args!("Places {} to {}", first.place.number(), last.place.number()));
     }
 }
 
@@ -361,23 +319,24 @@ fn tell_column(out: &mut Markup, layout: &Layout, index: usize, column: &Column)
 /// Adds the label of a record at this left edge: slanted, or by ticks, where it is the only one, above the major frames.
 pub fn tell_label_at(out: &mut Markup, layout: &Layout, left: u64, column: &Column) {
     out.mark("<text class=\"label\" transform=\"translate(");
-    if layout.edges.ticks().is_some() {
+    let is_level = layout.edges.ticks().is_some();
+    if is_level {
         out.say(layout.left_of_label(column, left));
         out.mark(",13)\">");
     } else {
-        out.say(left.saturating_add(9));
+        out.say(left.saturating_add(BEFORE_LABEL));
         out.mark(",");
         out.say(layout.foot_of_labels.saturating_sub(5));
         out.mark(") rotate(-62)\">");
     }
-    tell_label(out, column);
-}
-
-fn tell_label(out: &mut Markup, column: &Column) {
     if column.status.is_fault() {
         out.mark("✗ ");
     }
-    out.say(ShortLabel(column.label.as_str(), LONGEST_LABEL));
+    out.say(if is_level {
+        level(column)
+    } else {
+        slanted(column)
+    });
     out.mark("</text>\n");
 }
 

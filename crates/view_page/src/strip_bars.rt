@@ -7,7 +7,8 @@ use crate::classes::{classes_of_look, pattern_of};
 use crate::layout::{Layout, Sides};
 use crate::rows::{MARKS, Row};
 use crate::shapes::{
-    BAND, BEFORE_TEXT, CHARACTER, Fitted, INSIDE, count_within, tell_box, tell_text, width_of_text,
+    BAND, BEFORE_TEXT, CHARACTER, INSIDE, Shortened, count_within, tell_box, tell_text,
+    width_of_text,
 };
 use sink::Markup;
 use view_picture::{Bar, Lane, LaneKey, Picture, Saying};
@@ -133,7 +134,7 @@ fn tell_bar_text(out: &mut Markup, layout: &Layout, lane: &Lane, bar: &Bar, plac
     out.mark("\"><rect class=\"plate\" ");
     tell_box(out, x.saturating_sub(2), y.saturating_sub(9), end, 11);
     out.mark("/>");
-    let shown = Fitted(text, count_within(text, room));
+    let shown = Shortened(text, count_within(text, room));
     tell_text(out, class_of_text(places.height), x, y, shown);
     out.mark("</g>\n");
 }
@@ -145,18 +146,29 @@ fn class_of_text(height: u64) -> &'static str
     if height <= BAND { "said small" } else { "said" }
 }
 
-// The text of a bar that has this much room: its text, the shorter one, or the beginning of its text.
+// The text of a bar that has this much room: its text, a shorter one, or as much of its text as has room.
 fn text_that_fits(saying: &Saying, room: u64) -> Option<&str> {
-    let (text, brief) = (saying.text.as_str(), saying.brief.as_str());
+    let (text, short, brief) = (
+        saying.text.as_str(),
+        saying.short.as_str(),
+        saying.brief.as_str(),
+    );
     if width_of_text(text) <= room {
         Some(text)
-    } else if !brief.is_empty() && width_of_text(brief) <= room {
+    } else if has_room(short, room) {
+        Some(short)
+    } else if has_room(brief, room) {
         Some(brief)
     } else if room >= LEAST_ROOM {
         Some(text)
     } else {
         None
     }
+}
+
+// Whether there is a shorter text that has this much room.
+fn has_room(text: &str, room: u64) -> bool {
+    !text.is_empty() && width_of_text(text) <= room
 }
 
 // The first and the last place of a bar.

@@ -187,6 +187,12 @@ pub(crate) fn tell_arrows(out: &mut Markup, picture: &Picture, layout: &Layout) 
     }
 }
 
+/// Whether a strip has an arrow of this kind.
+pub(crate) fn has_arrow(picture: &Picture, layout: &Layout, kind: ArrowKind) -> bool {
+    picture.arrows().iter().any(|arrow| arrow.kind == kind
+        && way_of(picture, layout, arrow).is_some())
+}
+
 // The path of an arrow, if a part of it is in the strip.
 fn way_of(picture: &Picture, layout: &Layout, arrow: &Arrow) -> Option<Way> {
     if !is_at(picture, layout, &arrow.from) && !is_at(picture, layout, &arrow.to) {

@@ -42,8 +42,8 @@ pub const STYLE: &str = "
 .waiting .fill, .waiting .plate { fill: #f3bd55; }
 .suspended .fill, .suspended .plate { fill: #dfa6c6; }
 .faulted .fill, .faulted .plate { fill: #f2a07a; }
-.dormant .fill { fill: none; stroke: #c3cad1; stroke-dasharray: 3 3; }
-.dormant .plate { fill: #f1f3f5; }
+.dormant .fill { fill: #ffffff; stroke: #8b95a0; stroke-dasharray: 3 3; }
+.dormant .plate { fill: #ffffff; }
 .bar.dormant .said { fill: #57616b; }
 .free .fill, .free .plate { fill: #e9e4d8; }
 .awaited .fill, .awaited .plate { fill: #f6dca6; }
@@ -81,8 +81,8 @@ pub const STYLE: &str = "
 .short, .bound { stroke: #a3adb8; }
 .bar .fill { stroke: #14181d; }
 .raised .fill { stroke: #d55e00; }
-.dormant .fill { stroke: #46505b; }
-.dormant .plate { fill: #20262d; }
+.dormant .fill { fill: #14181d; stroke: #76818d; }
+.dormant .plate { fill: #14181d; }
 .bar.dormant .said { fill: #a3adb8; }
 .mark.tick line { stroke: #e9edf1; }
 .mark.tick line.halo { stroke: #14181d; }
@@ -129,6 +129,7 @@ pre { margin: 8px 0; padding: 10px 12px; border-left: 4px solid var(--fault); ba
 code.hanging { display: block; }
 code.below { text-indent: 8ch hanging each-line; }
 code.option { white-space: pre; }
+.field { display: inline-block; white-space: nowrap; font: inherit; }
 .lawful-run pre { border-left-color: var(--right); }
 .figures pre { border-left-color: var(--line); }
 .strips { display: flex; flex-wrap: wrap; gap: 14px 18px; align-items: flex-start; }
@@ -158,6 +159,7 @@ table { border-collapse: collapse; font-size: 13px; }
 caption { text-align: left; font-weight: 600; padding: 4px 0; }
 th, td { border: 1px solid var(--line); padding: 3px 7px; text-align: left; vertical-align: top; }
 td { overflow-wrap: anywhere; }
+td:nth-child(4), td:nth-child(5) { overflow-wrap: break-word; }
 td:nth-child(-n+3) { overflow-wrap: normal; text-align: right; }
 th { background: var(--ground); white-space: nowrap; }
 tr.rejected td, tr.broken td { background: color-mix(in srgb, var(--fault) 14%, transparent); font-weight: 600; }
@@ -165,6 +167,13 @@ tr.after td { color: var(--soft); }
 .hidden { position: absolute; width: 0; height: 0; overflow: hidden; }
 @media screen and (max-width: 700px) {
 body.page { padding: 12px 12px 32px; }
+h1 { font-size: 18px; }
+p { font-size: 13px; line-height: 1.35; }
+code, pre { font-size: 12px; line-height: 1.3; }
+pre { margin: 6px 0; padding: 8px 8px; }
+.size { margin: 0 2px 4px 0; font-size: 12px; }
+.size summary { padding: 0 5px; }
+.names { box-shadow: 5px 0 5px -4px var(--soft); }
 table, caption, tbody, tr { display: block; }
 thead { display: none; }
 tr { border: 1px solid var(--line); margin: 0 0 8px; }

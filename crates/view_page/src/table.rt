@@ -63,6 +63,38 @@ fn tell_row(out: &mut Markup, column: &Column) {
         Status::Beyond => out.mark("not shown"),
     }
     out.mark("</td><td>");
-    out.say(column.source.as_str());
+    tell_source(out, column);
     out.mark("</td></tr>\n");
+}
+
+/// How many bytes a field of a row has at most that is in one line.
+const LONGEST_FIELD: usize = 40;
+
+// Where a record is, with its row, which is broken between its fields alone if they are not long.
+fn tell_source(out: &mut Markup, column: &Column) {
+    let (source, location) = (column.source.as_str(), column.location.as_str());
+    let row = match source.strip_prefix(location) {
+        Some(rest) => rest.strip_prefix(": "),
+        None => None,
+    };
+    let Some(row) = row else {
+        out.say(source);
+        return;
+    };
+    out.say(location);
+    out.mark(": ");
+    for field in row.split_inclusive(',') {
+        tell_field(out, field);
+    }
+}
+
+// A field with the comma after it.
+fn tell_field(out: &mut Markup, field: &str) {
+    if field.len() <= 1 || field.len() > LONGEST_FIELD {
+        out.say(field);
+    } else {
+        out.mark("<code class=\"field\">");
+        out.say(field);
+        out.mark("</code>");
+    }
 }

@@ -60,8 +60,8 @@ fn write_alone<W: Sink>(
     Ok(())
 }
 
-/// Writes a page. If the recording is lawful, it has one major frame by time, the key, the figures, the strips and the table; otherwise the
-/// last strip, which has the fault, the key, the strips before it, the figures and the table.
+/// Writes a page. If the recording is lawful, it has one major frame by time, the key, the figures, the strips and the table; otherwise, or if
+/// all of it is one strip by time, the last strip, which has the fault, the key, the strips before it, the figures and the table.
 pub fn write_html<W: Sink>(
     alloc: Global,
     picture: &Picture,
@@ -108,13 +108,18 @@ fn write_pictures<W: Sink>(
 ) -> Result<(), PageFault>
     ensures { Ends result (taken_by W.bytes W.failures output.old) (taken_by W.bytes W.failures output.new) }
 {
-    if texts.explanation.is_empty() {
+    if texts.explanation.is_empty() && !is_one_by_time(scale, strips) {
         write_lawful(out, picture, scale, strips, texts, output)
     } else {
         write_strips(out, picture, scale, strips, output)?;
         tell_figures(out, texts);
         Ok(())
     }
+}
+
+// Whether a picture is one strip by time, in which any major frame of it is.
+fn is_one_by_time(scale: Scale, strips: &[Strip]) -> bool {
+    scale == Scale::Ticks && strips.len() <= 1
 }
 
 // Writes one major frame, the key and the figures, and then all strips.
@@ -128,8 +133,9 @@ fn write_lawful<W: Sink>(
 ) -> Result<(), PageFault>
     ensures { Ends result (taken_by W.bytes W.failures output.old) (taken_by W.bytes W.failures output.new) }
 {
-    add_frame(out, picture)?;
-    tell_key(out, picture);
+    let frame = Layout::of_frame(picture)?;
+    add_frame(out, picture, &frame);
+    tell_key(out, picture, scale, strips, &frame)?;
     tell_figures(out, texts);
     put(out, output)?;
     records_heading(out, picture);
@@ -137,15 +143,14 @@ fn write_lawful<W: Sink>(
 }
 
 // Adds a major frame, if the picture has a record at a time.
-fn add_frame(out: &mut Markup, picture: &Picture) -> Result<(), AllocError> {
-    let Some(layout) = Layout::of_frame(picture)? else {
-        return Ok(());
+fn add_frame(out: &mut Markup, picture: &Picture, frame: &Option<Layout>) {
+    let Some(layout) = frame else {
+        return;
     };
     out.mark("<div class=\"piece\">\n");
-    frame_heading(out, picture, &layout);
-    tell_frame(out, picture, &layout);
+    frame_heading(out, picture, layout);
+    tell_frame(out, picture, layout);
     out.mark("</div>\n");
-    Ok(())
 }
 
 // Writes the last strip and the key, and then the strips before it.
@@ -162,7 +167,7 @@ fn write_strips<W: Sink>(
         return Ok(());
     };
     write_piece(out, picture, scale, *last, output)?;
-    tell_key(out, picture);
+    tell_key(out, picture, scale, strips, &None)?;
     if before.is_empty() {
         return Ok(());
     }
@@ -188,7 +193,7 @@ fn write_all<W: Sink>(
     Ok(())
 }
 
-// Writes a strip with its heading, after the markup so far.
+// Writes a strip with its heading, if it has records, after the markup so far.
 fn write_piece<W: Sink>(
     out: &mut Markup,
     picture: &Picture,
@@ -198,12 +203,27 @@ fn write_piece<W: Sink>(
 ) -> Result<(), PageFault>
     ensures { Ends result (taken_by W.bytes W.failures output.old) (taken_by W.bytes W.failures output.new) }
 {
+    add_piece(out, picture, scale, strip)?;
+    put(out, output)
+}
+
+// Adds a strip with its heading, if it has records.
+fn add_piece(
+    out: &mut Markup,
+    picture: &Picture,
+    scale: Scale,
+    strip: Strip,
+) -> Result<(), AllocError> {
+    if strip.is_empty() {
+        return Ok(());
+    }
+    let layout = Layout::near(picture, scale, strip)?;
     out.mark("<div class=\"piece\">\n");
-    strip_heading(out, picture, strip);
-    tell_near(out, picture, scale, strip)?;
+    strip_heading(out, picture, &layout);
+    tell_near(out, picture, &layout);
     tell_elsewhere(out, picture, scale, strip)?;
     out.mark("</div>\n");
-    put(out, output)
+    Ok(())
 }
 
 // Writes the table, after the markup so far, and adds the end of the page's body.

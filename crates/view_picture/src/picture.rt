@@ -12,7 +12,7 @@ use crate::lane_key::LaneKey;
 use crate::marks::actor_of;
 use crate::process_bars::Hold;
 use crate::touched::{furthest_behind, is_at_core, names, process_at};
-use apex_types::{Body, CoreId, Ordered, Place, Who};
+use apex_types::{Body, Cause, CoreId, Ordered, Place, Who};
 use piece_check::Piece;
 use run_view::{Change, CoreView, Followed, Lawful, ProcessState, ProcessView};
 use std::alloc::{AllocError, Global};
@@ -43,9 +43,6 @@ pub(crate) struct ProcessNow {
     pub(crate) view: ProcessView,
     pub(crate) hold: Hold,
 }
-
-/// The name of the cause of a tick that would take its core too far ahead of another.
-const TOO_FAR_AHEAD: &str = "Skew";
 
 /// A record that is added to a picture.
 #[derive(Clone, Copy)]
@@ -103,17 +100,18 @@ impl Picture {
         self.add_column(added, hover)
     }
 
-    /// Adds the record that is rejected, the name of the cause, and what would have been lawful. No state is shown from there on.
+    /// Adds the record that is rejected, the cause with its name, and what would have been lawful. No state is shown from there on.
     pub fn reject(
         &mut self,
         added: &Added<'_>,
-        cause: &str,
+        cause: Cause,
+        name: &str,
         lawful: &[Lawful],
     ) -> Result<(), AllocError> {
         let column = self.columns.len();
         self.end_bars(column);
         let actor = actor_of(added.ordered);
-        let text = format!(in self.alloc; "rejected: {cause}")?;
+        let text = format!(in self.alloc; "rejected: {name}")?;
         self.add_mark(actor, column, MarkKind::Rejected, text)?;
         if let Body::Disp(Some(who)) = &added.ordered.rec.body {
             let text = String::from_str(self.alloc, "is dispatched")?;
@@ -123,7 +121,7 @@ impl Picture {
             self.add_lawful(column, one)?;
         }
         self.add_column(added, String::new(self.alloc))?;
-        if cause == TOO_FAR_AHEAD {
+        if cause == Cause::Skew {
             let behind = furthest_behind(self.cores.as_slice());
             self.note_core(behind);
         }

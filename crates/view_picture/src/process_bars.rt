@@ -40,10 +40,12 @@ pub fn process_saying(
     if let Some(deadline) = view.deadline {
         write!(title, "; its deadline is at time {deadline}")?;
     }
+    let short = short_of(alloc, view, hold)?;
     let brief = String::from_str(alloc, brief_of(look))?;
     Ok(Saying {
         look,
         text,
+        short,
         brief,
         title,
     })
@@ -65,6 +67,19 @@ fn text_of(alloc: Global, view: &ProcessView, hold: Hold) -> Result<String, Allo
         ProcessState::Suspended(wait) => format!(in alloc; "suspended, and {}", Waits(wait)),
         ProcessState::Faulted(Wait::Nothing) => String::from_str(alloc, "faulted"),
         ProcessState::Faulted(wait) => format!(in alloc; "faulted, and {}", Waits(wait)),
+    }
+}
+
+// The state of a process without its priority and without a time, if that is more than its brief text.
+fn short_of(alloc: Global, view: &ProcessView, hold: Hold) -> Result<String, AllocError> {
+    match view.state {
+        ProcessState::Ready if hold == Hold::Lost => String::from_str(alloc, "preempted"),
+        ProcessState::Waiting(Wait::At(set, Some(_))) => format!(in alloc; "waits {}", Set(set)),
+        ProcessState::Suspended(_) => String::from_str(alloc, "suspended"),
+        ProcessState::Ready
+        | ProcessState::Waiting(_)
+        | ProcessState::Faulted(_)
+        | ProcessState::Dormant => Ok(String::new(alloc)),
     }
 }
 
@@ -152,6 +167,7 @@ pub fn occupant_saying(alloc: Global, view: &CoreView) -> Result<Saying, AllocEr
         None => Ok(Saying {
             look: Look::Idle,
             text: String::from_str(alloc, "idle")?,
+            short: String::new(alloc),
             brief: String::new(alloc),
             title: format!(in alloc; "core {core} is idle")?,
         }),
@@ -162,6 +178,7 @@ pub fn occupant_saying(alloc: Global, view: &CoreView) -> Result<Saying, AllocEr
             } else {
                 format!(in alloc; "{}", Numbered(*who))?
             },
+            short: String::new(alloc),
             brief: format!(in alloc; "{}", Short(*who))?,
             title: format!(in alloc; "core {core} runs {}", Numbered(*who))?,
         }),
@@ -185,12 +202,14 @@ pub fn window_saying(alloc: Global, view: &CoreView) -> Result<Saying, AllocErro
         Some(part) => Ok(Saying {
             look: Look::Window,
             text: format!(in alloc; "window of partition {}", part.number())?,
-            brief: format!(in alloc; "P{}", part.number())?,
+            short: format!(in alloc; "partition {}", part.number())?,
+            brief: format!(in alloc; "part {}", part.number())?,
             title: format!(in alloc; "core {core} is in a window of partition {}", part.number())?,
         }),
         None => Ok(Saying {
             look: Look::NoWindow,
             text: String::from_str(alloc, "no window")?,
+            short: String::new(alloc),
             brief: String::new(alloc),
             title: format!(in alloc; "core {core} is in no window")?,
         }),
@@ -216,6 +235,7 @@ pub fn mode_saying(
             Mode::Idle | Mode::ColdStart | Mode::WarmStart => Look::OtherMode,
         },
         text,
+        short: String::new(alloc),
         brief: String::from_str(alloc, if is_restart { "restart" } else { "" })?,
         title: format!(in alloc; "partition {} is in the mode {name}", part.number())?,
     })
@@ -226,6 +246,7 @@ pub fn restart_saying(alloc: Global, part: PartId) -> Result<Saying, AllocError>
     Ok(Saying {
         look: Look::OtherMode,
         text: String::from_str(alloc, "restart by an error")?,
+        short: String::new(alloc),
         brief: String::from_str(alloc, "restart")?,
         title: format!(in alloc; "an error has restarted partition {}", part.number())?,
     })

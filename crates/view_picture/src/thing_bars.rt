@@ -37,6 +37,7 @@ pub fn thing_saying(alloc: Global, key: &ThingKey, view: &ThingView) -> Result<S
     Ok(Saying {
         look,
         text,
+        short: String::new(alloc),
         brief,
         title,
     })
