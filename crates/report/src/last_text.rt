@@ -19,9 +19,8 @@ pub fn write_last<W: Sink>(w: &mut W, last: &Last) -> Result<(), WriteFault>
     ensures failed { OnErr result (W.failures w.old < W.failures w.new) }
 {
     'items: for index in 0..last.len() {
-        match last.get(index) {
-            Some(item) => write_item(w, item)?,
-            None => unreachable!(),
+        if let Some(item) = last.get(index) {
+            write_item(w, item)?;
         }
     }
     Ok(())

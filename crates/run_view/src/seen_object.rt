@@ -52,10 +52,9 @@ fn shown_objects(
     let mut shown = Vec::new(alloc);
     for index in 0..numbers.len() {
         let number = numbers[index];
-        let Some(view) = thing_view(alloc, state, kind, number)? else {
-            unreachable!()
-        };
-        shown.push(SeenObject { number, view })?;
+        if let Some(view) = thing_view(alloc, state, kind, number)? {
+            shown.push(SeenObject { number, view })?;
+        }
     }
     Ok(shown)
 }

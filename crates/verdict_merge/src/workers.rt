@@ -121,7 +121,7 @@ fn work<J: Naming, G: Gate, R: Threads + Wait + Sync>(
     for _ in rt.forever() {
         let claimed = board.lock(rt).claim(worker);
         let Some(job) = claimed else {
-            return Ok(());
+            break;
         };
         let number = job.number();
         gate.at_claim(worker, number);
@@ -137,7 +137,7 @@ fn work<J: Naming, G: Gate, R: Threads + Wait + Sync>(
         post(rt, board, done)?;
         gate.at_post(worker, number);
     }
-    unreachable!()
+    Ok(())
 }
 
 // Posts the result of a piece that its worker has claimed.
