@@ -139,6 +139,12 @@ impl Picture {
             hover,
             format_args!("{}{name} {verb}{}", Numbered(*who), saying.text),
         )?;
+        if self.has_moved(who, view) {
+            add_words(
+                hover,
+                format_args!("its core is {}", view.affinity.number()),
+            )?;
+        }
         let (current, base) = (view.current_priority, view.base_priority);
         if current != base {
             add_words(
@@ -163,11 +169,20 @@ impl Picture {
             .is_some_and(|process| process.view.deadline.is_some())
     }
 
-    // Whether a process is new, does something else, or has another priority or deadline.
+    // Whether a process had another core as it was last seen.
+    fn has_moved(&self, who: &Who, view: &ProcessView) -> bool {
+        self.processes
+            .iter()
+            .find(|process| process.who == *who)
+            .is_some_and(|process| process.view.affinity != view.affinity)
+    }
+
+    // Whether a process is new, does something else, or has another core, priority or deadline.
     fn is_affected(&self, who: &Who, view: &ProcessView) -> bool {
         match self.processes.iter().find(|process| process.who == *who) {
             Some(last) => {
                 last.view.state != view.state
+                    || last.view.affinity != view.affinity
                     || last.view.current_priority != view.current_priority
                     || last.view.deadline != view.deadline
             }
