@@ -1,6 +1,6 @@
 """The figures of a run, worked out from its rows alone, as `apexview --format json` gives them.
 
-.ci/run_numbers imports it. It believes what the rows claim: the outcomes of calls, and the processes whose waits a row ends. From these it
+.ci/run_numbers and states.py import it. It believes what the rows claim: the outcomes of calls, and the processes whose waits a row ends. From these it
 follows what each process waits for, who is in which queue, who owns which mutex, and what each queue of messages holds.
 """
 import csv
@@ -88,6 +88,13 @@ class Peak:
 
 class Figures:
     def __init__(self, folder, limit):
+        self.prepare(folder)
+        for row in rows_of(folder, self.config["cores"], limit):
+            self.take(row)
+            self.place += 1
+
+    def prepare(self, folder):
+        """What is so before the first row."""
         self.config = tomllib.loads(Path(folder, "config.toml").read_text())
         self.time = [0] * self.config["cores"]
         self.occupant = [None] * self.config["cores"]
@@ -100,9 +107,9 @@ class Figures:
         self.cores = [{"ticks": 0, "idle": 0} for _ in self.time]
         self.in_windows, self.by_process, self.by_object, self.by_channel, self.names = {}, {}, {}, {}, {}
         self.place = 0
-        for row in rows_of(folder, self.config["cores"], limit):
-            getattr(self, f"take_{row.kind}")(row)
-            self.place += 1
+
+    def take(self, row):
+        getattr(self, f"take_{row.kind}")(row)
 
     # What is counted.
 

@@ -1,6 +1,6 @@
 """Recordings that apexmake makes, rules for them, and faults in them. A seed gives the same ones each time.
 
-.ci/run_views, .ci/run_traces and .ci/run_numbers import it. What a check answers to such a recording under such rules, or with such a
+.ci/run_views, .ci/run_traces, .ci/run_numbers and .ci/run_states import it. What a check answers to such a recording under such rules, or with such a
 fault, is known only from apexcheck.
 """
 import csv
